@@ -1,0 +1,12 @@
+-- What a sink has been given, where it tells that: none says that it does not tell.
+use Rattle.std.specs.Prelude.{◌≡◌, ℕ, ◌<◌, List, ◌++◌, length, take, Option, option_map}
+
+-- these bytes were appended to what was written
+abbrev pub Appended : Option (List ℕ) → Option (List ℕ) → List ℕ → Type 0
+Appended old new bytes = new ≡ option_map (λ written. written ++ bytes) old
+
+-- a proper prefix of these bytes was appended
+pub record AppendedPart (old new : Option (List ℕ)) (bytes : List ℕ) : Type 0 where
+  pub count : ℕ
+  pub proper : count < length bytes
+  pub appended : Appended old new (take count bytes)

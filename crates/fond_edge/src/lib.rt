@@ -1,0 +1,8 @@
+//! The outside of the program: a shelf gives the files that words name, and a sink takes what is written.
+//! The crates above learn that what was sent was written, or that a fault rose, and nothing else of the
+//! outside. Which bytes a real file holds is left to the host.
+#![tactic(auto)]
+
+pub mod send;
+pub mod shelf;
+pub mod sink;

@@ -1,0 +1,10 @@
+//! The words, names and places that every other crate speaks of. A name is a lowered leaf by its type, a
+//! word is the bytes of a command line as they stand, and a place is a line and a column. Reading a text is
+//! left to the crates above.
+#![tactic(auto)]
+
+pub mod bytes;
+pub mod fault;
+pub mod name;
+pub mod place;
+pub mod word;
