@@ -5,6 +5,7 @@
 
 pub mod bytes;
 pub mod fault;
+pub mod ground;
 pub mod name;
 pub mod place;
 pub mod word;
