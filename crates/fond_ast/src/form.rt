@@ -1,0 +1,25 @@
+//! Conditions and effects over the numbers of predicates.
+
+/// An atom by the number of its predicate.
+#[derive(Clone, Copy, Debug, PartialEq, Eq)]
+pub struct LAtom {
+    pub predicate: u32,
+}
+
+/// A condition.
+#[derive(Drop)]
+pub enum LCond {
+    Truth,
+    Holds(LAtom),
+    And(Vec<LCond>),
+}
+
+/// An effect. Of the members of a `OneOf`, at least one, exactly one takes place.
+#[derive(Drop)]
+pub enum LEffect {
+    Nothing,
+    Add(LAtom),
+    Delete(LAtom),
+    And(Vec<LEffect>),
+    OneOf(Vec<LEffect>),
+}

@@ -1,0 +1,5 @@
+//! The types of tasks between reading and grounding. What they mean is left to the crates above.
+#![tactic(auto)]
+
+pub mod form;
+pub mod task;

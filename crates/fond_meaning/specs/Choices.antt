@@ -1,0 +1,25 @@
+-- The order in which what an effect may give is told.
+use Rattle.std.specs.Prelude.{◌≡◌, List, [], ◌∷◌, map}
+use Rattle.std.specs.List.{flat_map}
+use Rattle.fond_ast.specs.declared.form.LEffect.{LEffect}
+use Rattle.fond_ast.specs.declared.form.LEffect.TheOpen.{LEffect-F, Nothing, Add, Delete, And, OneOf}
+use Rattle.fond_ast.specs.declared.form.LEffect.TheFolds.{fold-LEffect}
+use Rattle.fond_meaning.specs.States.{no_atoms, only}
+use Rattle.fond_meaning.specs.Conditions.{ground_atom}
+use Rattle.fond_meaning.specs.Effects.{Change, no_change, both}
+
+-- one change of each list together, that of the last list varying fastest
+abbrev pub joined : List (List Change) → List Change
+joined [] = no_change ∷ []
+joined (changes ∷ rest) = flat_map (λ change. map (both change) (joined rest)) changes
+
+abbrev pub choices_step : LEffect-F (List Change) → List Change
+choices_step Nothing = no_change ∷ []
+choices_step (Add atom) = record { del = no_atoms; add = only (ground_atom atom) } ∷ []
+choices_step (Delete atom) = record { del = only (ground_atom atom); add = no_atoms } ∷ []
+choices_step (And parts) = joined parts.items
+choices_step (OneOf parts) = flat_map (λ part. part) parts.items
+
+-- the changes that an effect may give, in order: those of a choice are its members' one after the other
+abbrev pub choices : LEffect → List Change
+choices = fold-LEffect (List Change) choices_step

@@ -1,0 +1,22 @@
+-- Which conditions hold in a state.
+use Rattle.std.specs.Prelude.{Bool, true, List, []}
+use Rattle.std.specs.List.{list_all}
+use Rattle.fond_text.specs.declared.ground.Atom.{Atom}
+use Rattle.fond_ast.specs.declared.form.LAtom.{LAtom}
+use Rattle.fond_ast.specs.declared.form.LCond.{LCond}
+use Rattle.fond_ast.specs.declared.form.LCond.TheOpen.{LCond-F, Truth, Holds, And}
+use Rattle.fond_ast.specs.declared.form.LCond.TheFolds.{fold-LCond}
+use Rattle.fond_meaning.specs.States.{State}
+
+-- the ground atom of an atom without terms
+abbrev pub ground_atom : LAtom → Atom
+ground_atom atom = record { predicate = atom.predicate; objects = [] }
+
+abbrev pub holds_step : State → LCond-F Bool → Bool
+holds_step state Truth = true
+holds_step state (Holds atom) = state (ground_atom atom)
+holds_step state (And parts) = list_all (λ part. part) parts.items
+
+-- whether a condition holds in a state: an atom where it is in the state, a conjunction where each part holds
+abbrev pub holds : State → LCond → Bool
+holds state = fold-LCond Bool (holds_step state)

@@ -1,0 +1,5 @@
+pub mod States
+pub mod Conditions
+pub mod Effects
+pub mod Choices
+pub mod Laws
