@@ -1,0 +1,9 @@
+//! Reading tasks of the first form: predicates and actions without parameters, conditions of atoms and `and`,
+//! effects of literals and `and` that may be one choice. The crate above learns which task two trees are read
+//! as, or which of them is not of this form. It goes once the whole language is read.
+#![tactic(auto)]
+
+pub mod condition;
+pub mod effect;
+pub mod form;
+pub mod section;
