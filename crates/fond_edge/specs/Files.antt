@@ -1,5 +1,5 @@
 -- The files that a shelf holds.
-use Rattle.std.specs.Prelude.{ℕ, List, Option, option_map, find, Bool}
+use Rattle.std.specs.Prelude.{ℕ, List, Option, option_map, find}
 use Rattle.std.specs.Str.{bytes_eq}
 use Rattle.fond_edge.specs.declared.shelf.ShelfFile.{ShelfFile}
 

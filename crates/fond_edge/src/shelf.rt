@@ -33,12 +33,7 @@ pub trait Shelf {
     ghost faults: { Self → ℕ };
 
     /// Appends the whole file of this name, or leaves `into` as it was.
-    fn fetch(
-        &mut self,
-        alloc: Global,
-        name: &Word,
-        into: &mut Vec<u8>,
-    ) -> Result<(), FetchFault>
+    fn fetch(&mut self, alloc: Global, name: &Word, into: &mut Vec<u8>) -> Result<(), FetchFault>
         ensures kept { held self.new ≡ held self.old }
         ensures counted { faults self.old ≤ faults self.new }
         ensures further { OnOk result ((more : List ℕ) × (into.new.items ≡ into.old.items ++ more)
