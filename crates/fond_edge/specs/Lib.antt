@@ -1,3 +1,6 @@
+pub mod Calls
 pub mod Faults
 pub mod Files
+pub mod MemoryShelfState
+pub mod MemorySinkState
 pub mod Written

@@ -3,6 +3,10 @@
 //! outside. Which bytes a real file holds is left to the host.
 #![tactic(auto)]
 
+mod counter;
+pub mod lists;
+pub mod memory_shelf;
+pub mod memory_sink;
 pub mod send;
 pub mod shelf;
 pub mod sink;

@@ -1,0 +1,11 @@
+//! Counts that stand still at their last value.
+
+ghost use Rattle.std.specs.Prelude.{◌≡◌};
+ghost use Rattle.fond_edge.specs.Calls.{one_more};
+
+/// One more, or the last value.
+pub(crate) fn one_more(count: u64) -> u64
+    ensures { result ≡ one_more count }
+{
+    count.saturating_add(1)
+}
