@@ -1,6 +1,7 @@
 pub mod Calls
 pub mod Faults
 pub mod Files
+pub mod HostSinkState
 pub mod MemoryShelfState
 pub mod MemorySinkState
 pub mod Written

@@ -4,6 +4,8 @@
 #![tactic(auto)]
 
 mod counter;
+pub mod host_shelf;
+pub mod host_sink;
 pub mod lists;
 pub mod memory_shelf;
 pub mod memory_sink;
