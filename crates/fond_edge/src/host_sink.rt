@@ -3,7 +3,6 @@
 ghost use Rattle.std.specs.Prelude.{◌≡◌, ℕ, ◌<◌, ◌≤◌, List, [], Option, None, Ok, length, take, IfOk, OnOk, OnErr};
 ghost use Rattle.std.specs.Io.KnownBytes.{Appends};
 ghost use Rattle.fond_edge.specs.Faults.{Rose};
-ghost use Rattle.fond_edge.specs.Written.{Appended};
 ghost use Rattle.fond_edge.specs.Calls.{one_more};
 
 use crate::counter::one_more;
