@@ -1,6 +1,6 @@
 //! A shelf of the host's files.
 
-ghost use Rattle.std.specs.Prelude.{◌≡◌, ℕ, ◌+◌, ◌^◌, ◌⊎◌, ◌≤◌, List, [], ◌++◌, Option, Some, None, OnOk, OnErr, IsErrOf, IfSome, length};
+ghost use Rattle.std.specs.Prelude.{◌≡◌, ℕ, ◌^◌, ◌≤◌, List, ◌++◌, None, OnOk, OnErr, IsErrOf, IfSome, length};
 ghost use Rattle.std.specs.Str.{IsUtf8};
 ghost use Rattle.fond_edge.specs.Faults.{Rose};
 ghost use Rattle.fond_edge.specs.Calls.{one_more};

@@ -38,11 +38,11 @@ impl ShelfFiles {
     }
 
     /// Puts a file at the end.
-    pub fn push(&mut self, x: ShelfFile) -> Result<(), NoMemory>
-        ensures ok { OnOk result (self.new ≡ self.old ++ x ∷ []) }
+    pub fn push(&mut self, file: ShelfFile) -> Result<(), NoMemory>
+        ensures ok { OnOk result (self.new ≡ self.old ++ file ∷ []) }
         ensures err { OnErr result (self.new ≡ self.old) }
     {
-        self.items.push(x)?;
+        self.items.push(file)?;
         Ok(())
     }
 
@@ -100,11 +100,11 @@ impl Calls {
     }
 
     /// Puts a number at the end.
-    pub fn push(&mut self, x: u64) -> Result<(), NoMemory>
-        ensures ok { OnOk result (self.new ≡ self.old ++ x ∷ []) }
+    pub fn push(&mut self, call: u64) -> Result<(), NoMemory>
+        ensures ok { OnOk result (self.new ≡ self.old ++ call ∷ []) }
         ensures err { OnErr result (self.new ≡ self.old) }
     {
-        self.items.push(x)?;
+        self.items.push(call)?;
         Ok(())
     }
 

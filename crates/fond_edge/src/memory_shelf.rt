@@ -1,9 +1,9 @@
 //! A shelf in memory.
 
-ghost use Rattle.std.specs.Prelude.{◌≡◌, ℕ, ◌⊎◌, ◌≤◌, List, [], ◌++◌, Option, Some, None, true, false, OnOk, OnErr, IsErrOf, IfSome, IsSome, IsSomeAnd};
+ghost use Rattle.std.specs.Prelude.{◌≡◌, ℕ, ◌⊎◌, ◌≤◌, List, ◌++◌, Some, None, true, false, OnOk, OnErr, IsErrOf, IsSome};
 ghost use Rattle.fond_edge.specs.Faults.{Rose};
 ghost use Rattle.fond_edge.specs.Files.{file_of};
-ghost use Rattle.fond_edge.specs.MemoryShelfState.{MemoryShelfState, fails_next, after_fetch};
+ghost use Rattle.fond_edge.specs.MemoryShelfState.{fails_next, after_fetch};
 
 use crate::counter::one_more;
 use crate::lists::{Calls, ShelfFiles};

@@ -1,9 +1,9 @@
 //! A sink in memory.
 
-ghost use Rattle.std.specs.Prelude.{◌≡◌, ℕ, ◌<◌, ◌≤◌, List, [], Option, Some, Ok, Err, true, false, length, take, IfOk, OnErr, IsErr, IsErrOf};
+ghost use Rattle.std.specs.Prelude.{◌≡◌, ◌<◌, ◌≤◌, [], Some, Ok, true, false, length, take, IfOk, OnErr, IsErr};
 ghost use Rattle.fond_edge.specs.Faults.{Rose};
 ghost use Rattle.fond_edge.specs.Written.{Appended};
-ghost use Rattle.fond_edge.specs.MemorySinkState.{MemorySinkState, refuses, taken, after_write};
+ghost use Rattle.fond_edge.specs.MemorySinkState.{refuses, taken, after_write};
 
 use crate::counter::one_more;
 use crate::lists::Calls;
