@@ -1,6 +1,8 @@
 //! Tasks whose names are resolved to numbers.
 
-ghost use Rattle.std.specs.Prelude.{◌≡◌, ◌<◌, List, [], ◌∷◌, ◌++◌, length, slice_get, Some, OnOk, OnErr};
+ghost use Rattle.fond_ast.specs.Within.{is_condition_within, is_schema_within, is_atom_within};
+ghost use Rattle.std.specs.List.{list_all};
+ghost use Rattle.std.specs.Prelude.{◌≡◌, ◌<◌, ◌^◌, IsTrue, List, [], ◌∷◌, ◌++◌, length, slice_get, Some, OnOk, OnErr};
 
 use crate::form::{LCond, LEffect};
 use fond_text::fault::NoMemory;
@@ -130,11 +132,16 @@ impl LSchemas {
     }
 }
 
-/// A task: its predicates and schemas, the atoms that are true at first, and the goal.
+/// A task: its predicates and schemas, the atoms that are true at first, and the goal. Every number in it
+/// names a predicate.
 #[derive(Drop)]
 pub struct LiftedTask {
     pub predicates: LPredicates,
     pub schemas: LSchemas,
     pub init: Atoms,
     pub goal: LCond,
+    pub ghost few_predicates: { length predicates < 2 ^ 32 },
+    pub ghost schemas_within: { IsTrue (list_all (is_schema_within (length predicates)) schemas) },
+    pub ghost init_within: { IsTrue (list_all (is_atom_within (length predicates)) init) },
+    pub ghost goal_within: { IsTrue (is_condition_within (length predicates) goal) },
 }

@@ -1,0 +1,39 @@
+-- Conditions and effects whose numbers all name predicates.
+use Rattle.std.specs.Prelude.{ℕ, ◌==◌, ◌&&◌, nat_lt, Bool, true, length}
+use Rattle.std.specs.List.{list_all}
+use Rattle.fond_text.specs.declared.ground.Atom.{Atom}
+use Rattle.fond_ast.specs.declared.form.LCond.{LCond}
+use Rattle.fond_ast.specs.declared.form.LCond.TheOpen as condition
+use Rattle.fond_ast.specs.declared.form.LCond.TheFolds.{fold-LCond}
+use Rattle.fond_ast.specs.declared.form.LEffect.{LEffect}
+use Rattle.fond_ast.specs.declared.form.LEffect.TheOpen as effect
+use Rattle.fond_ast.specs.declared.form.LEffect.TheFolds.{fold-LEffect}
+use Rattle.fond_ast.specs.declared.task.LSchema.{LSchema}
+
+abbrev pub condition_within_step : ℕ → condition.LCond-F Bool → Bool
+condition_within_step count condition.Truth = true
+condition_within_step count (condition.Holds atom) = nat_lt atom.predicate count
+condition_within_step count (condition.And parts) = list_all (λ part. part) parts.items
+
+-- whether each atom of a condition is of one of this many predicates
+abbrev pub is_condition_within : ℕ → LCond → Bool
+is_condition_within count = fold-LCond Bool (condition_within_step count)
+
+abbrev pub effect_within_step : ℕ → effect.LEffect-F Bool → Bool
+effect_within_step count effect.Nothing = true
+effect_within_step count (effect.Add atom) = nat_lt atom.predicate count
+effect_within_step count (effect.Delete atom) = nat_lt atom.predicate count
+effect_within_step count (effect.And parts) = list_all (λ part. part) parts.items
+effect_within_step count (effect.OneOf parts) = list_all (λ part. part) parts.items
+
+-- so is each atom of an effect
+abbrev pub is_effect_within : ℕ → LEffect → Bool
+is_effect_within count = fold-LEffect Bool (effect_within_step count)
+
+-- so is each atom of a schema
+abbrev pub is_schema_within : ℕ → LSchema → Bool
+is_schema_within count schema = is_condition_within count schema.pre && is_effect_within count schema.effect
+
+-- so is a ground atom, which has no objects
+abbrev pub is_atom_within : ℕ → Atom → Bool
+is_atom_within count atom = nat_lt atom.predicate count && length atom.objects == 0
