@@ -1,1 +1,4 @@
+mod Lists
 mod Names
+mod Repeats
+mod Predicates

@@ -1,5 +1,5 @@
 -- Which task a domain and a problem of the first form are read as.
-use Rattle.std.specs.Prelude.{◌≡◌, ℕ, ◌==◌, Bool, false, not, List, [], ◌∷◌, ◌++◌, map, filter, fold, Option, Some, codes, slice_get, slice_index_or, if◌then◌else◌}
+use Rattle.std.specs.Prelude.{◌≡◌, ℕ, ◌==◌, Bool, false, List, [], ◌∷◌, map, filter, Option, Some, codes, slice_get, slice_index_or}
 use Rattle.std.specs.List.{flat_map, filter_map, list_any}
 use Rattle.fond_text.specs.declared.ground.Atom.{Atom}
 use Rattle.fond_tree.specs.declared.tree.Tree.{Tree}
@@ -12,7 +12,7 @@ use Rattle.fond_ast.specs.declared.form.LCond.{LCond}
 use Rattle.fond_first.specs.Words.{enclosed, words}
 use Rattle.fond_first.specs.Conditions.{condition_words}
 use Rattle.fond_first.specs.Effects.{effect_words, is_atom_tree}
-use Rattle.fond_first.specs.Sections.{head_of, behind_head, headed, behind_all, names_of, keyed, pairs_of, action_name}
+use Rattle.fond_first.specs.Sections.{head_of, headed, behind_all, names_of, keyed, pairs_of, action_name}
 
 abbrev pub mentions_step : ℕ → LEffect-F Bool → Bool
 mentions_step number Nothing = false

@@ -1,5 +1,5 @@
 -- The sections of domains and problems of the first form, and which trees are such files.
-use Rattle.std.specs.Prelude.{ℕ, ◌==◌, ◌&&◌, ◌||◌, Bool, true, false, not, List, [], ◌∷◌, ◌++◌, length, drop, filter, fold, unwrap_or, Option, Some, None, codes, if◌then◌else◌}
+use Rattle.std.specs.Prelude.{ℕ, ◌==◌, ◌&&◌, ◌||◌, Bool, true, false, List, [], ◌∷◌, ◌++◌, length, drop, filter, fold, unwrap_or, Option, Some, None, codes, if◌then◌else◌}
 use Rattle.std.specs.List.{flat_map, filter_map, list_all}
 use Rattle.std.specs.Str.{bytes_eq}
 use Rattle.fond_tree.specs.declared.tree.Tree.{Tree}
@@ -74,9 +74,13 @@ is_file kind [] = false
 is_file kind (define ∷ []) = false
 is_file kind (define ∷ header ∷ sections) = is_word (codes "define") (leaf_of define) && is_headed kind header && is_name_alone (behind_head header)
 
+-- the names with one more, where it does not stand among them
+abbrev pub declared_also : List (List ℕ) → List ℕ → List (List ℕ)
+declared_also names name = if is_declared names name then names else names ++ name ∷ []
+
 -- each name once, where it stands first
 abbrev pub first_declared : List (List ℕ) → List (List ℕ)
-first_declared names = fold (λ before name. if is_declared before name then before else before ++ name ∷ []) [] names
+first_declared names = fold declared_also [] names
 
 -- whether no name stands twice in a list
 abbrev pub are_distinct : List (List ℕ) → Bool

@@ -2,6 +2,7 @@
 
 ghost use Rattle.fond_first.specs.Conditions.{is_declared, is_condition, IsConditionOf};
 ghost use Rattle.fond_first.specs.Words.{is_plain};
+ghost use Rattle.fond_ast.specs.Within.{is_condition_within};
 ghost use Rattle.std.specs.Prelude.{◌≡◌, ◌<◌, ◌^◌, ◌&&◌, true, false, [], length, slice_index_or, IfOk, OnOk, OnErr, IsErrOf};
 
 use crate::form::{FormError, is_plain_name, is_same, number_of};
@@ -16,6 +17,7 @@ pub fn read_condition(alloc: Global, names: &Names, tree: &Tree) -> Result<LCond
     ensures read { IfOk result (IsConditionOf names.now tree.now) }
     ensures fits { OnOk result (is_condition names.now tree.now ≡ true) }
     ensures unfit { IsErrOf result FormError.Unfit → is_condition names.now tree.now ≡ false }
+    ensures within { IfOk result (λ condition. is_condition_within (length names.now) condition ≡ true) }
 {
     match tree {
         Tree::Leaf(_, _) => Err(FormError::Unfit),
@@ -43,6 +45,7 @@ pub fn read_atom(names: &Names, name: &[u8], alone: bool) -> Result<LAtom, FormE
     ensures read { IfOk result (λ atom. slice_index_or names.now atom.predicate [] ≡ name.now) }
     ensures fits { OnOk result ((is_plain name.now && is_declared names.now name.now && alone) ≡ true) }
     ensures unfit { OnErr result ((is_plain name.now && is_declared names.now name.now && alone) ≡ false) }
+    ensures within { IfOk result (λ atom. atom.predicate < length names.now) }
 {
     if !alone || !is_plain_name(name) {
         return Err(FormError::Unfit);

@@ -73,7 +73,10 @@ fn is_condition_operator(leaf: &[u8]) -> bool
 fn is_other_word(leaf: &[u8]) -> bool
     ensures { result ≡ list_any (bytes_eq leaf.now) other_words }
 {
-    is_same(leaf, b"when") || is_same(leaf, b"oneof") || is_same(leaf, b"either") || is_same(leaf, b"-")
+    is_same(leaf, b"when")
+        || is_same(leaf, b"oneof")
+        || is_same(leaf, b"either")
+        || is_same(leaf, b"-")
 }
 
 fn is_reserved_word(leaf: &[u8]) -> bool

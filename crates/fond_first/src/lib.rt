@@ -3,7 +3,12 @@
 //! as, or which of them is not of this form. It goes once the whole language is read.
 #![tactic(auto)]
 
+pub mod action;
 pub mod condition;
+pub mod declare;
+pub mod domain;
 pub mod effect;
+pub mod fluent;
 pub mod form;
+pub mod problem;
 pub mod section;

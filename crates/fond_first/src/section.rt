@@ -1,6 +1,6 @@
 //! The sections of a file, by the words that they begin with.
 
-ghost use Rattle.fond_first.specs.Sections.{is_word, is_plain_word, members_or_none, first_name, behind_head, is_headed, headed, is_name_alone, is_file, sections_of, is_empty_node, keyed};
+ghost use Rattle.fond_first.specs.Sections.{is_word, is_plain_word, members_or_none, first_name, behind_head, is_headed, headed, is_name_alone, is_file, sections_of, is_empty_node, keyed, is_one_or_none, any_tree};
 ghost use Rattle.fond_first.specs.Words.{leaf_of};
 ghost use Rattle.std.specs.Option.{option_copied};
 ghost use Rattle.std.specs.Prelude.{◌≡◌, ◌≤◌, length, option_to_list, MatchResult};
@@ -118,6 +118,16 @@ pub fn only_headed<'a>(sections: &'a [Tree], word: &[u8]) -> Result<Option<&'a T
         }
     }
     Ok(found)
+}
+
+/// Whether at most one section begins with this word.
+pub fn is_single(sections: &[Tree], word: &[u8]) -> bool
+    ensures { result ≡ is_one_or_none any_tree (headed word.now sections.now) }
+{
+    match only_headed(sections, word) {
+        Err(_) => false,
+        Ok(_) => true,
+    }
 }
 
 /// The one tree that stands behind this key, if there is one.

@@ -1,4 +1,4 @@
-use Rattle.std.proofs.Common.{◌≡◌, ◌∙◌, sym, ap, true, false}
+use Rattle.std.proofs.Common.{◌≡◌, ◌∙◌, sym, true, false}
 use Rattle.std.specs.Str.{bytes_eq}
 use Rattle.fond_first.proofs.Names.{found_at, passed_at}
 use Rattle.fond_first.proofs.form.number_of.Goals as goal
