@@ -1,3 +1,5 @@
-pub mod Tokens
-pub mod Spelling
+pub mod Left
 pub mod Refusal
+pub mod Spelling
+pub mod Tokens
+pub mod Yields

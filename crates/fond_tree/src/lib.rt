@@ -4,4 +4,5 @@
 #![tactic(auto)]
 
 pub mod read;
+mod scan;
 pub mod tree;

@@ -1,0 +1,63 @@
+-- What is left of a text while it is read: its tokens, by the place where it begins.
+use Rattle.std.specs.Prelude.{◌≡◌, ℕ, ◌+◌, ◌≤◌, ◌==◌, Bool, true, false, not, ◌||◌, List, [], ◌∷◌, ◌++◌, length, map, take_while, if◌then◌else◌}
+use Rattle.fond_text.specs.Bytes.{line_feed, opening, closing, semicolon, is_blank, is_leaf_byte, lower}
+use Rattle.fond_text.specs.declared.place.Place.{Place}
+use Rattle.fond_tree.specs.Tokens.{Token, Opens, Closes, Names, Stray, Behind, Gap, Leaf, Comment, behind_byte}
+
+-- the place behind a byte that stands at this place
+abbrev pub behind_at : ℕ → Place → Place
+behind_at b place =
+    if b == line_feed then record { line = place.line + 1; column = 1 } else record { line = place.line; column = place.column + 1 }
+
+-- the token that begins at a byte of this place
+abbrev pub begun_at : Place → ℕ → List ℕ → List Token
+begun_at place b rest =
+    if is_blank b || b == semicolon then []
+    else if b == opening then Opens place ∷ []
+    else if b == closing then Closes ∷ []
+    else if is_leaf_byte b then Names place (map lower (take_while is_leaf_byte (b ∷ rest))) ∷ []
+    else Stray ∷ []
+
+abbrev pub begun_in : Behind → Place → ℕ → List ℕ → List Token
+begun_in Gap place b rest = begun_at place b rest
+begun_in Leaf place b rest = if is_leaf_byte b then [] else begun_at place b rest
+begun_in Comment place b rest = []
+
+-- the tokens of what begins at this place
+unfoldable pub tokens_at : Behind → Place → List ℕ → List Token
+tokens_at behind place [] = []
+tokens_at behind place (b ∷ rest) = begun_in behind place b rest ++ tokens_at (behind_byte behind b) (behind_at b place) rest
+
+-- whether the byte behind this one is in a comment
+abbrev pub goes_on : Bool → ℕ → Bool
+goes_on true b = not (b == line_feed)
+goes_on false b = b == semicolon
+
+-- the numbers of the places of a text fit
+pub record Fits (place : Place) (rest : List ℕ) : Type 0 where
+  pub short : length rest ≤ 16777216
+  pub lines : place.line + length rest ≤ 33554432
+  pub columns : place.column + length rest ≤ 33554432
+
+-- no gap goes on here
+abbrev pub EndsGap : List ℕ → Type 0
+EndsGap [] = Unit {0}
+EndsGap (b ∷ rest) = (is_blank b ≡ false) × (b == semicolon ≡ false)
+
+-- a leaf begins here
+abbrev pub BeginsLeaf : List ℕ → Type 0
+BeginsLeaf [] = ⊥
+BeginsLeaf (b ∷ rest) = is_leaf_byte b ≡ true
+
+-- whether a closing parenthesis was next, and taken
+abbrev pub TakesClosing : Bool → List Token → List Token → Type 0
+TakesClosing true old new = old ≡ Closes ∷ new
+TakesClosing false old new = (old ≡ new) × ((more : List Token) → old ≡ Closes ∷ more → ⊥)
+
+-- no tree begins here
+abbrev pub BeginsNoTree : List Token → Type 0
+BeginsNoTree [] = Unit {0}
+BeginsNoTree (Opens place ∷ more) = ⊥
+BeginsNoTree (Closes ∷ more) = Unit {0}
+BeginsNoTree (Names place bytes ∷ more) = ⊥
+BeginsNoTree (Stray ∷ more) = Unit {0}

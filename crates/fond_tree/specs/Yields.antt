@@ -1,0 +1,14 @@
+-- What the next piece of a text says of its tokens.
+use Rattle.std.specs.Prelude.{◌≡◌, List, ◌∷◌, map}
+use Rattle.fond_text.specs.Bytes.{lower}
+use Rattle.fond_text.specs.Name.{IsLeaf}
+use Rattle.fond_tree.specs.Left.{BeginsNoTree}
+use Rattle.fond_tree.specs.Tokens.{Token, Opens, Names}
+use Rattle.fond_tree.specs.declared.scan.Piece.{Piece}
+use Rattle.fond_tree.specs.declared.scan.Piece.TheVariants.{Open, Leaf, Other}
+
+-- a piece is the first of the tokens before it, and the tokens behind it are the others
+abbrev pub Yields : Piece → List Token → List Token → Type 0
+Yields (Open place) old new = old ≡ Opens place ∷ new
+Yields (Leaf place bytes) old new = (old ≡ Names place (map lower bytes.now) ∷ new) × IsLeaf bytes.now
+Yields Other old new = BeginsNoTree old
