@@ -1,5 +1,5 @@
 pub mod Left
 pub mod Refusal
+pub mod Scanning
 pub mod Spelling
 pub mod Tokens
-pub mod Yields

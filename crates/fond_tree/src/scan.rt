@@ -4,9 +4,8 @@ ghost use Rattle.std.specs.Prelude.{◌≡◌, ℕ, ◌+◌, ◌<◌, ◌≤◌,
 ghost use Rattle.std.specs.List.{prefix_len};
 ghost use Rattle.fond_text.specs.Bytes.{is_blank, is_leaf_byte};
 
-ghost use Rattle.fond_tree.specs.Left.{behind_at, tokens_at, goes_on, Fits, EndsGap, BeginsLeaf, TakesClosing, BeginsNoTree};
-ghost use Rattle.fond_tree.specs.Yields.{Yields};
-ghost use Rattle.fond_tree.specs.Tokens.{Gap, tokens};
+ghost use Rattle.fond_tree.specs.Left.{behind_at, goes_on, Fits, EndsGap, BeginsLeaf, TakesClosing, BeginsNoTree};
+ghost use Rattle.fond_tree.specs.Tokens.{tokens};
 
 use fond_text::place::Place;
 
@@ -53,10 +52,12 @@ fn leaf_len(b: &[u8]) -> usize
 }
 
 impl<'a> Scanner<'a> {
+    ghost use Rattle.fond_tree.specs.Scanning.{tokens_left, bytes_left, Yields};
+
     /// All of the text.
     pub fn new(text: &'a [u8]) -> Scanner<'a>
         requires { length text.now ≤ 16777216 }
-        ensures { tokens_at Gap result.place result.rest.now ≡ tokens text.now }
+        ensures { tokens_left result ≡ tokens text.now }
     {
         Scanner {
             rest: text,
@@ -81,9 +82,9 @@ impl<'a> Scanner<'a> {
 
     /// Goes over blanks and comments.
     fn skip(&mut self)
-        ensures same { tokens_at Gap self.new.place self.new.rest.now ≡ tokens_at Gap self.old.place self.old.rest.now }
+        ensures same { tokens_left self.new ≡ tokens_left self.old }
         ensures ends { EndsGap self.new.rest.now }
-        ensures shorter { length self.new.rest.now ≤ length self.old.rest.now }
+        ensures shorter { bytes_left self.new ≤ bytes_left self.old }
     {
         let mut in_comment = false;
         while let Some((b, rest)) = self.rest.split_first() {
@@ -97,7 +98,7 @@ impl<'a> Scanner<'a> {
 
     /// Whether nothing but blanks and comments is left.
     pub fn is_at_end(&mut self) -> bool
-        ensures { result ≡ true ↔ tokens_at Gap self.old.place self.old.rest.now ≡ [] }
+        ensures { result ≡ true ↔ tokens_left self.old ≡ [] }
     {
         self.skip();
         self.rest.is_empty()
@@ -105,8 +106,8 @@ impl<'a> Scanner<'a> {
 
     /// Whether a closing parenthesis is the next token, which is then taken.
     pub fn closes(&mut self) -> bool
-        ensures taken { TakesClosing result (tokens_at Gap self.old.place self.old.rest.now) (tokens_at Gap self.new.place self.new.rest.now) }
-        ensures shorter { length self.new.rest.now ≤ length self.old.rest.now }
+        ensures taken { TakesClosing result (tokens_left self.old) (tokens_left self.new) }
+        ensures shorter { bytes_left self.new ≤ bytes_left self.old }
     {
         self.skip();
         let Some((b, rest)) = self.rest.split_first() else {
@@ -121,8 +122,8 @@ impl<'a> Scanner<'a> {
 
     /// The opening parenthesis or the leaf that is the next token. What else may be next begins no tree.
     pub fn next(&mut self) -> Piece<'a>
-        ensures piece { Yields result (tokens_at Gap self.old.place self.old.rest.now) (tokens_at Gap self.new.place self.new.rest.now) }
-        ensures shorter { length self.new.rest.now ≤ length self.old.rest.now }
+        ensures piece { Yields result (tokens_left self.old) (tokens_left self.new) }
+        ensures shorter { bytes_left self.new ≤ bytes_left self.old }
     {
         self.skip();
         let Some((b, rest)) = self.rest.split_first() else {
@@ -142,8 +143,8 @@ impl<'a> Scanner<'a> {
     /// The leaf that begins here.
     fn leaf(&mut self) -> Piece<'a>
         requires { BeginsLeaf self.old.rest.now }
-        ensures piece { Yields result (tokens_at Gap self.old.place self.old.rest.now) (tokens_at Gap self.new.place self.new.rest.now) }
-        ensures shorter { length self.new.rest.now ≤ length self.old.rest.now }
+        ensures piece { Yields result (tokens_left self.old) (tokens_left self.new) }
+        ensures shorter { bytes_left self.new ≤ bytes_left self.old }
     {
         let place = self.place;
         let (bytes, rest) = self.rest.split_at(leaf_len(self.rest));
