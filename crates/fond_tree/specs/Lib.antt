@@ -1,4 +1,5 @@
 pub mod Left
+pub mod Reading
 pub mod Refusal
 pub mod Scanning
 pub mod Spelling

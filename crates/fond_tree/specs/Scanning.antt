@@ -1,5 +1,5 @@
 -- What a scanner has left of its text, and what its next piece says of that.
-use Rattle.std.specs.Prelude.{◌≡◌, ℕ, List, ◌∷◌, length, map}
+use Rattle.std.specs.Prelude.{◌≡◌, List, ◌∷◌, map}
 use Rattle.fond_text.specs.Bytes.{lower}
 use Rattle.fond_text.specs.Name.{IsLeaf}
 use Rattle.fond_tree.specs.Left.{tokens_at, BeginsNoTree}
@@ -11,10 +11,6 @@ use Rattle.fond_tree.specs.declared.scan.Piece.TheVariants.{Open, Leaf, Other}
 -- the tokens that are left
 abbrev pub tokens_left : Scanner → List Token
 tokens_left scanner = tokens_at Gap scanner.place scanner.rest.now
-
--- how many bytes are left
-abbrev pub bytes_left : Scanner → ℕ
-bytes_left scanner = length scanner.rest.now
 
 -- a piece is the first of the tokens before it, and the tokens behind it are the others
 abbrev pub Yields : Piece → List Token → List Token → Type 0

@@ -1,13 +1,56 @@
 //! Reading a text as a tree.
 
-ghost use Rattle.std.specs.Prelude.{◌≡◌, IfOk, IfErr};
+ghost use Rattle.fond_text.specs.declared.fault.FrontError.TheVariants.{Refused};
+ghost use Rattle.fond_tree.specs.declared.read.Stop.TheVariants.{NoTree, NoMemory as OutOfMemory};
+ghost use Rattle.fond_tree.specs.Reading.{ReadsTree, HasNoTree, ReadsForest, HasNoForest};
+ghost use Rattle.fond_tree.specs.Refusal.{IsRefusal, at_first_byte, not_built};
+ghost use Rattle.fond_tree.specs.Scanning.{tokens_left};
 ghost use Rattle.fond_tree.specs.Spelling.{IsReadAs};
-ghost use Rattle.fond_tree.specs.Refusal.{IsRefusal};
+ghost use Rattle.std.specs.Prelude.{◌≡◌, IfOk, IfErr};
 
-use crate::tree::Tree;
-use fond_text::fault::FrontError;
-use fond_text::place::FileKind;
-use std::alloc::Global;
+use crate::scan::{Piece, Scanner};
+use crate::tree::{Forest, Tree};
+use fond_text::fault::{Fault, FrontError, NoMemory};
+use fond_text::name::Name;
+use fond_text::place::{FileKind, Place};
+use std::alloc::{AllocError, AllocFailed, Global};
+
+/// The most bytes that a text may have.
+const LONGEST: usize = 16_777_216;
+
+/// The most parentheses that may be open at once.
+const DEEPEST: u8 = 128;
+
+/// Why no tree was read.
+#[derive(Clone, Copy)]
+enum Stop {
+    NoTree,
+    NoMemory,
+}
+
+impl From<NoMemory> for Stop {
+    ghost from_gives = { λ _ e. e ≡ OutOfMemory };
+
+    fn from(_e: NoMemory) -> Stop {
+        Stop::NoMemory
+    }
+}
+
+impl From<AllocError> for Stop {
+    ghost from_gives = { λ _ e. e ≡ OutOfMemory };
+
+    fn from(_e: AllocError) -> Stop {
+        Stop::NoMemory
+    }
+}
+
+impl<T: Drop> From<AllocFailed<T>> for Stop {
+    ghost from_gives = { λ _ e. e ≡ OutOfMemory };
+
+    fn from(_e: AllocFailed<T>) -> Stop {
+        Stop::NoMemory
+    }
+}
 
 /// The tree that the text spells. Refuses a text that spells none, that has more than 16,777,216 bytes, or
 /// in which a parenthesis stands inside 128 open ones. Takes time in the length of the text and memory in
@@ -16,5 +59,50 @@ pub fn read_tree(alloc: Global, file: FileKind, b: &[u8]) -> Result<Tree, FrontE
     ensures ok { IfOk result (IsReadAs b.now) }
     ensures refused { IfErr result (IsRefusal file b.now) }
 {
-    Err(FrontError::NoMemory)
+    if b.len() > LONGEST {
+        return Err(not_read(file));
+    }
+    let mut scanner = Scanner::new(b);
+    match read_next(alloc, &mut scanner, DEEPEST) {
+        Ok(tree) if scanner.is_at_end() => Ok(tree),
+        Err(Stop::NoMemory) => Err(FrontError::NoMemory),
+        _ => Err(not_read(file)),
+    }
+}
+
+/// The fault of a file that spells no tree. Its place is that of the whole file.
+fn not_read(file: FileKind) -> FrontError
+    ensures { result ≡ Refused (at_first_byte file not_built) }
+{
+    FrontError::Refused(Fault {
+        file,
+        place: Place { line: 1, column: 1 },
+        code: 24,
+    })
+}
+
+/// The next tree, of at most so many parentheses that are open at once.
+#[cycle(reading)]
+fn read_next(alloc: Global, scanner: &mut Scanner<'_>, left: u8) -> Result<Tree, Stop>
+    ensures ok { IfOk result (λ tree. ReadsTree left (tokens_left scanner.old) tree (tokens_left scanner.new)) }
+    ensures err { IfErr result (λ stop. stop ≡ NoTree → HasNoTree left (tokens_left scanner.old)) }
+{
+    match scanner.next() {
+        Piece::Leaf(place, bytes) => Ok(Tree::Leaf(place, Name::lower(alloc, bytes)?)),
+        Piece::Open(place) if left > 0 => Ok(Tree::Node(place, read_members(alloc, scanner, left - 1)?)),
+        _ => Err(Stop::NoTree),
+    }
+}
+
+/// The trees before the next closing parenthesis, which is taken too.
+#[cycle(reading)]
+fn read_members(alloc: Global, scanner: &mut Scanner<'_>, left: u8) -> Result<Forest, Stop>
+    ensures ok { IfOk result (λ trees. ReadsForest left (tokens_left scanner.old) trees.items (tokens_left scanner.new)) }
+    ensures err { IfErr result (λ stop. stop ≡ NoTree → HasNoForest left (tokens_left scanner.old)) }
+{
+    let mut members = Vec::new(alloc);
+    while !scanner.closes() {
+        members.push(read_next(alloc, scanner, left)?)?;
+    }
+    Ok(members)
 }

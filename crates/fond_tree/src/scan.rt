@@ -10,6 +10,7 @@ ghost use Rattle.fond_tree.specs.Tokens.{tokens};
 use fond_text::place::Place;
 
 /// What is left of a text, and its place.
+#[derive(Drop)]
 pub struct Scanner<'a> {
     rest: &'a [u8],
     place: Place,
@@ -17,6 +18,7 @@ pub struct Scanner<'a> {
 }
 
 /// What a tree begins with, a leaf by its bytes, or anything else.
+#[derive(Clone, Copy)]
 pub enum Piece<'a> {
     Open(Place),
     Leaf(Place, &'a [u8]),
@@ -52,7 +54,7 @@ fn leaf_len(b: &[u8]) -> usize
 }
 
 impl<'a> Scanner<'a> {
-    ghost use Rattle.fond_tree.specs.Scanning.{tokens_left, bytes_left, Yields};
+    ghost use Rattle.fond_tree.specs.Scanning.{tokens_left, Yields};
 
     /// All of the text.
     pub fn new(text: &'a [u8]) -> Scanner<'a>
@@ -84,7 +86,6 @@ impl<'a> Scanner<'a> {
     fn skip(&mut self)
         ensures same { tokens_left self.new ≡ tokens_left self.old }
         ensures ends { EndsGap self.new.rest.now }
-        ensures shorter { bytes_left self.new ≤ bytes_left self.old }
     {
         let mut in_comment = false;
         while let Some((b, rest)) = self.rest.split_first() {
@@ -106,8 +107,7 @@ impl<'a> Scanner<'a> {
 
     /// Whether a closing parenthesis is the next token, which is then taken.
     pub fn closes(&mut self) -> bool
-        ensures taken { TakesClosing result (tokens_left self.old) (tokens_left self.new) }
-        ensures shorter { bytes_left self.new ≤ bytes_left self.old }
+        ensures { TakesClosing result (tokens_left self.old) (tokens_left self.new) }
     {
         self.skip();
         let Some((b, rest)) = self.rest.split_first() else {
@@ -122,8 +122,7 @@ impl<'a> Scanner<'a> {
 
     /// The opening parenthesis or the leaf that is the next token. What else may be next begins no tree.
     pub fn next(&mut self) -> Piece<'a>
-        ensures piece { Yields result (tokens_left self.old) (tokens_left self.new) }
-        ensures shorter { bytes_left self.new ≤ bytes_left self.old }
+        ensures { Yields result (tokens_left self.old) (tokens_left self.new) }
     {
         self.skip();
         let Some((b, rest)) = self.rest.split_first() else {
@@ -143,8 +142,7 @@ impl<'a> Scanner<'a> {
     /// The leaf that begins here.
     fn leaf(&mut self) -> Piece<'a>
         requires { BeginsLeaf self.old.rest.now }
-        ensures piece { Yields result (tokens_left self.old) (tokens_left self.new) }
-        ensures shorter { bytes_left self.new ≤ bytes_left self.old }
+        ensures { Yields result (tokens_left self.old) (tokens_left self.new) }
     {
         let place = self.place;
         let (bytes, rest) = self.rest.split_at(leaf_len(self.rest));

@@ -7,5 +7,5 @@ use Rattle.fond_tree.proofs.scan.Scanner.leaf.Goals as goal
 pub split_at-requires : goal.split_at-requires
 split_at-requires c = omega (arith, c.leaf_len.ensures, prefix_len-le-length is_leaf_byte c.args.self.now.rest.now)
 
-pub returns-clause-piece : goal.returns-clause-piece
-returns-clause-piece c = leaf_piece _ _ _ _ c.leaf_len.result c.requires c.leaf_len.ensures c.split_at.ensures.front c.split_at.ensures.back
+pub returns : goal.returns
+returns c = leaf_piece _ _ _ _ c.leaf_len.result c.requires c.leaf_len.ensures c.split_at.ensures.front c.split_at.ensures.back

@@ -11,10 +11,8 @@ loop-b-preserved c =
       elim c.else-not-in_comment.branch [
         else-not-in_comment-via-then-not-in_comment+else-not-is_blank w ↦ inr (sym w.is_blank.ensures ∙ w.if-not-is_blank.false)
       | else-not-in_comment-via-else-not-in_comment w ↦ inl w.if-not-in_comment.false ] in
-    record {
-      same = goes_over c.loop-b.in_comment _ c.in-Some.b.now _ _ _ _ c.in-Some.rest.now c.in-Some.ensures.cases.0 c.goes_on-in_comment.ensures gap c.step.ensures.place c.step.ensures.rest ∙ c.loop-b.invariant.same;
-      shorter = omega (arith, ap length c.step.ensures.rest, c.in-Some.ensures.cases.1);
-    }
+    goes_over c.loop-b.in_comment _ c.in-Some.b.now _ _ _ _ c.in-Some.rest.now c.in-Some.ensures.cases.0 c.goes_on-in_comment.ensures gap c.step.ensures.place c.step.ensures.rest
+    ∙ c.loop-b.invariant
 
 pub returns-clause-same : goal.returns-clause-same
-returns-clause-same c = all_over c.loop-b.in_comment _ _ _ _ c.in_default.ensures.cases c.loop-b.invariant.same
+returns-clause-same c = all_over c.loop-b.in_comment _ _ _ _ c.in_default.ensures.cases c.loop-b.invariant
