@@ -64,9 +64,15 @@ pub fn read_tree(alloc: Global, file: FileKind, b: &[u8]) -> Result<Tree, FrontE
     }
     let mut scanner = Scanner::new(b);
     match read_next(alloc, &mut scanner, DEEPEST) {
-        Ok(tree) if scanner.is_at_end() => Ok(tree),
+        Ok(tree) => {
+            if scanner.is_at_end() {
+                Ok(tree)
+            } else {
+                Err(not_read(file))
+            }
+        }
+        Err(Stop::NoTree) => Err(not_read(file)),
         Err(Stop::NoMemory) => Err(FrontError::NoMemory),
-        _ => Err(not_read(file)),
     }
 }
 
