@@ -160,14 +160,14 @@ first_begins : (place : Place) (b : ℕ) (rest : List ℕ) → EndsGap (b ∷ re
 unfolding tokens_at further_at name_at
 first_begins place b rest ends =
     at_tests (is_blank b || b == semicolon) (b == opening) (b == closing) (is_leaf_byte b) (name_at b rest) (further_at place b rest) (ap (λ v. v || b == semicolon) ends.0 ∙ ends.1) where
-  at_tests : (g o c l : Bool) (name : List ℕ) (more : List Token) → g ≡ false →
-      (if g then [] else if o then Opens place ∷ [] else if c then Closes ∷ [] else if l then Names place name ∷ [] else Stray ∷ []) ++ more
-      ≡ (if o then Opens place else if c then Closes else if l then Names place name else Stray) ∷ more
-  at_tests true o c l name more e = absurd (true≢false e)
-  at_tests false true c l name more e = refl
-  at_tests false false true l name more e = refl
-  at_tests false false false true name more e = refl
-  at_tests false false false false name more e = refl
+      at_tests : (g o c l : Bool) (name : List ℕ) (more : List Token) → g ≡ false →
+          (if g then [] else if o then Opens place ∷ [] else if c then Closes ∷ [] else if l then Names place name ∷ [] else Stray ∷ []) ++ more
+          ≡ (if o then Opens place else if c then Closes else if l then Names place name else Stray) ∷ more
+      at_tests true o c l name more e = absurd (true≢false e)
+      at_tests false true c l name more e = refl
+      at_tests false false true l name more e = refl
+      at_tests false false false true name more e = refl
+      at_tests false false false false name more e = refl
 
 pub not_at_end : (place : Place) (text : List ℕ) → EndsGap text → tokens_at Gap place text ≡ [] → length text ≡ 0
 not_at_end place [] ends e = refl
@@ -195,11 +195,11 @@ not_closing place b before rest split ends other more e =
     let apart : (b == closing) ≡ false = grind (arith, nat_tests) in
     let same : first_at place b rest ∷ further_at place b rest ≡ Closes ∷ more = sym (first_begins place b rest (rw split at ends)) ∙ rw split at e in
     at_tests (b == opening) (b == closing) (is_leaf_byte b) (name_at b rest) (further_at place b rest) more apart same where
-  at_tests : (o c l : Bool) (name : List ℕ) (further more : List Token) → c ≡ false → (if o then Opens place else if c then Closes else if l then Names place name else Stray) ∷ further ≡ Closes ∷ more → ⊥
-  at_tests true c l name further more f e = cc
-  at_tests false true l name further more f e = absurd (true≢false f)
-  at_tests false false true name further more f e = cc
-  at_tests false false false name further more f e = cc
+      at_tests : (o c l : Bool) (name : List ℕ) (further more : List Token) → c ≡ false → (if o then Opens place else if c then Closes else if l then Names place name else Stray) ∷ further ≡ Closes ∷ more → ⊥
+      at_tests true c l name further more f e = cc
+      at_tests false true l name further more f e = absurd (true≢false f)
+      at_tests false false true name further more f e = cc
+      at_tests false false false name further more f e = cc
 
 pub no_tree_begins : (place : Place) (b : ℕ) (before rest : List ℕ) → before ≡ b ∷ rest → EndsGap before → b ≢ 40 → is_leaf_byte b ≡ false → BeginsNoTree (tokens_at Gap place before)
 unfolding name_at
@@ -207,11 +207,11 @@ no_tree_begins place b before rest split ends other leaf =
     let apart : (b == opening) ≡ false = grind (arith, nat_tests) in
     subst BeginsNoTree (sym (ap (tokens_at Gap place) split ∙ first_begins place b rest (rw split at ends)))
     (at_tests (b == opening) (b == closing) (is_leaf_byte b) (name_at b rest) (further_at place b rest) apart leaf) where
-  at_tests : (o c l : Bool) (name : List ℕ) (further : List Token) → o ≡ false → l ≡ false → BeginsNoTree ((if o then Opens place else if c then Closes else if l then Names place name else Stray) ∷ further)
-  at_tests true c l name further o f = absurd (true≢false o)
-  at_tests false true l name further o f = tt
-  at_tests false false true name further o f = absurd (true≢false f)
-  at_tests false false false name further o f = tt
+      at_tests : (o c l : Bool) (name : List ℕ) (further : List Token) → o ≡ false → l ≡ false → BeginsNoTree ((if o then Opens place else if c then Closes else if l then Names place name else Stray) ∷ further)
+      at_tests true c l name further o f = absurd (true≢false o)
+      at_tests false true l name further o f = tt
+      at_tests false false true name further o f = absurd (true≢false f)
+      at_tests false false false name further o f = tt
 
 -- the longest run of a leaf's bytes is a leaf, where there is one
 run_is_leaf : (text : List ℕ) → BeginsLeaf text → IsLeaf (take_while is_leaf_byte text)
@@ -219,10 +219,13 @@ run_is_leaf [] begins = absurd begins
 run_is_leaf (b ∷ rest) begins = (some, λ k d lt. rw (get_or-take _ (b ∷ rest) k d (within k lt)) (prefix_len_passes is_leaf_byte (b ∷ rest) k d (within k lt))) where
   long : length (take_while is_leaf_byte (b ∷ rest)) ≡ prefix_len is_leaf_byte (b ∷ rest)
   long = length-prefix_len is_leaf_byte (b ∷ rest)
+
   one : prefix_len is_leaf_byte (b ∷ rest) ≡ 1 + prefix_len is_leaf_byte rest
   one = ap (λ v. cond v (1 + prefix_len is_leaf_byte rest) 0) begins
+
   some : 0 < length (take_while is_leaf_byte (b ∷ rest))
   some = omega (arith, long, one)
+
   within : (k : ℕ) → k < length (take_while is_leaf_byte (b ∷ rest)) → k < prefix_len is_leaf_byte (b ∷ rest)
   within k lt = omega (arith, long)
 
@@ -241,10 +244,10 @@ pub goes_over : (c r : Bool) (b : ℕ) (old new : Place) (before now rest : List
     new ≡ behind_at b old → now ≡ rest → tokens_at (gap_or_comment r) new now ≡ tokens_at (gap_or_comment c) old before
 goes_over c r b old new before now rest split is gap at left =
     rw (split, is, at, left) (sym (skips c old b rest (rw (← is) (either r (is_blank b) gap)))) where
-  either : (x y : Bool) → (x ≡ true) ⊎ (y ≡ true) → (x || y) ≡ true
-  either true y h = refl
-  either false y (inl h) = absurd (true≢false (sym h))
-  either false y (inr h) = h
+      either : (x y : Bool) → (x ≡ true) ⊎ (y ≡ true) → (x || y) ≡ true
+      either true y h = refl
+      either false y (inl h) = absurd (true≢false (sym h))
+      either false y (inr h) = h
 
 -- what is left behind a gap that went to the end
 pub all_over : (c : Bool) (old start : Place) (before text : List ℕ) → length before ≡ 0 → tokens_at (gap_or_comment c) old before ≡ tokens_at Gap start text → tokens_at Gap old before ≡ tokens_at Gap start text

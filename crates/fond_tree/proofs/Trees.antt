@@ -69,33 +69,38 @@ no_closing : (tree : Tree) (more rest : List Token) → spelling tree ++ more �
 no_closing tree more rest e =
     ⊎_elim (λ (l : IsLeafTree tree). apart_leaf l.place l.name more rest (sym (ap (λ ts. ts ++ more) l.spelled) ∙ e))
     (λ (n : IsNodeTree tree). apart_node n.place (flat_map spelling n.members ++ Closes ∷ []) more rest (sym (ap (λ ts. ts ++ more) n.spelled) ∙ e)) (cases_of tree) where
-  apart_leaf : (place : Place) (name : List ℕ) (more rest : List Token) → Names place name ∷ more ≡ Closes ∷ rest → ⊥
-  apart_leaf place name more rest e = cc
-  apart_node : (place : Place) (inner more rest : List Token) → Opens place ∷ (inner ++ more) ≡ Closes ∷ rest → ⊥
-  apart_node place inner more rest e = cc
+      apart_leaf : (place : Place) (name : List ℕ) (more rest : List Token) → Names place name ∷ more ≡ Closes ∷ rest → ⊥
+      apart_leaf place name more rest e = cc
+
+      apart_node : (place : Place) (inner more rest : List Token) → Opens place ∷ (inner ++ more) ≡ Closes ∷ rest → ⊥
+      apart_node place inner more rest e = cc
 
 -- the members of a node that is read behind its opening parenthesis
 members_of : (left : ℕ) (place : Place) (old mid : List Token) → old ≡ Opens place ∷ mid → (other : Tree) (more : List Token) → old ≡ spelling other ++ more → depth other ≤ left →
     (members : List Tree) × (mid ≡ flat_map spelling members ++ Closes ∷ more) × (1 + depths members ≤ left)
 members_of left place old mid opened other more e small =
     ⊎_elim (λ (l : IsLeafTree other). absurd (apart (sym opened ∙ e ∙ ap (λ ts. ts ++ more) l.spelled)))
-    (λ (n : IsNodeTree other). (n.members,
+    (λ (n : IsNodeTree other). (
+      n.members,
       inner n.place (flat_map spelling n.members ++ Closes ∷ []) (sym opened ∙ e ∙ ap (λ ts. ts ++ more) n.spelled) ∙ append_assoc (flat_map spelling n.members) (Closes ∷ []) more,
-      subst (λ d. d ≤ left) n.deep small)) (cases_of other) where
-  apart : {at : Place} {name : List ℕ} → Opens place ∷ mid ≡ Names at name ∷ more → ⊥
-  apart e = cc
-  inner : (at : Place) (within : List Token) → Opens place ∷ mid ≡ Opens at ∷ (within ++ more) → mid ≡ within ++ more
-  inner at within e = cc
+      subst (λ d. d ≤ left) n.deep small,
+    )) (cases_of other) where
+      apart : {at : Place} {name : List ℕ} → Opens place ∷ mid ≡ Names at name ∷ more → ⊥
+      apart e = cc
+
+      inner : (at : Place) (within : List Token) → Opens place ∷ mid ≡ Opens at ∷ (within ++ more) → mid ≡ within ++ more
+      inner at within e = cc
 
 pub leaf_read : (left : ℕ) (place : Place) (name : List ℕ) (old new : List Token) → old ≡ Names place name ∷ new → ReadsTree left old (made.Leaf place name) new
 leaf_read left place name old new e = record {
   split = e ∙ ap (λ ts. ts ++ new) (sym (spelling-Leaf place name));
   deep = subst (λ d. d ≤ left) (sym (depth-Leaf place name)) (omega arith);
   only = λ other more f small. ⊎_elim (λ (l : IsLeafTree other). same (sym e ∙ f ∙ ap (λ ts. ts ++ more) l.spelled))
-    (λ (n : IsNodeTree other). absurd (apart (sym e ∙ f ∙ ap (λ ts. ts ++ more) n.spelled))) (cases_of other);
+      (λ (n : IsNodeTree other). absurd (apart (sym e ∙ f ∙ ap (λ ts. ts ++ more) n.spelled))) (cases_of other);
 } where
   same : {at : Place} {other : List ℕ} {more : List Token} → Names place name ∷ new ≡ Names at other ∷ more → more ≡ new
   same e = cc
+
   apart : {at : Place} {rest : List Token} → Names place name ∷ new ≡ Opens at ∷ rest → ⊥
   apart e = cc
 
@@ -124,7 +129,7 @@ pub record Along (left : ℕ) (old : List Token) (trees : List Tree) (now : List
   pub split : old ≡ flat_map spelling trees ++ now
   pub deep : AreWithin left trees
   pub only : (others : List Tree) (more : List Token) → old ≡ flat_map spelling others ++ Closes ∷ more → AreWithin left others →
-    (rest : List Tree) × (now ≡ flat_map spelling rest ++ Closes ∷ more) × AreWithin left rest
+      (rest : List Tree) × (now ≡ flat_map spelling rest ++ Closes ∷ more) × AreWithin left rest
 
 within_push : (left : ℕ) (trees : List Tree) (tree : Tree) → AreWithin left trees → depth tree ≤ left → AreWithin left (trees ++ tree ∷ [])
 within_push left [] tree all small = (small, tt)
@@ -141,6 +146,7 @@ along_more left old now new trees tree a r = record {
 } where
   joined : flat_map spelling (trees ++ tree ∷ []) ≡ flat_map spelling trees ++ spelling tree
   joined = flat_map-append spelling trees (tree ∷ []) ∙ ap (λ ts. flat_map spelling trees ++ ts) (append-nil (spelling tree))
+
   next : (more : List Token) (rest : List Tree) → now ≡ flat_map spelling rest ++ Closes ∷ more → AreWithin left rest →
       (others : List Tree) × (new ≡ flat_map spelling others ++ Closes ∷ more) × AreWithin left others
   next more [] e all = absurd (no_closing tree new more (sym r.split ∙ e))
@@ -154,6 +160,7 @@ along_done left old now new trees a closed = record {
 } where
   same : (more : List Token) → Closes ∷ new ≡ Closes ∷ more → more ≡ new
   same more e = cc
+
   last : (more : List Token) (rest : List Tree) → now ≡ flat_map spelling rest ++ Closes ∷ more → more ≡ new
   last more [] e = same more (sym closed ∙ e)
   last more (u ∷ us) e = absurd (no_closing u (flat_map spelling us ++ Closes ∷ more) new (sym (append_assoc (spelling u) (flat_map spelling us) (Closes ∷ more)) ∙ sym e ∙ closed))

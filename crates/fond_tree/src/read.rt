@@ -13,7 +13,7 @@ use crate::tree::{Forest, Tree};
 use fond_text::fault::{Fault, FrontError, NoMemory};
 use fond_text::name::Name;
 use fond_text::place::{FileKind, Place};
-use std::alloc::{AllocError, AllocFailed, Global};
+use std::alloc::{AllocFailed, Global};
 
 /// The most bytes that a text may have.
 const LONGEST: usize = 16_777_216;
@@ -32,14 +32,6 @@ impl From<NoMemory> for Stop {
     ghost from_gives = { λ _ e. e ≡ OutOfMemory };
 
     fn from(_e: NoMemory) -> Stop {
-        Stop::NoMemory
-    }
-}
-
-impl From<AllocError> for Stop {
-    ghost from_gives = { λ _ e. e ≡ OutOfMemory };
-
-    fn from(_e: AllocError) -> Stop {
         Stop::NoMemory
     }
 }
@@ -95,7 +87,10 @@ fn read_next(alloc: Global, scanner: &mut Scanner<'_>, left: u8) -> Result<Tree,
 {
     match scanner.next() {
         Piece::Leaf(place, bytes) => Ok(Tree::Leaf(place, Name::lower(alloc, bytes)?)),
-        Piece::Open(place) if left > 0 => Ok(Tree::Node(place, read_members(alloc, scanner, left - 1)?)),
+        Piece::Open(place) if left > 0 => {
+            let members = read_members(alloc, scanner, left - 1)?;
+            Ok(Tree::Node(place, members))
+        }
         _ => Err(Stop::NoTree),
     }
 }
@@ -111,4 +106,93 @@ fn read_members(alloc: Global, scanner: &mut Scanner<'_>, left: u8) -> Result<Fo
         members.push(read_next(alloc, scanner, left)?)?;
     }
     Ok(members)
+}
+
+#[cfg(test)]
+mod tests {
+    use super::*;
+    use std::test::Fail;
+
+    /// The tree with the place of each node and leaf behind its `(` or its name.
+    fn draw(tree: &Tree, out: &mut String) -> Result<(), Fail> {
+        match tree {
+            Tree::Leaf(place, name) => {
+                for b in name.bytes() {
+                    out.push(char::from(*b))?;
+                }
+                write!(out, "@{}.{}", place.line, place.column)?;
+            }
+            Tree::Node(place, members) => {
+                write!(out, "(@{}.{}", place.line, place.column)?;
+                for member in members {
+                    out.push(' ')?;
+                    draw(member, out)?;
+                }
+                out.push(')')?;
+            }
+        }
+        Ok(())
+    }
+
+    /// What is read of the text, or `refused`.
+    fn read(alloc: Global, text: &[u8]) -> Result<String, Fail> {
+        let mut out = String::new(alloc);
+        match read_tree(alloc, FileKind::Problem, text) {
+            Ok(tree) => draw(&tree, &mut out)?,
+            Err(FrontError::Refused(fault)) => {
+                let place = fault.place;
+                write!(
+                    out,
+                    "refused {} at {}.{}",
+                    fault.code, place.line, place.column
+                )?;
+            }
+            Err(FrontError::NoMemory) => out.push_str("no memory")?,
+        }
+        Ok(out)
+    }
+
+    #[test]
+    fn reads_trees(rt: HostRuntime) -> Result<(), Fail> {
+        let cases = [
+            ("(a (b) c)", "(@1.1 a@1.2 (@1.4 b@1.5) c@1.8)"),
+            ("; (c\n (Ab\tC)\n", "(@2.2 ab@2.3 c@2.6)"),
+            ("(a;b\rc\n)", "(@1.1 a@1.2)"),
+            ("(a) ; end", "(@1.1 a@1.2)"),
+            ("()", "(@1.1)"),
+            (" X", "x@1.2"),
+            ("", "refused 24 at 1.1"),
+            ("; a", "refused 24 at 1.1"),
+            ("(a", "refused 24 at 1.1"),
+            (")", "refused 24 at 1.1"),
+            ("(a) b", "refused 24 at 1.1"),
+            ("(a \u{7f})", "refused 24 at 1.1"),
+        ];
+        for (text, want) in cases {
+            assert_eq!(rt;
+                read(rt.alloc(), text.as_bytes())?.as_str(),
+                want,
+                "at {text}"
+            );
+        }
+        Ok(())
+    }
+
+    #[test]
+    fn reads_128_open_parentheses(rt: HostRuntime) -> Result<(), Fail> {
+        for (depth, is_read) in [(128, true), (129, false)] {
+            let mut text = Vec::new(rt.alloc());
+            for b in [b'(', b')'] {
+                for _ in 0..depth {
+                    text.push(b)?;
+                }
+            }
+            assert_eq!(rt;
+                read_tree(rt.alloc(), FileKind::Domain, &text).is_ok(),
+                is_read,
+                "at {depth}"
+            );
+        }
+        Ok(())
+    }
 }

@@ -3,7 +3,6 @@
 ghost use Rattle.std.specs.Prelude.{◌≡◌, ℕ, ◌+◌, ◌<◌, ◌≤◌, ◌∷◌, ◌↔◌, [], List, Bool, true, length};
 ghost use Rattle.std.specs.List.{prefix_len};
 ghost use Rattle.fond_text.specs.Bytes.{is_blank, is_leaf_byte};
-
 ghost use Rattle.fond_tree.specs.Left.{behind_at, goes_on, Fits, EndsGap, BeginsLeaf, TakesClosing, BeginsNoTree};
 ghost use Rattle.fond_tree.specs.Tokens.{tokens};
 
@@ -75,9 +74,15 @@ impl<'a> Scanner<'a> {
     {
         let place = self.place;
         self.place = if b == b'\n' {
-            Place { line: place.line + 1, column: 1 }
+            Place {
+                line: place.line + 1,
+                column: 1,
+            }
         } else {
-            Place { line: place.line, column: place.column + 1 }
+            Place {
+                line: place.line,
+                column: place.column + 1,
+            }
         };
         self.rest = rest;
     }

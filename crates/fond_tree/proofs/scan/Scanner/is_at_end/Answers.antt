@@ -10,5 +10,6 @@ returns c = (
 ) where
   zero_from : {n : ℕ} → (n == 0) ≡ true → n ≡ 0
   zero_from e = grind (arith, nat_tests)
+
   to_zero : {n : ℕ} → n ≡ 0 → (n == 0) ≡ true
   to_zero e = grind (arith, nat_tests)

@@ -8,9 +8,10 @@ use Rattle.fond_tree.proofs.scan.Scanner.skip.Goals.{else-not-in_comment-via-the
 pub loop-b-preserved : goal.loop-b-preserved
 loop-b-preserved c =
     let gap : (c.goes_on-in_comment.result ≡ true) ⊎ (is_blank c.in-Some.b.now ≡ true) =
-      elim c.else-not-in_comment.branch [
-        else-not-in_comment-via-then-not-in_comment+else-not-is_blank w ↦ inr (sym w.is_blank.ensures ∙ w.if-not-is_blank.false)
-      | else-not-in_comment-via-else-not-in_comment w ↦ inl w.if-not-in_comment.false ] in
+    elim c.else-not-in_comment.branch [
+      | else-not-in_comment-via-then-not-in_comment+else-not-is_blank w ↦ inr (sym w.is_blank.ensures ∙ w.if-not-is_blank.false)
+      | else-not-in_comment-via-else-not-in_comment w ↦ inl w.if-not-in_comment.false
+    ] in
     goes_over c.loop-b.in_comment _ c.in-Some.b.now _ _ _ _ c.in-Some.rest.now c.in-Some.ensures.cases.0 c.goes_on-in_comment.ensures gap c.step.ensures.place c.step.ensures.rest
     ∙ c.loop-b.invariant
 
