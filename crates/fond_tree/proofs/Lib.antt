@@ -1,3 +1,4 @@
+pub mod OneTree
 pub mod Places
 pub mod Trees
 mod Worked

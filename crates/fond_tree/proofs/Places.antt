@@ -1,5 +1,5 @@
 -- Which tokens the rest of a text has, byte by byte.
-use Rattle.std.proofs.Common.{◌≡◌, ℕ, ◌+◌, ◌-◌, ◌≤◌, ◌==◌, Bool, true, false, not, cond, if◌then◌else◌, ◌||◌, List, [], ◌∷◌, ◌++◌, map, take, drop, reverse, length, refl, sym, ◌∙◌, ap, arith, append_assoc, rules, add-zero, suc, ◌⊎◌, inl, inr, ◌≢◌, subst, ◌<◌}
+use Rattle.std.proofs.Common.{◌≡◌, ℕ, ◌+◌, ◌≤◌, ◌==◌, Bool, true, false, not, cond, if◌then◌else◌, ◌||◌, List, [], ◌∷◌, ◌++◌, map, take, drop, reverse, length, refl, sym, ◌∙◌, ap, arith, add-zero, suc, ◌⊎◌, inl, inr, ◌≢◌, subst, ◌<◌}
 use Rattle.std.proofs.lemmas.Bool.{true≢false}
 use Rattle.std.proofs.lemmas.Bool.Decides.{nat_tests}
 use Rattle.std.specs.Prelude.{take_while, count_by}
@@ -11,8 +11,8 @@ use Rattle.fond_text.specs.Name.{IsLeaf}
 use Rattle.fond_text.specs.Bytes.{line_feed, opening, closing, semicolon, is_blank, is_leaf_byte, lower}
 use Rattle.fond_text.specs.Places.{place_behind}
 use Rattle.fond_text.specs.declared.place.Place.{Place}
-use Rattle.fond_tree.specs.Tokens.{Token, Opens, Closes, Names, Stray, Behind, Gap, Leaf, Comment, behind_byte, begun, begun_behind, tokens_behind, tokens}
-use Rattle.fond_tree.specs.Left.{behind_at, begun_at, begun_in, tokens_at, goes_on, EndsGap, BeginsLeaf, BeginsNoTree}
+use Rattle.fond_tree.specs.Tokens.{Token, Opens, Closes, Names, Stray, Behind, Gap, Leaf, Comment, behind_byte, begun_behind, tokens_behind}
+use Rattle.fond_tree.specs.Left.{behind_at, begun_in, tokens_at, goes_on, EndsGap, BeginsLeaf, BeginsNoTree}
 
 length-after_last : {X : Type 0} (p : X → Bool) (xs : List X) → length (after_last p xs) ≡ suffix_len (λ x. not (p x)) xs
 length-after_last {X} p xs =

@@ -1,11 +1,11 @@
 -- What trees spell, by cases on the tree, and what is left behind a tree that was read.
 use Rattle.std.proofs.Common.{◌≡◌, ℕ, ◌+◌, ◌-◌, ◌≤◌, ◌<◌, List, [], ◌∷◌, ◌++◌, map, max, refl, sym, ◌∙◌, ap, ◌⊎◌, inl, inr, ⊎_elim, arith, Vec, Global, append_assoc, append-nil, subst, length}
-use Rattle.std.specs.List.{flat_map, fold, AllByRecursion}
+use Rattle.std.specs.List.{flat_map, fold}
 use Rattle.std.proofs.lemmas.List.{length-append}
 use Rattle.std.proofs.lemmas.List.Concat.{flat_map-append}
 use Rattle.std.proofs.lemmas.List.Folds.{flat_map-map}
 use Rattle.fond_text.specs.declared.place.Place.{Place}
-use Rattle.fond_tree.specs.Tokens.{Token, Opens, Closes, Names, Stray}
+use Rattle.fond_tree.specs.Tokens.{Token, Opens, Closes, Names}
 use Rattle.fond_tree.specs.Left.{BeginsNoTree}
 use Rattle.fond_tree.specs.Reading.{AreWithin, ReadsTree, HasNoTree, ReadsForest, HasNoForest}
 use Rattle.fond_tree.specs.Spelling.{spelling, spelling_step, depth, depth_step}
@@ -65,7 +65,7 @@ within_to left most (t ∷ ts) small =
     let rest = within_to left (max most (depth t)) ts small in (omega (arith, rest.0), (omega (arith, rest.0), rest.1))
 
 -- a tree begins with no closing parenthesis
-no_closing : (tree : Tree) (more rest : List Token) → spelling tree ++ more ≡ Closes ∷ rest → ⊥
+pub no_closing : (tree : Tree) (more rest : List Token) → spelling tree ++ more ≡ Closes ∷ rest → ⊥
 no_closing tree more rest e =
     ⊎_elim (λ (l : IsLeafTree tree). apart_leaf l.place l.name more rest (sym (ap (λ ts. ts ++ more) l.spelled) ∙ e))
     (λ (n : IsNodeTree tree). apart_node n.place (flat_map spelling n.members ++ Closes ∷ []) more rest (sym (ap (λ ts. ts ++ more) n.spelled) ∙ e)) (cases_of tree) where

@@ -1,3 +1,4 @@
+pub mod Alike
 pub mod Left
 pub mod Reading
 pub mod Refusal

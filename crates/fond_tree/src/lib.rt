@@ -3,6 +3,7 @@
 //! them.
 #![tactic(auto)]
 
+pub mod laws;
 pub mod read;
 mod scan;
 pub mod tree;

@@ -1,10 +1,9 @@
-use Rattle.std.proofs.Common.{◌≡◌, ◌∙◌, sym, ap, arith, length, Result, Ok, Err, IfErr, IsErrAnd, subst, List, ◌++◌}
-use Rattle.std.proofs.lemmas.Result.{err_from_is_err_and}
+use Rattle.std.proofs.Common.{◌≡◌, ◌∙◌, sym, ap, arith, length, Result, Ok, Err, IfErr, IsErrAnd, subst, List}
 use Rattle.fond_tree.specs.declared.read.Stop.{Stop}
 use Rattle.fond_tree.specs.declared.read.Stop.TheVariants.{NoTree}
 use Rattle.fond_tree.specs.declared.tree.Tree.{Tree}
 use Rattle.fond_tree.specs.Left.{TakesClosing}
-use Rattle.fond_tree.specs.Reading.{HasNoTree, HasNoForest}
+use Rattle.fond_tree.specs.Reading.{HasNoTree}
 use Rattle.fond_tree.specs.Scanning.{tokens_left}
 use Rattle.fond_tree.proofs.Trees.{Along, node_read, no_node, along_more, along_done, along_none, read_shortens}
 use Rattle.fond_tree.proofs.read.+reading.Goals as goal

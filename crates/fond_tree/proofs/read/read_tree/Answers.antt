@@ -1,5 +1,5 @@
 -- Where tokens stand behind the tree that was read, the text spells none.
-use Rattle.std.proofs.Common.{◌≡◌, ◌≤◌, ℕ, List, [], refl, sym, ◌∙◌, subst, append-nil, true, false}
+use Rattle.std.proofs.Common.{◌≡◌, ◌≤◌, ℕ, List, [], refl, sym, ◌∙◌, subst, append-nil}
 use Rattle.std.proofs.lemmas.Bool.{true≢false}
 use Rattle.fond_tree.specs.Reading.{ReadsTree}
 use Rattle.fond_tree.specs.Refusal.{IsRefusal}

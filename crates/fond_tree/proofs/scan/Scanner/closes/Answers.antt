@@ -1,4 +1,4 @@
-use Rattle.std.proofs.Common.{◌≡◌, ◌∙◌, sym}
+use Rattle.std.proofs.Common.{◌∙◌, sym}
 use Rattle.fond_tree.proofs.Places.{closes, not_closing, nothing_left}
 use Rattle.fond_tree.proofs.scan.Scanner.closes.Goals as goal
 

@@ -1,4 +1,4 @@
-use Rattle.std.proofs.Common.{◌≡◌, ◌∙◌, sym, subst}
+use Rattle.std.proofs.Common.{◌∙◌, sym, subst}
 use Rattle.fond_tree.specs.Left.{BeginsNoTree}
 use Rattle.fond_tree.proofs.Places.{opens, no_tree_begins, nothing_left}
 use Rattle.fond_tree.proofs.scan.Scanner.next.Goals as goal

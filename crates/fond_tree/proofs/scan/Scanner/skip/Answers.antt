@@ -1,5 +1,4 @@
-use Rattle.std.proofs.Common.{◌≡◌, Bool, true, false, not, ◌||◌, ◌⊎◌, inl, inr, ◌∙◌, length, ap, sym, arith}
-use Rattle.std.proofs.lemmas.Bool.Decides.{nat_tests}
+use Rattle.std.proofs.Common.{◌≡◌, true, ◌⊎◌, inl, inr, ◌∙◌, sym}
 use Rattle.fond_text.specs.Bytes.{is_blank}
 use Rattle.fond_tree.proofs.Places.{goes_over, all_over}
 use Rattle.fond_tree.proofs.scan.Scanner.skip.Goals as goal

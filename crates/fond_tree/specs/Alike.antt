@@ -1,0 +1,22 @@
+-- Trees that differ in nothing that one sees: the same places, the same names, members in the same order.
+use Rattle.std.specs.Prelude.{◌≡◌, ℕ, List}
+use Rattle.fond_tree.specs.Spelling.{Spells}
+use Rattle.fond_tree.specs.declared.tree.Tree.{Tree, Leaf, Node', Row_of-Tree, end_of-Tree, more_of-Tree}
+
+-- two leaves are alike by place and name, and two nodes by place and member by member
+abbrev mutual
+  pub IsAlike : Tree → Tree → Type 0
+  IsAlike (Leaf place name) (Leaf at other) = (place ≡ at) × (name ≡ other)
+  IsAlike (Leaf place name) (Node' at form others) = ⊥
+  IsAlike (Node' place shape members) (Leaf at other) = ⊥
+  IsAlike (Node' place shape members) (Node' at form others) = (place ≡ at) × AreAlike members others
+
+  pub AreAlike : {m n : _} → Row_of-Tree m → Row_of-Tree n → Type 0
+  AreAlike end_of-Tree end_of-Tree = Unit {0}
+  AreAlike end_of-Tree (more_of-Tree other others) = ⊥
+  AreAlike (more_of-Tree tree rest) end_of-Tree = ⊥
+  AreAlike (more_of-Tree tree rest) (more_of-Tree other others) = IsAlike tree other × AreAlike rest others
+
+-- a text spells one tree
+abbrev pub EachTextSpellsOneTree : Type 0
+EachTextSpellsOneTree = (text : List ℕ) (tree other : Tree) → Spells text tree → Spells text other → IsAlike tree other
