@@ -18,6 +18,7 @@ begun_at place b rest =
     else if is_leaf_byte b then Names place (map lower (take_while is_leaf_byte (b ∷ rest))) ∷ []
     else Stray ∷ []
 
+-- no token begins in a comment, and none inside a leaf
 abbrev pub begun_in : Behind → Place → ℕ → List ℕ → List Token
 begun_in Gap place b rest = begun_at place b rest
 begun_in Leaf place b rest = if is_leaf_byte b then [] else begun_at place b rest

@@ -147,7 +147,7 @@ mod tests {
                     fault.code, place.line, place.column
                 )?;
             }
-            Err(FrontError::NoMemory) => out.push_str("no memory")?,
+            Err(stop) => return Err(stop.into()),
         }
         Ok(out)
     }
@@ -180,18 +180,15 @@ mod tests {
 
     #[test]
     fn reads_128_open_parentheses(rt: HostRuntime) -> Result<(), Fail> {
-        for (depth, is_read) in [(128, true), (129, false)] {
+        for (depth, is_refused) in [(128, false), (129, true)] {
             let mut text = Vec::new(rt.alloc());
             for b in [b'(', b')'] {
                 for _ in 0..depth {
                     text.push(b)?;
                 }
             }
-            assert_eq!(rt;
-                read_tree(rt.alloc(), FileKind::Domain, &text).is_ok(),
-                is_read,
-                "at {depth}"
-            );
+            let drawn = read(rt.alloc(), &text)?;
+            assert_eq!(rt; drawn.starts_with("refused"), is_refused, "at {depth}");
         }
         Ok(())
     }

@@ -1,9 +1,9 @@
 //! The text from left to right: what is left of it, and the place where that begins.
 
-ghost use Rattle.std.specs.Prelude.{◌≡◌, ℕ, ◌+◌, ◌<◌, ◌≤◌, ◌∷◌, ◌↔◌, [], List, Bool, true, length};
+ghost use Rattle.std.specs.Prelude.{◌≡◌, ◌≤◌, ◌∷◌, ◌↔◌, [], true, length};
 ghost use Rattle.std.specs.List.{prefix_len};
 ghost use Rattle.fond_text.specs.Bytes.{is_blank, is_leaf_byte};
-ghost use Rattle.fond_tree.specs.Left.{behind_at, goes_on, Fits, EndsGap, BeginsLeaf, TakesClosing, BeginsNoTree};
+ghost use Rattle.fond_tree.specs.Left.{behind_at, goes_on, Fits, EndsGap, BeginsLeaf, TakesClosing};
 ghost use Rattle.fond_tree.specs.Tokens.{tokens};
 
 use fond_text::place::Place;
