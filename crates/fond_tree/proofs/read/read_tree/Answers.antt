@@ -1,5 +1,5 @@
 -- Where tokens stand behind the tree that was read, the text spells none.
-use Rattle.std.proofs.Common.{◌≡◌, ◌≤◌, ℕ, List, [], refl, sym, ◌∙◌, subst, append-nil}
+use Rattle.std.proofs.Common.{arith, ◌≡◌, ◌≤◌, ℕ, List, [], refl, sym, ◌∙◌, subst, append-nil}
 use Rattle.std.proofs.lemmas.Bool.{true≢false}
 use Rattle.fond_tree.specs.Reading.{ReadsTree}
 use Rattle.fond_tree.specs.Refusal.{IsRefusal}
@@ -14,4 +14,4 @@ more_behind left start now tree read some other e small = some (sym (read.only o
 pub returns-else-is_at_end-clause-refused : goal.returns-else-is_at_end-clause-refused
 returns-else-is_at_end-clause-refused c =
     subst (IsRefusal c.args.file c.args.b.now) (sym c.not_read-else-is_at_end.ensures)
-    (refl, λ other r. more_behind _ _ _ c.in-Ok.tree c.in-Ok.ensures.ok (λ e. true≢false (sym (c.is_at_end.ensures.1 e) ∙ c.if-is_at_end.false)) other (c.new-scanner.ensures ∙ r.spelled) r.deep)
+    (refl, λ other r. more_behind _ _ _ c.in-Ok.tree c.in-Ok.ensures.ok (λ e. true≢false (sym (c.is_at_end.ensures.1 e) ∙ c.if-is_at_end.false)) other (c.new-scanner.ensures ∙ r.spelled) (omega (arith, r.deep)))
