@@ -1,0 +1,52 @@
+-- The moves of the game, policies, and the states that a policy reaches.
+use Rattle.std.specs.Prelude.{◌≡◌, ℕ, List, Bool, true, IsTrue, Option, Some, option_map, slice_get, Contains, IsSome, find}
+use Rattle.fond_state.specs.Cubes.{lies_in}
+use Rattle.fond_task.specs.declared.task.Act.{Act}
+use Rattle.fond_task.specs.declared.task.Entry.{Entry}
+use Rattle.fond_task.specs.declared.task.Task.{Task}
+use Rattle.fond_task.specs.Truth.{is_true}
+use Rattle.fond_task.specs.Steps.{next_state}
+use Rattle.fond_game.specs.declared.rule.Rule.{Rule}
+
+-- the goal is true in the state
+abbrev pub IsGoal : Task → List Bool → Type 0
+IsGoal task state = IsTrue (is_true state task.goal)
+
+-- the action of this number is there, and its precondition is true in the state
+pub record IsApplicable (task : Task) (state : List Bool) (number : ℕ) : Type 0 where
+  pub act : Act
+  pub numbered : slice_get task.acts number ≡ Some act
+  pub holds : IsTrue (is_true state act.pre)
+
+-- the action is applicable in the state, and some outcome of it gives the other state
+pub record IsNext (task : Task) (state : List Bool) (number : ℕ) (after : List Bool) : Type 0 where
+  pub act : Act
+  pub numbered : slice_get task.acts number ≡ Some act
+  pub holds : IsTrue (is_true state act.pre)
+  pub outcome : List Entry
+  pub one : Contains act.outcomes outcome
+  pub given : after ≡ next_state state outcome
+
+-- an opponent picks the outcome of the action of this number
+pub record IsUnfair (task : Task) (number : ℕ) : Type 0 where
+  pub act : Act
+  pub numbered : slice_get task.acts number ≡ Some act
+  pub flagged : act.unfair ≡ true
+
+-- a policy chooses an action in a state, or none
+abbrev pub Policy : Type 0
+Policy = List Bool → Option ℕ
+
+-- a policy is a finite map where a list has each state in which it chooses
+abbrev pub IsFiniteMap : Policy → Type 0
+IsFiniteMap policy = (states : List (List Bool)) × ((state : List Bool) → IsSome (policy state) → Contains states state)
+
+-- the policy of a rule list chooses the action of the first rule whose literals all hold in the state
+abbrev pub selected : List Rule → Policy
+selected rules state = option_map (λ rule. rule.act) (find (λ rule. lies_in state rule.cond) rules)
+
+-- the states at the end of a finite walk from the first state, which goes on from states that are no goals to
+-- the next states of the chosen action
+pub data Reach (task : Task) (policy : Policy) : List Bool → Type 0 where
+  start : Reach task policy task.init
+  onward : (state : List Bool) (number : ℕ) (after : List Bool) → Reach task policy state → (IsGoal task state → ⊥) → policy state ≡ Some number → IsNext task state number after → Reach task policy after

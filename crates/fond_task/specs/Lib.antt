@@ -1,0 +1,6 @@
+pub mod Within
+pub mod Truth
+pub mod Steps
+pub mod Values
+pub mod Images
+pub mod Laws

@@ -1,0 +1,48 @@
+-- The three-valued value of ground forms on a cube.
+use Rattle.std.specs.Prelude.{List, Bool, Option, Some, None, fold, if◌then◌else◌}
+use Rattle.fond_state.specs.Cubes.{literal_at}
+use Rattle.fond_task.specs.declared.form.Form.{Form}
+use Rattle.fond_task.specs.declared.form.Form.TheOpen.{Form-F, Truth, Lit, And, Or}
+use Rattle.fond_task.specs.declared.form.Form.TheFolds.{fold-Form}
+use Rattle.fond_task.specs.declared.form.Kleene.{Kleene}
+use Rattle.fond_task.specs.declared.form.Kleene.TheVariants.{No, Unknown, Yes}
+use Rattle.fond_task.specs.Truth.{is_same}
+
+-- the lesser of two values, where No is below Unknown and Unknown below Yes
+abbrev pub lesser : Kleene → Kleene → Kleene
+lesser No other = No
+lesser Unknown No = No
+lesser Unknown Unknown = Unknown
+lesser Unknown Yes = Unknown
+lesser Yes other = other
+
+-- the greater of two values
+abbrev pub greater : Kleene → Kleene → Kleene
+greater No other = other
+greater Unknown No = Unknown
+greater Unknown Unknown = Unknown
+greater Unknown Yes = Yes
+greater Yes other = Yes
+
+-- the least of the values, Yes where there is none
+abbrev pub least : List Kleene → Kleene
+least values = fold lesser Yes values
+
+-- the greatest of the values, No where there is none
+abbrev pub greatest : List Kleene → Kleene
+greatest values = fold greater No values
+
+-- a literal is Yes where the cube has it, No where the cube has the opposite, and else Unknown
+abbrev pub literal_value : Option Bool → Bool → Kleene
+literal_value None sign = Unknown
+literal_value (Some value) sign = if is_same value sign then Yes else No
+
+abbrev pub value_step : List (Option Bool) → Form-F Kleene → Kleene
+value_step cube (Truth value) = if value then Yes else No
+value_step cube (Lit atom sign) = literal_value (literal_at cube atom) sign
+value_step cube (And parts) = least parts.items
+value_step cube (Or parts) = greatest parts.items
+
+-- the value of a form on a cube: a conjunction is the least of its parts, a disjunction the greatest
+abbrev pub value : List (Option Bool) → Form → Kleene
+value cube = fold-Form Kleene (value_step cube)
