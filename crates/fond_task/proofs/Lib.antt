@@ -1,0 +1,4 @@
+pub mod Tells
+pub mod Indices
+pub mod Nexts
+pub mod Exact
