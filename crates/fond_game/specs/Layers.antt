@@ -1,5 +1,5 @@
 -- Sure layers and sure pairs: where they are reached, no policy is a solution.
-use Rattle.std.specs.Prelude.{◌≡◌, ℕ, ◌⊎◌, List, [], ◌∷◌, ◌++◌, Bool, true, false, Option, Some, slice_get, Contains, All}
+use Rattle.std.specs.Prelude.{◌≡◌, ◌⊎◌, List, ◌∷◌, ◌++◌, Bool, true, false, Option, Some, slice_get, Contains}
 use Rattle.fond_state.specs.Cubes.{CubeLiesIn}
 use Rattle.fond_task.specs.declared.form.Kleene.TheVariants.{No}
 use Rattle.fond_task.specs.declared.task.Act.{Act}

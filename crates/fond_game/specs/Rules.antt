@@ -1,5 +1,5 @@
 -- Sure and lean rules, and lean pairs.
-use Rattle.std.specs.Prelude.{◌≡◌, ℕ, ◌<◌, List, Bool, true, false, Option, Some, slice_get, length, Contains}
+use Rattle.std.specs.Prelude.{◌≡◌, ℕ, ◌<◌, List, Bool, true, false, Some, slice_get, length, Contains}
 use Rattle.fond_state.specs.Cubes.{literal_at, CubeLiesIn, Contradicts, without_literal}
 use Rattle.fond_task.specs.declared.form.Kleene.TheVariants.{Yes}
 use Rattle.fond_task.specs.declared.task.Act.{Act}

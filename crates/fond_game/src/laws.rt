@@ -6,18 +6,15 @@ ghost use Rattle.fond_game.specs.Laws.{RanksExcludeTraps, LayersForce, RefusalsH
 /// the least, and the outcome that this rule names would stay in the trap and select a smaller one.
 pub fn ranks_exclude_traps()
     ensures { RanksExcludeTraps }
-{
-}
+{}
 
 /// A policy that reaches a state of a sure layer, below which all layers are sure, is no solution: the states
 /// that it reaches of the least layer that it meets would be a trap.
 pub fn layers_force()
     ensures { LayersForce }
-{
-}
+{}
 
 /// A task with a right refusal certificate is not solvable.
 pub fn refusals_hold()
     ensures { RefusalsHold }
-{
-}
+{}

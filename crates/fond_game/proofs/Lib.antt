@@ -1,0 +1,4 @@
+pub mod Lists
+pub mod Reached
+pub mod Ranks
+pub mod Forced
