@@ -2,3 +2,4 @@ pub mod Tells
 pub mod Indices
 pub mod Nexts
 pub mod Exact
+pub mod Forms
