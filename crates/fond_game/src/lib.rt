@@ -6,3 +6,5 @@
 
 pub mod laws;
 pub mod rule;
+#[cfg(test)]
+mod tests;

@@ -40,11 +40,11 @@ impl TargetList {
     }
 
     /// Puts one at the end.
-    pub fn push(&mut self, x: Target) -> Result<(), NoMemory>
-        ensures ok { OnOk result (self.new ≡ self.old ++ x ∷ []) }
+    pub fn push(&mut self, target: Target) -> Result<(), NoMemory>
+        ensures ok { OnOk result (self.new ≡ self.old ++ target ∷ []) }
         ensures err { OnErr result (self.new ≡ self.old) }
     {
-        self.items.push(x)?;
+        self.items.push(target)?;
         Ok(())
     }
 

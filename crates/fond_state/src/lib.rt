@@ -4,3 +4,5 @@
 
 pub mod cube;
 pub mod state;
+#[cfg(test)]
+mod tests;

@@ -5,3 +5,5 @@
 pub mod form;
 pub mod laws;
 pub mod task;
+#[cfg(test)]
+mod tests;

@@ -51,11 +51,11 @@ impl Outcome {
     }
 
     /// Puts one at the end.
-    pub fn push(&mut self, x: Entry) -> Result<(), NoMemory>
-        ensures ok { OnOk result (self.new ≡ self.old ++ x ∷ []) }
+    pub fn push(&mut self, entry: Entry) -> Result<(), NoMemory>
+        ensures ok { OnOk result (self.new ≡ self.old ++ entry ∷ []) }
         ensures err { OnErr result (self.new ≡ self.old) }
     {
-        self.items.push(x)?;
+        self.items.push(entry)?;
         Ok(())
     }
 
@@ -106,11 +106,11 @@ impl Outcomes {
     }
 
     /// Puts one at the end.
-    pub fn push(&mut self, x: Outcome) -> Result<(), NoMemory>
-        ensures ok { OnOk result (self.new ≡ self.old ++ x ∷ []) }
+    pub fn push(&mut self, outcome: Outcome) -> Result<(), NoMemory>
+        ensures ok { OnOk result (self.new ≡ self.old ++ outcome ∷ []) }
         ensures err { OnErr result (self.new ≡ self.old) }
     {
-        self.items.push(x)?;
+        self.items.push(outcome)?;
         Ok(())
     }
 
@@ -171,11 +171,11 @@ impl Acts {
     }
 
     /// Puts one at the end.
-    pub fn push(&mut self, x: Act) -> Result<(), NoMemory>
-        ensures ok { OnOk result (self.new ≡ self.old ++ x ∷ []) }
+    pub fn push(&mut self, act: Act) -> Result<(), NoMemory>
+        ensures ok { OnOk result (self.new ≡ self.old ++ act ∷ []) }
         ensures err { OnErr result (self.new ≡ self.old) }
     {
-        self.items.push(x)?;
+        self.items.push(act)?;
         Ok(())
     }
 
