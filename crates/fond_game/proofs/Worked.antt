@@ -44,13 +44,14 @@ at_each : {X : Type 0} (P : X → Type 0) (xs : List X) → Each P xs → (x : X
 at_each P [] each x has = absurd (omega (arith, has.1))
 at_each P (y ∷ xs) each x has = ⊎_elim (λ same. subst P same each.0) (at_each P xs each.1 x) (Contains-cases x y xs has)
 
--- the test of lying in another cube
+-- whether what one cube says of an atom is all that another wants of it
 abbrev says : Option Bool → Option Bool → Bool
 says known None = true
 says (Some true) (Some sign) = sign
 says (Some false) (Some sign) = not sign
 says None (Some sign) = false
 
+-- the test of lying in another cube
 abbrev inside : CubeView → CubeView → Bool
 inside cube [] = true
 inside [] (known ∷ other) = says None known && inside [] other
@@ -78,9 +79,11 @@ No_is_not_Yes is = cc
 abbrev action : Form → Bool → List (List Entry) → Act
 action pre unfair outcomes = record { ground = record { schema = 0; objects = [] }; pre = pre; unfair = unfair; outcomes = outcomes }
 
+-- an entry that sets an atom, whatever the state
 abbrev sets : ℕ → Bool → Entry
 sets atom sign = record { cond = Truth true; atom = atom; add = sign }
 
+-- names play no part in these games
 abbrev unnamed : Atom
 unnamed = record { predicate = 0; objects = [] }
 
