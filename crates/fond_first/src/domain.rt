@@ -104,6 +104,7 @@ pub fn read_domain(alloc: Global, file: &Tree) -> Result<ReadDomain, FormError>
     ensures read { IfOk result (λ domain. AreDomainOf (sections_of file.now) domain.predicates domain.schemas) }
     ensures names { IfOk result (λ domain. domain.names ≡ names_of (sections_of file.now)) }
     ensures few { IfOk result (λ domain. length domain.names < 2 ^ 32) }
+    ensures counted { IfOk result (λ domain. length domain.predicates ≡ length domain.names) }
     ensures fits { OnOk result (is_domain file.now ≡ true) }
     ensures unfit { IsErrOf result FormError.Unfit → is_domain file.now ≡ false }
     ensures within { IfOk result (λ domain. list_all (is_schema_within (length domain.predicates)) domain.schemas ≡ true) }

@@ -57,6 +57,7 @@ fn fluent_flags(alloc: Global, count: usize, schemas: &LSchemas) -> Result<Vec<b
 fn with_flags(alloc: Global, names: &Names, flags: &[bool]) -> Result<LPredicates, NoMemory>
     requires { length flags.now ≡ length names.now }
     ensures declared { IfOk result (λ predicates. map (λ predicate. predicate.name) predicates ≡ names.now) }
+    ensures counted { IfOk result (λ predicates. length predicates ≡ length names.now) }
     ensures fluent { IfOk result (λ predicates. (number : ℕ) (predicate : LPredicate) → slice_get predicates number ≡ Some predicate → predicate.fluent ≡ slice_index_or flags.now number false) }
 {
     let mut predicates = LPredicates::new(alloc);
@@ -76,6 +77,7 @@ pub fn flagged_predicates(
     schemas: &LSchemas,
 ) -> Result<LPredicates, NoMemory>
     ensures declared { IfOk result (λ predicates. map (λ predicate. predicate.name) predicates ≡ names.now) }
+    ensures counted { IfOk result (λ predicates. length predicates ≡ length names.now) }
     ensures fluent { IfOk result (λ predicates. (number : ℕ) (predicate : LPredicate) → slice_get predicates number ≡ Some predicate → predicate.fluent ≡ list_any (λ schema. mentions number schema.effect) schemas.now) }
 {
     let flags = fluent_flags(alloc, names.len(), schemas)?;
