@@ -28,11 +28,11 @@ begins_with byte (b ∷ bytes) = b == byte
 abbrev pub is_plain : List ℕ → Bool
 is_plain leaf = not (begins_with 63 leaf) && not (begins_with 58 leaf) && not (is_reserved leaf)
 
-abbrev leaf_step : Tree-F Tree → Option (List ℕ)
+abbrev pub leaf_step : Tree-F Tree → Option (List ℕ)
 leaf_step (Leaf place name) = Some name
 leaf_step (Node place members) = None
 
-abbrev members_step : Tree-F Tree → Option (List Tree)
+abbrev pub members_step : Tree-F Tree → Option (List Tree)
 members_step (Leaf place name) = None
 members_step (Node place members) = Some members.items
 

@@ -1,0 +1,71 @@
+-- Answers that are written, and files that cannot be read.
+use Rattle.std.proofs.Common.{◌≡◌, ℕ, ◌<◌, length, refl, List, [], ◌∷◌, Option, Some, None, Contains, IfSome, IsSomeAnd, ◌⊎◌, inl, inr, sym, ◌∙◌, arith}
+use Rattle.fond_ast.specs.declared.task.LiftedTask.{LiftedTask}
+use Rattle.fond_edge.specs.declared.shelf.ShelfFile.{ShelfFile}
+use Rattle.fond_edge.specs.Files.{file_of}
+use Rattle.fond_edge.specs.Written.{Appended}
+use Rattle.fond_tool.specs.declared.status.Status.{Status}
+use Rattle.fond_tool.specs.declared.status.Status.TheVariants.{Done, Unsolvable, Undecided, Refused, BadWords, ReadFault, WriteFault, Rejected, Stopped, NoMemory}
+use Rattle.fond_tool.specs.Commands.{Command, Succ, Fits, file_names}
+use Rattle.fond_tool.specs.Outputs.{SuccOutput, TaskOutput, Output}
+use Rattle.fond_tool.specs.Answers.{AreContents, CannotRead, CommandAnswer, Answer, IsWritten, Ends}
+
+-- a status that an answer may have: neither a write fault nor want of memory
+pub record IsTold (status : Status) : Type 0 where
+  pub no_write_fault : status ≡ WriteFault → ⊥
+  pub no_want : status ≡ NoMemory → ⊥
+
+told : (status : Status) (known : Status) → IsTold known → status ≡ known → IsTold status
+told status known is e = record { no_write_fault = λ h. is.no_write_fault (sym e ∙ h); no_want = λ h. is.no_want (sym e ∙ h) }
+
+told_done : IsTold Done
+told_done = record { no_write_fault = λ h. cc; no_want = λ h. cc }
+
+told_refused : IsTold Refused
+told_refused = record { no_write_fault = λ h. cc; no_want = λ h. cc }
+
+told_rejected : IsTold Rejected
+told_rejected = record { no_write_fault = λ h. cc; no_want = λ h. cc }
+
+told_bad_words : IsTold BadWords
+told_bad_words = record { no_write_fault = λ h. cc; no_want = λ h. cc }
+
+told_read_fault : IsTold ReadFault
+told_read_fault = record { no_write_fault = λ h. cc; no_want = λ h. cc }
+
+task_told : (task : LiftedTask) (action text : List ℕ) (status : Status) → TaskOutput task action text status → IsTold status
+task_told task action text status (inl h) = told status Rejected told_rejected h.2
+task_told task action text status (inr h) = told status Done told_done h.4
+
+succ_told : (domain problem action text : List ℕ) (status : Status) → SuccOutput domain problem action text status → IsTold status
+succ_told domain problem action text status (inl h) = told status Refused told_refused h.3
+succ_told domain problem action text status (inr h) = task_told h.0 action text status h.2
+
+output_told : (command : Command) (contents : List (List ℕ)) (text : List ℕ) (status : Status) → Output command contents text status → IsTold status
+output_told (Succ d p action) contents text status h = succ_told h.0 h.1 action text status h.3
+
+command_told : (command : Command) (held : Option (List ShelfFile)) (rose : Type 0) (text : List ℕ) (status : Status) → CommandAnswer command held rose text status → IsTold status
+command_told command held rose text status (inl h) = told status ReadFault told_read_fault h.2
+command_told command held rose text status (inr h) = output_told command h.0 text status h.2
+
+pub answer_told : (words : List (List ℕ)) (held : Option (List ShelfFile)) (rose : Type 0) (text : List ℕ) (status : Status) → Answer words held rose text status → IsTold status
+answer_told words held rose text status (inl h) = told status BadWords told_bad_words h.2
+answer_told words held rose text status (inr h) = command_told h.0 held rose text status h.2
+
+-- how the program ends where the whole text of an answer was written
+pub ends_written : (answer : List ℕ → Status → Type 0) (rose : Type 0) (old new : Option (List ℕ)) (text : List ℕ) (status : Status) → IsTold status → answer text status → Appended old new text → Ends answer rose old new status
+ends_written answer rose old new text Done told given appended = (text, given, appended)
+ends_written answer rose old new text Unsolvable told given appended = (text, given, appended)
+ends_written answer rose old new text Undecided told given appended = (text, given, appended)
+ends_written answer rose old new text Refused told given appended = (text, given, appended)
+ends_written answer rose old new text BadWords told given appended = (text, given, appended)
+ends_written answer rose old new text ReadFault told given appended = (text, given, appended)
+ends_written answer rose old new text WriteFault told given appended = absurd (told.no_write_fault refl)
+ends_written answer rose old new text Rejected told given appended = (text, given, appended)
+ends_written answer rose old new text Stopped told given appended = (text, given, appended)
+ends_written answer rose old new text NoMemory told given appended = absurd (told.no_want refl)
+
+-- a file that is not read, as the one of its list
+pub cannot_read_one : (held : Option (List ShelfFile)) (rose : Type 0) (name : List ℕ) → rose ⊎ IsSomeAnd held (λ files. file_of files name ≡ None) → CannotRead held rose (name ∷ [])
+cannot_read_one held rose name (inl h) = inl h
+cannot_read_one held rose name (inr h) = inr (name, (0, omega arith, refl), h)

@@ -1,0 +1,5 @@
+mod ActionTrees
+mod Ends
+mod Found
+mod Results
+mod Tasks

@@ -1,0 +1,17 @@
+-- The numbers of the statuses.
+use Rattle.std.specs.Prelude.{ℕ}
+use Rattle.fond_tool.specs.declared.status.Status.{Status}
+use Rattle.fond_tool.specs.declared.status.Status.TheVariants.{Done, Unsolvable, Undecided, Refused, BadWords, ReadFault, WriteFault, Rejected, Stopped, NoMemory}
+
+-- the number with which the program ends
+abbrev pub number_of : Status → ℕ
+number_of Done = 0
+number_of Unsolvable = 1
+number_of Undecided = 2
+number_of Refused = 3
+number_of BadWords = 4
+number_of ReadFault = 5
+number_of WriteFault = 6
+number_of Rejected = 7
+number_of Stopped = 8
+number_of NoMemory = 9

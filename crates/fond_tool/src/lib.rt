@@ -1,0 +1,9 @@
+//! The whole tool as one call: from the words of the command line, through the files that they name, to the
+//! text that is written and the status. Each stage of its work is a stage of one definition.
+#![tactic(auto)]
+
+pub mod action;
+pub mod answer;
+pub mod status;
+pub mod task;
+pub mod tool;

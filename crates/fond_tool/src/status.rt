@@ -1,0 +1,49 @@
+//! How the tool ends.
+
+ghost use Rattle.fond_tool.specs.Numbers.{number_of};
+ghost use Rattle.std.specs.Prelude.{◌≡◌};
+
+/// How the tool ended, in the order of the numbers.
+#[derive(Clone, Copy, Debug, PartialEq, Eq)]
+pub enum Status {
+    /// The job's answer was written.
+    Done,
+    /// No policy is a solution.
+    Unsolvable,
+    /// More states than the budget are reachable.
+    Undecided,
+    /// A file has a fault.
+    Refused,
+    /// The words fit no command.
+    BadWords,
+    /// A file was not read.
+    ReadFault,
+    /// Not all of the text was written.
+    WriteFault,
+    /// The certificate, the script or the action is refused.
+    Rejected,
+    /// A run ended in a state that is no goal.
+    Stopped,
+    /// Memory ran out, and nothing was written.
+    NoMemory,
+}
+
+impl Status {
+    /// The number with which the program ends.
+    pub fn number(self) -> u8
+        ensures { result ≡ number_of self }
+    {
+        match self {
+            Status::Done => 0,
+            Status::Unsolvable => 1,
+            Status::Undecided => 2,
+            Status::Refused => 3,
+            Status::BadWords => 4,
+            Status::ReadFault => 5,
+            Status::WriteFault => 6,
+            Status::Rejected => 7,
+            Status::Stopped => 8,
+            Status::NoMemory => 9,
+        }
+    }
+}
