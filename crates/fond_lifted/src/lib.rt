@@ -2,4 +2,6 @@
 //! text of its successors. It serves until tasks are grounded.
 #![tactic(auto)]
 
+mod outcome;
 pub mod succ;
+mod values;

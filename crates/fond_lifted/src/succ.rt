@@ -1,24 +1,84 @@
 //! The successors of the initial state by one action.
 
-ghost use Rattle.fond_lifted.specs.Texts.{successors_text};
+ghost use Rattle.fond_lifted.specs.Outcomes.{change_of};
+ghost use Rattle.fond_lifted.specs.Texts.{Grew, atom_line, state_text, successors_text};
+ghost use Rattle.fond_lifted.specs.Values.{state_of, distinct_values};
 ghost use Rattle.fond_meaning.specs.Conditions.{holds};
+ghost use Rattle.fond_meaning.specs.Effects.{after};
 ghost use Rattle.fond_meaning.specs.Successors.{initial};
-ghost use Rattle.std.specs.Prelude.{◌≡◌, ◌++◌, IfOk, OnOk, OnErr, Contains};
+ghost use Rattle.std.specs.Prelude.{◌≡◌, ◌&&◌, [], ◌++◌, if◌then◌else◌, length, map, IfOk, OnOk, OnErr, Contains};
+ghost use Rattle.std.specs.List.{flat_map};
 
-use fond_ast::task::{LSchema, LiftedTask};
+use crate::outcome::{Outcome, outcomes};
+use crate::values::{initial_values, is_true, next_values, value};
+use fond_ast::task::{LPredicate, LPredicates, LSchema, LiftedTask};
 use fond_text::fault::NoMemory;
+use indexmap::IndexSet;
 use std::alloc::Global;
 
 /// Whether the action is applicable in the initial state.
-pub fn is_applicable(
-    alloc: Global,
-    task: &LiftedTask,
-    schema: &LSchema,
-) -> Result<bool, NoMemory>
+pub fn is_applicable(alloc: Global, task: &LiftedTask, schema: &LSchema) -> Result<bool, NoMemory>
     requires { Contains task.now.schemas schema.now }
     ensures { IfOk result (λ answer. answer ≡ holds (initial task.now) schema.now.pre) }
 {
-    Err(NoMemory)
+    let values = initial_values(alloc, task)?;
+    Ok(is_true(&values, &schema.pre))
+}
+
+/// The values after each outcome, each once.
+fn distinct_states(
+    alloc: Global,
+    values: &[bool],
+    all: &[Outcome],
+) -> Result<IndexSet<Vec<bool>>, NoMemory>
+    ensures { IfOk result (λ s. map (λ v. v.items) s.keys ≡ distinct_values (length values.now) (map (after (state_of values.now)) (map change_of all.now))) }
+{
+    let mut states = IndexSet::new(alloc);
+    for outcome in all {
+        states.insert(next_values(alloc, values, outcome)?)?;
+    }
+    Ok(states)
+}
+
+/// Puts the line of a predicate's atom where it is fluent and true.
+fn put_atom(out: &mut Vec<u8>, predicate: &LPredicate, is_true: bool) -> Result<(), NoMemory>
+    ensures ok { OnOk result (out.new.items ≡ out.old.items ++ (if predicate.now.fluent && is_true then atom_line predicate.now else [])) }
+    ensures grew { Grew out.old.items out.new.items }
+{
+    if !predicate.fluent || !is_true {
+        return Ok(());
+    }
+    out.extend_from_slice(b"(")?;
+    out.extend_from_slice(predicate.name.bytes())?;
+    out.extend_from_slice(b")\n")?;
+    Ok(())
+}
+
+/// Puts the text of a state.
+fn put_state(out: &mut Vec<u8>, predicates: &LPredicates, values: &[bool]) -> Result<(), NoMemory>
+    ensures ok { OnOk result (out.new.items ≡ out.old.items ++ state_text predicates.now (state_of values.now)) }
+    ensures grew { Grew out.old.items out.new.items }
+{
+    out.extend_from_slice(b"state\n")?;
+    for i in 0..predicates.len() {
+        put_atom(out, predicates.get(i), value(values, i))?;
+    }
+    Ok(())
+}
+
+/// Puts the texts of states, one after the other.
+fn put_states(
+    out: &mut Vec<u8>,
+    predicates: &LPredicates,
+    states: &[Vec<bool>],
+) -> Result<(), NoMemory>
+    ensures ok { OnOk result (out.new.items ≡ out.old.items ++ flat_map (λ v. state_text predicates.now (state_of v.items)) states.now) }
+    ensures grew { Grew out.old.items out.new.items }
+{
+    for values in states {
+        put_state(out, predicates, values)?;
+    }
+    Ok(())
 }
 
 /// Appends each distinct state that comes next, in the order of the first outcome that gives it.
@@ -32,5 +92,15 @@ pub fn put_successors(
     ensures ok { OnOk result (out.new.items ≡ out.old.items ++ successors_text task.now schema.now) }
     ensures err { OnErr result (out.new.items ≡ out.old.items) }
 {
-    Err(NoMemory)
+    let values = initial_values(alloc, task)?;
+    let all = outcomes(alloc, &schema.effect)?;
+    let states = distinct_states(alloc, &values, &all)?;
+    let before = out.len();
+    match put_states(out, &task.predicates, states.as_slice()) {
+        Ok(()) => Ok(()),
+        Err(e) => {
+            out.truncate(before);
+            Err(e)
+        }
+    }
 }

@@ -1,5 +1,5 @@
 -- Which conditions hold in a state.
-use Rattle.std.specs.Prelude.{Bool, true, List, []}
+use Rattle.std.specs.Prelude.{Bool, true, []}
 use Rattle.std.specs.List.{list_all}
 use Rattle.fond_text.specs.declared.ground.Atom.{Atom}
 use Rattle.fond_ast.specs.declared.form.LAtom.{LAtom}

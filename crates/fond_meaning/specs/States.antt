@@ -1,5 +1,5 @@
 -- Sets of ground atoms, and states.
-use Rattle.std.specs.Prelude.{ℕ, ◌==◌, ◌&&◌, ◌||◌, List, Bool, false, not}
+use Rattle.std.specs.Prelude.{◌==◌, ◌&&◌, ◌||◌, List, Bool, false}
 use Rattle.std.specs.List.{list_any}
 use Rattle.std.specs.Str.{bytes_eq}
 use Rattle.fond_text.specs.declared.ground.Atom.{Atom}

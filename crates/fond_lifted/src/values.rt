@@ -1,0 +1,79 @@
+//! States as one truth value of each predicate.
+
+ghost use Rattle.fond_lifted.specs.Outcomes.{atoms_with, change_of};
+ghost use Rattle.fond_lifted.specs.Values.{state_of, values_of};
+ghost use Rattle.fond_meaning.specs.Conditions.{holds};
+ghost use Rattle.fond_meaning.specs.Effects.{after};
+ghost use Rattle.fond_meaning.specs.Successors.{initial, atom_of_number};
+ghost use Rattle.std.specs.Prelude.{◌≡◌, ◌<◌, ℕ, false, length, slice_index_or, IfOk, if◌then◌else◌};
+
+use crate::outcome::{Literal, Outcome};
+use fond_ast::form::LCond;
+use fond_ast::task::LiftedTask;
+use fond_text::fault::NoMemory;
+use std::alloc::Global;
+
+/// The values of the initial state.
+pub(crate) fn initial_values(alloc: Global, task: &LiftedTask) -> Result<Vec<bool>, NoMemory>
+    ensures { IfOk result (λ v. v.items ≡ values_of (length task.now.predicates) (initial task.now)) }
+{
+    let mut values = vec![in alloc; false; task.predicates.len()]?;
+    for i in 0..task.init.len() {
+        let number = task.init.get(i).predicate;
+        values[number as usize] = true;
+    }
+    Ok(values)
+}
+
+/// The value of this number. Where there is none it is false, as is what a state does not say.
+pub(crate) fn value(values: &[bool], number: usize) -> bool
+    ensures { result ≡ slice_index_or values.now number false }
+{
+    values.get(number).copied().unwrap_or(false)
+}
+
+/// Whether a condition holds.
+pub(crate) fn is_true(values: &[bool], condition: &LCond) -> bool
+    ensures { result ≡ holds (state_of values.now) condition.now }
+{
+    match condition {
+        LCond::Truth => true,
+        LCond::Holds(atom) => value(values, atom.predicate as usize),
+        LCond::And(parts) => {
+            let mut all = true;
+            for part in parts {
+                all = all && is_true(values, part);
+            }
+            all
+        }
+    }
+}
+
+/// Makes the literals of this sign true: their atoms get the sign as their value.
+fn put(values: &mut Vec<bool>, literals: &[Literal], is_added: bool)
+    ensures same_length { length values.new.items ≡ length values.old.items }
+    ensures put { (k : ℕ) → k < length values.old.items → slice_index_or values.new.items k false
+        ≡ (if atoms_with is_added literals.now (atom_of_number k) then is_added else slice_index_or values.old.items k false) }
+{
+    for literal in literals {
+        let number = literal.predicate as usize;
+        if literal.is_added == is_added && number < values.len() {
+            values[number] = is_added;
+        }
+    }
+}
+
+/// The values after an outcome. Deleted atoms come first, so that an add wins.
+pub(crate) fn next_values(
+    alloc: Global,
+    values: &[bool],
+    outcome: &Outcome,
+) -> Result<Vec<bool>, NoMemory>
+    ensures { IfOk result (λ v. v.items ≡ values_of (length values.now) (after (state_of values.now) (change_of outcome.now))) }
+{
+    let mut next = Vec::from_slice(alloc, values)?;
+    let literals = outcome.literals();
+    put(&mut next, literals, false);
+    put(&mut next, literals, true);
+    Ok(next)
+}
