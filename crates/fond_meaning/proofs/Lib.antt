@@ -1,1 +1,3 @@
 pub mod Choices
+pub mod Given
+pub mod Members
