@@ -1,5 +1,5 @@
 -- The choices of an effect are the changes that it may give.
-use Rattle.std.proofs.Common.{◌≡◌, ◌⊎◌, inl, inr, List, [], ◌∷◌, map, sym, subst}
+use Rattle.std.proofs.Common.{◌≡◌, inl, inr, [], ◌∷◌, map, sym, subst}
 use Rattle.std.specs.List.{flat_map}
 use Rattle.fond_ast.specs.declared.form.LEffect.{LEffect, Nothing, Add, Delete, And', OneOf', Row_of-LEffect, end_of-LEffect, more_of-LEffect}
 use Rattle.fond_ast.specs.declared.form.LEffect.TheBlock.{items-the_row-LEffect}
@@ -14,7 +14,7 @@ one c change (inl e) = e
 one c change (inr h) = absurd h
 
 mutual
-  given : (effect : LEffect) (change : Change) → Gives effect change → Member (choices effect) change
+  pub given : (effect : LEffect) (change : Change) → Gives effect change → Member (choices effect) change
   given Nothing change g = subst (λ cs. Member cs change) (sym choices-Nothing) (inl g)
   given (Add atom) change g = subst (λ cs. Member cs change) (sym (choices-Add atom)) (inl g)
   given (Delete atom) change g = subst (λ cs. Member cs change) (sym (choices-Delete atom)) (inl g)
@@ -33,7 +33,7 @@ mutual
   given-some (more_of-LEffect part rest) change (inr g) = Member-right (choices part) _ change (given-some rest change g)
 
 mutual
-  gives : (effect : LEffect) (change : Change) → Member (choices effect) change → Gives effect change
+  pub gives : (effect : LEffect) (change : Change) → Member (choices effect) change → Gives effect change
   gives Nothing change m = one no_change change (subst (λ cs. Member cs change) choices-Nothing m)
   gives (Add atom) change m = one _ change (subst (λ cs. Member cs change) (choices-Add atom) m)
   gives (Delete atom) change m = one _ change (subst (λ cs. Member cs change) (choices-Delete atom) m)

@@ -1,3 +1,5 @@
 pub mod Choices
+pub mod Come
 pub mod Given
 pub mod Members
+pub mod Quiet
