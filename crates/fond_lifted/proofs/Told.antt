@@ -21,7 +21,8 @@ use Rattle.fond_meaning.specs.Choices.{choices}
 use Rattle.fond_meaning.specs.Successors.{initial, atom_of_number, is_same, is_same_state, successors}
 use Rattle.fond_lifted.specs.declared.outcome.Literal.{Literal}
 use Rattle.fond_lifted.specs.Outcomes.{change_of}
-use Rattle.fond_lifted.specs.Texts.{Grew, atom_line, state_text, successors_text}
+use Rattle.fond_lifted.specs.Lists.{Grew}
+use Rattle.fond_lifted.specs.Texts.{atom_line, state_text, successors_text}
 use Rattle.fond_lifted.specs.Values.{state_of, values_of, add_values, distinct_values}
 use Rattle.fond_lifted.proofs.Truths.{and_true}
 use Rattle.fond_lifted.proofs.Changes.{drop_more}

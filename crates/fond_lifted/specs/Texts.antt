@@ -1,5 +1,5 @@
 -- How states are told.
-use Rattle.std.specs.Prelude.{◌≡◌, ℕ, ◌&&◌, List, [], ◌++◌, codes, if◌then◌else◌}
+use Rattle.std.specs.Prelude.{ℕ, ◌&&◌, List, [], ◌++◌, codes, if◌then◌else◌}
 use Rattle.std.specs.List.{flat_map, enumerate_from}
 use Rattle.fond_ast.specs.declared.task.LPredicate.{LPredicate}
 use Rattle.fond_ast.specs.declared.task.LSchema.{LSchema}
@@ -19,7 +19,3 @@ state_text predicates state =
 -- the successors of the initial state, one after the other
 abbrev pub successors_text : LiftedTask → LSchema → List ℕ
 successors_text task schema = flat_map (state_text task.predicates) (successors task schema (initial task))
-
--- a list with others behind it
-abbrev pub Grew : List ℕ → List ℕ → Type 0
-Grew old new = (more : List ℕ) × (new ≡ old ++ more)

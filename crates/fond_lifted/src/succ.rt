@@ -1,7 +1,8 @@
 //! The successors of the initial state by one action.
 
 ghost use Rattle.fond_lifted.specs.Outcomes.{change_of};
-ghost use Rattle.fond_lifted.specs.Texts.{Grew, atom_line, state_text, successors_text};
+ghost use Rattle.fond_lifted.specs.Lists.{Grew};
+ghost use Rattle.fond_lifted.specs.Texts.{atom_line, state_text, successors_text};
 ghost use Rattle.fond_lifted.specs.Values.{state_of, distinct_values};
 ghost use Rattle.fond_meaning.specs.Conditions.{holds};
 ghost use Rattle.fond_meaning.specs.Effects.{after};

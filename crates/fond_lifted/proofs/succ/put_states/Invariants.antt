@@ -1,6 +1,7 @@
 use Rattle.std.proofs.Common.{◌≡◌, ◌++◌, drop}
 use Rattle.std.specs.List.{flat_map}
-use Rattle.fond_lifted.specs.Texts.{Grew, state_text}
+use Rattle.fond_lifted.specs.Lists.{Grew}
+use Rattle.fond_lifted.specs.Texts.{state_text}
 use Rattle.fond_lifted.specs.Values.{state_of}
 use Rattle.fond_lifted.proofs.succ.put_states.Given as goal
 
