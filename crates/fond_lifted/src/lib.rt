@@ -4,4 +4,6 @@
 
 mod outcome;
 pub mod succ;
+#[cfg(test)]
+mod tests;
 mod values;
