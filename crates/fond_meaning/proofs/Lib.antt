@@ -3,3 +3,4 @@ pub mod Come
 pub mod Given
 pub mod Members
 pub mod Quiet
+pub mod Worked
