@@ -2,9 +2,9 @@
 
 ghost use Rattle.fond_edge.specs.Faults.{Rose};
 ghost use Rattle.fond_tool.specs.Answers.{AreContents, CannotRead, CommandAnswer, Answer as AnswerTo, Ends};
-ghost use Rattle.fond_tool.specs.Commands.{Succ};
+ghost use Rattle.fond_tool.specs.Commands.{Command, Succ, Fits};
 ghost use Rattle.fond_tree.specs.Spelling.{IsReadAs};
-ghost use Rattle.std.specs.Prelude.{◌≡◌, ◌≤◌, [], ◌∷◌, IfOk, IsErrOf};
+ghost use Rattle.std.specs.Prelude.{◌≡◌, ◌≢◌, ◌≤◌, [], ◌∷◌, codes, IfOk, IfSome, IfNone, IsErrOf};
 
 use crate::action::read_action;
 use crate::answer::{Answer, line, succ_answer};
@@ -80,21 +80,51 @@ fn fetch_and_answer<S: Shelf>(
     }
 }
 
+/// The words of `succ`.
+#[derive(Clone, Copy)]
+struct SuccWords<'a> {
+    domain: &'a Word,
+    problem: &'a Word,
+    action: &'a Word,
+}
+
+/// The words of `succ` by their table, but for what the action word spells.
+fn succ_words(words: &[Word]) -> Option<SuccWords<'_>>
+    ensures some { IfSome result (λ given. words.now ≡ codes "succ" ∷ given.domain.now ∷ given.problem.now ∷ given.action.now ∷ []) }
+    ensures domain { IfSome result (λ given. given.domain.now ≢ []) }
+    ensures problem { IfSome result (λ given. given.problem.now ≢ []) }
+    ensures none { IfNone result ((command : Command) → Fits words.now command → ⊥) }
+{
+    let [command, domain, problem, action] = words else {
+        return None;
+    };
+    if !is_same(command.bytes(), b"succ") {
+        return None;
+    }
+    if domain.bytes().is_empty() || problem.bytes().is_empty() {
+        return None;
+    }
+    Some(SuccWords {
+        domain,
+        problem,
+        action,
+    })
+}
+
 /// The answer to the words of the command line.
 fn answer<S: Shelf>(alloc: Global, words: &[Word], shelf: &mut S) -> Result<Answer, NoMemory>
     ensures answered { IfOk result (λ answer. AnswerTo words.now (S.held shelf.old) (Rose (S.faults shelf.old) (S.faults shelf.new)) answer.text.items answer.status) }
+    ensures unfetched { ((command : Command) → Fits words.now command → ⊥) → shelf.new ≡ shelf.old }
     ensures kept { S.held shelf.new ≡ S.held shelf.old }
     ensures counted { S.faults shelf.old ≤ S.faults shelf.new }
 {
-    if let [command, domain, problem, word] = words
-        && is_same(command.bytes(), b"succ")
-        && !domain.bytes().is_empty()
-        && !problem.bytes().is_empty()
-        && let Some(action) = read_action(alloc, word)?
-    {
-        return fetch_and_answer(alloc, shelf, domain, problem, word, &action);
-    }
-    line(alloc, b"bad words", Status::BadWords)
+    let Some(given) = succ_words(words) else {
+        return line(alloc, b"bad words", Status::BadWords);
+    };
+    let Some(action) = read_action(alloc, given.action)? else {
+        return line(alloc, b"bad words", Status::BadWords);
+    };
+    fetch_and_answer(alloc, shelf, given.domain, given.problem, given.action, &action)
 }
 
 /// Does what the words ask, writes the answer to the sink, and says how it ended. docs/COMMANDS.md lists the
@@ -110,6 +140,10 @@ pub fn run_tool<S: Shelf, K: Sink>(
 ) -> Status
     // The text and the status are those of the answer to the words, from the bytes of the files that they name.
     ensures ends { Ends (AnswerTo words.now (S.held shelf.old) (Rose (S.faults shelf.old) (S.faults shelf.new))) (Rose (K.faults sink.old) (K.faults sink.new)) (K.written sink.old) (K.written sink.new) result }
+
+    // Nothing is fetched for words that fit no command, and nothing is written where memory ran out.
+    ensures unfetched { ((command : Command) → Fits words.now command → ⊥) → shelf.new ≡ shelf.old }
+    ensures unwritten { result ≡ Status.NoMemory → sink.new ≡ sink.old }
 
     ensures kept { S.held shelf.new ≡ S.held shelf.old }
     ensures shelf_counted { S.faults shelf.old ≤ S.faults shelf.new }

@@ -1,0 +1,2 @@
+(define (domain coin) (:predicates (heads))
+(:action flip :effect (oneof (heads) (and))))

@@ -1,0 +1,5 @@
+//! Worked examples of the whole tool, from words and files to text and status. It holds tests and nothing else.
+#![tactic(auto)]
+
+#[cfg(test)]
+mod tests;

@@ -1,0 +1,177 @@
+use fond_edge::lists::{Calls, ShelfFiles};
+use fond_edge::memory_shelf::MemoryShelf;
+use fond_edge::memory_sink::MemorySink;
+use fond_edge::shelf::ShelfFile;
+use fond_text::bytes::Bytes;
+use fond_text::word::Word;
+use fond_tool::tool::run_tool;
+use std::alloc::Global;
+use std::test::Fail;
+
+const COIN: &str =
+    "(define (domain coin) (:predicates (heads))\n(:action flip :effect (oneof (heads) (and))))\n";
+
+const COIN_P: &str = "(define (problem c) (:domain coin) (:goal (heads)))\n";
+
+const WON_P: &str = "(define (problem w) (:domain coin) (:init (heads)) (:goal (heads)))\n";
+
+const IDLE: &str =
+    "(define (domain idle) (:predicates (p) (g))\n(:action go :precondition (p) :effect (g)))\n";
+
+const IDLE_P: &str = "(define (problem i) (:domain idle) (:goal (g)))\n";
+
+const BOTH: &str =
+    "(define (domain both) (:predicates (p))\n(:action a :effect (and (p) (not (p)))))\n";
+
+const BOTH_P: &str = "(define (problem b) (:domain both) (:goal (p)))\n";
+
+/// What a call of the tool answered.
+#[derive(Drop)]
+struct Told {
+    status: u8,
+    text: Bytes,
+}
+
+fn put(alloc: Global, files: &mut ShelfFiles, name: &str, text: &str) -> Result<(), Fail> {
+    let name = Word::copy(alloc, name.as_bytes()).map_err(|_| "name")?;
+    let bytes = Bytes::copy(alloc, text.as_bytes()).map_err(|_| "text")?;
+    files.push(ShelfFile { name, bytes }).map_err(|_| "file")?;
+    Ok(())
+}
+
+fn shelf(alloc: Global, failing: Option<u64>) -> Result<MemoryShelf, Fail> {
+    let mut files = ShelfFiles::new(alloc);
+    put(alloc, &mut files, "coin.d", COIN)?;
+    put(alloc, &mut files, "coin.p", COIN_P)?;
+    put(alloc, &mut files, "won.p", WON_P)?;
+    put(alloc, &mut files, "idle.d", IDLE)?;
+    put(alloc, &mut files, "idle.p", IDLE_P)?;
+    put(alloc, &mut files, "both.d", BOTH)?;
+    put(alloc, &mut files, "both.p", BOTH_P)?;
+    put(alloc, &mut files, "empty.d", "")?;
+    let mut calls = Calls::new(alloc);
+    if let Some(call) = failing {
+        calls.push(call).map_err(|_| "call")?;
+    }
+    Ok(MemoryShelf::new(files, calls))
+}
+
+fn words(alloc: Global, line: &[&str]) -> Result<Vec<Word>, Fail> {
+    let mut words = Vec::new(alloc);
+    for word in line {
+        words.push(Word::copy(alloc, word.as_bytes()).map_err(|_| "word")?)?;
+    }
+    Ok(words)
+}
+
+/// The answer to these words where the numbered read and the numbered write fail.
+fn run_line(
+    alloc: Global,
+    line: &[&str],
+    bad_read: Option<u64>,
+    bad_write: Option<u64>,
+) -> Result<Told, Fail> {
+    let words = words(alloc, line)?;
+    let mut shelf = shelf(alloc, bad_read)?;
+    let mut calls = Calls::new(alloc);
+    if let Some(call) = bad_write {
+        calls.push(call).map_err(|_| "call")?;
+    }
+    let mut sink = MemorySink::new(alloc, 4096, 7, calls).map_err(|_| "sink")?;
+    let status = run_tool(alloc, &words, &mut shelf, &mut sink).number();
+    let text = Bytes::copy(alloc, sink.bytes()).map_err(|_| "text")?;
+    Ok(Told { status, text })
+}
+
+#[test]
+fn worked_examples(rt: HostRuntime) -> Result<(), Fail> {
+    let table = [
+        (
+            "coin",
+            ["succ", "coin.d", "coin.p", "(flip)"],
+            0,
+            "applicable yes\nstate\n(heads)\nstate\n",
+        ),
+        (
+            "both outcomes give one state",
+            ["succ", "coin.d", "won.p", "(flip)"],
+            0,
+            "applicable yes\nstate\n(heads)\n",
+        ),
+        (
+            "an add wins",
+            ["succ", "both.d", "both.p", "(a)"],
+            0,
+            "applicable yes\nstate\n(p)\n",
+        ),
+        (
+            "a false precondition",
+            ["succ", "idle.d", "idle.p", "(go)"],
+            0,
+            "applicable no\n",
+        ),
+        (
+            "no such action",
+            ["succ", "coin.d", "coin.p", "(spin)"],
+            7,
+            "rejected C3 at 0\n",
+        ),
+        (
+            "an empty domain",
+            ["succ", "empty.d", "coin.p", "(flip)"],
+            3,
+            "refused domain 1 1 F24\n",
+        ),
+        (
+            "a problem of another domain",
+            ["succ", "idle.d", "coin.p", "(go)"],
+            3,
+            "refused problem 1 1 F24\n",
+        ),
+        (
+            "a file that is not held",
+            ["succ", "coin.d", "gone.p", "(flip)"],
+            5,
+            "read fault\n",
+        ),
+        (
+            "an action that is a leaf",
+            ["succ", "coin.d", "coin.p", "flip"],
+            4,
+            "bad words\n",
+        ),
+        (
+            "capitals and blanks in an action",
+            ["succ", "coin.d", "coin.p", " ( FLIP ) "],
+            0,
+            "applicable yes\nstate\n(heads)\nstate\n",
+        ),
+        (
+            "an empty file name",
+            ["succ", "coin.d", "", "(flip)"],
+            4,
+            "bad words\n",
+        ),
+    ];
+    for (name, line, status, text) in table {
+        let told = run_line(rt.alloc(), &line, None, None)?;
+        assert_eq!(rt; told.status, status, "{name}");
+        assert_eq!(rt; told.text.as_slice(), text.as_bytes(), "{name}");
+    }
+    Ok(())
+}
+
+#[test]
+fn faults_of_the_outside(rt: HostRuntime) -> Result<(), Fail> {
+    let line = ["succ", "coin.d", "coin.p", "(flip)"];
+    let first_write = run_line(rt.alloc(), &line, None, Some(0))?;
+    assert_eq!(rt; first_write.status, 6);
+    assert_eq!(rt; first_write.text.len(), 0);
+    let third_write = run_line(rt.alloc(), &line, None, Some(2))?;
+    assert_eq!(rt; third_write.status, 6);
+    assert_eq!(rt; third_write.text.as_slice(), b"applicable yes".as_slice());
+    let second_read = run_line(rt.alloc(), &line, Some(1), None)?;
+    assert_eq!(rt; second_read.status, 5);
+    assert_eq!(rt; second_read.text.as_slice(), b"read fault\n".as_slice());
+    Ok(())
+}

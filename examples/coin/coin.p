@@ -1,0 +1,1 @@
+(define (problem c) (:domain coin) (:goal (heads)))
