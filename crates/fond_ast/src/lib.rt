@@ -3,3 +3,5 @@
 
 pub mod form;
 pub mod task;
+#[cfg(test)]
+mod tests;
