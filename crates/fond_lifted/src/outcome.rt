@@ -138,7 +138,8 @@ fn joined(alloc: Global, first: Vec<Outcome>, second: &[Outcome]) -> Result<Vec<
 }
 
 /// The outcomes of an effect, in order: the last member of a conjunction varies fastest, and a choice has
-/// those of its members one after the other. Takes time and memory by the sum of their lengths.
+/// those of its members one after the other. Takes memory by the sum of their lengths, and time by that sum
+/// for each level of nesting.
 pub(crate) fn outcomes(alloc: Global, effect: &LEffect) -> Result<Vec<Outcome>, NoMemory>
     ensures { IfOk result (λ v. map change_of v.items ≡ choices effect.now) }
 {

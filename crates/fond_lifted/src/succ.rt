@@ -26,7 +26,8 @@ pub fn is_applicable(alloc: Global, task: &LiftedTask, schema: &LSchema) -> Resu
     Ok(is_true(&values, &schema.pre))
 }
 
-/// The values after each outcome, each once.
+/// The values after each outcome, each once. A hash tells whether a state came before, so the time is that
+/// of making the states.
 fn distinct_states(
     alloc: Global,
     values: &[bool],
@@ -82,7 +83,8 @@ fn put_states(
     Ok(())
 }
 
-/// Appends each distinct state that comes next, in the order of the first outcome that gives it.
+/// Appends each distinct state that comes next, in the order of the first outcome that gives it. Keeps all
+/// outcomes and, for each distinct state, one value of each predicate.
 pub fn put_successors(
     alloc: Global,
     task: &LiftedTask,
