@@ -1,5 +1,5 @@
--- Conditions and effects whose numbers all name predicates.
-use Rattle.std.specs.Prelude.{ℕ, ◌==◌, ◌&&◌, nat_lt, Bool, true, length}
+-- Conditions and effects whose numbers all name predicates, and whose choices have members.
+use Rattle.std.specs.Prelude.{ℕ, ◌==◌, ◌&&◌, nat_lt, Bool, true, not, length}
 use Rattle.std.specs.List.{list_all}
 use Rattle.fond_text.specs.declared.ground.Atom.{Atom}
 use Rattle.fond_ast.specs.declared.form.LCond.{LCond}
@@ -24,9 +24,9 @@ effect_within_step count effect.Nothing = true
 effect_within_step count (effect.Add atom) = nat_lt atom.predicate count
 effect_within_step count (effect.Delete atom) = nat_lt atom.predicate count
 effect_within_step count (effect.And parts) = list_all (λ part. part) parts.items
-effect_within_step count (effect.OneOf parts) = list_all (λ part. part) parts.items
+effect_within_step count (effect.OneOf parts) = not (length parts.items == 0) && list_all (λ part. part) parts.items
 
--- so is each atom of an effect
+-- so is each atom of an effect, and each choice in it has a member
 abbrev pub is_effect_within : ℕ → LEffect → Bool
 is_effect_within count = fold-LEffect Bool (effect_within_step count)
 

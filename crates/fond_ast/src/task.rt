@@ -133,7 +133,7 @@ impl LSchemas {
 }
 
 /// A task: its predicates and schemas, the atoms that are true at first, and the goal. Every number in it
-/// names a predicate.
+/// names a predicate, and every choice in an effect has a member.
 #[derive(Drop)]
 pub struct LiftedTask {
     pub predicates: LPredicates,

@@ -1,5 +1,5 @@
 -- An effect whose atoms are all of declared predicates changes no other atom.
-use Rattle.std.proofs.Common.{◌≡◌, ℕ, ◌∙◌, ◌&&◌, ◌||◌, Bool, true, false, List, [], ◌∷◌, length, map, nat_lt, inl, inr, refl, sym, ap, arith}
+use Rattle.std.proofs.Common.{◌≡◌, ℕ, ◌∙◌, ◌&&◌, ◌||◌, Bool, true, false, not, List, [], ◌∷◌, length, map, nat_lt, inl, inr, refl, sym, ap, arith}
 use Rattle.std.specs.Prelude.{◌==◌}
 use Rattle.std.specs.Str.{bytes_eq}
 use Rattle.std.specs.List.{list_all}
@@ -26,10 +26,10 @@ within-And' count shape row =
     fold_out-LEffect Bool (effect_within_step count) (And' shape row) ∙ ap (λ layer. effect_within_step count (map-LEffect LEffect Bool (is_effect_within count) layer)) (outs-And' shape row)
     ∙ ap (λ parts. list_all (λ part. part) (map (is_effect_within count) parts)) (items_shown-the_row-LEffect-0 shape row)
 
-within-OneOf' : (count : ℕ) (shape : _) (row : Row_of-LEffect _) → is_effect_within count (OneOf' shape row) ≡ list_all (λ part. part) (map (is_effect_within count) (items-the_row-LEffect _ row))
+within-OneOf' : (count : ℕ) (shape : _) (row : Row_of-LEffect _) → is_effect_within count (OneOf' shape row) ≡ (not (length (map (is_effect_within count) (items-the_row-LEffect _ row)) == 0) && list_all (λ part. part) (map (is_effect_within count) (items-the_row-LEffect _ row)))
 within-OneOf' count shape row =
     fold_out-LEffect Bool (effect_within_step count) (OneOf' shape row) ∙ ap (λ layer. effect_within_step count (map-LEffect LEffect Bool (is_effect_within count) layer)) (outs-OneOf' shape row)
-    ∙ ap (λ parts. list_all (λ part. part) (map (is_effect_within count) parts)) (items_shown-the_row-LEffect-0 shape row)
+    ∙ ap (λ parts. not (length (map (is_effect_within count) parts) == 0) && list_all (λ part. part) (map (is_effect_within count) parts)) (items_shown-the_row-LEffect-0 shape row)
 
 pub and_true : (a b : Bool) → (a && b) ≡ true → (a ≡ true) × (b ≡ true)
 and_true true b h = (refl, h)
@@ -70,7 +70,7 @@ module _ (count : ℕ) (atom : Atom) (out : is_atom_within count atom ≡ false)
     quiet (Delete literal) change within g =
         quiet-along _ change atom g (record { kept = apart atom.predicate literal.predicate count atom.objects (sym (within-Delete count literal) ∙ within) out; left = refl })
     quiet (And' shape row) change within g = quiet-each row change (sym (within-And' count shape row) ∙ within) g
-    quiet (OneOf' shape row) change within g = quiet-some row change (sym (within-OneOf' count shape row) ∙ within) g
+    quiet (OneOf' shape row) change within g = quiet-some row change (and_true _ _ (sym (within-OneOf' count shape row) ∙ within)).1 g
 
     quiet-each : {m : _} (row : Row_of-LEffect m) (change : Change) → list_all (λ part. part) (map (is_effect_within count) (items-the_row-LEffect m row)) ≡ true → GivesEach row change → IsQuiet change atom
     quiet-each end_of-LEffect change within g = quiet-along no_change change atom g (record { kept = refl; left = refl })

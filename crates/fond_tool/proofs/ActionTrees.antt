@@ -1,8 +1,7 @@
 -- What the tokens of a tree say of it: whether it is a node of leaves, and whether it is a name alone.
-use Rattle.std.proofs.Common.{◌≡◌, ℕ, ◌+◌, ◌<◌, ◌≤◌, ◌&&◌, ◌||◌, Bool, true, false, not, List, [], ◌∷◌, ◌++◌, length, map, nat_lt, nat_eq, refl, sym, ap, ◌∙◌, Option, Some, None, is_some, ◌⊎◌, inl, inr, arith, length-append, subst}
+use Rattle.std.proofs.Common.{◌≡◌, ℕ, ◌≤◌, ◌&&◌, ◌||◌, Bool, true, false, not, List, [], ◌∷◌, ◌++◌, length, nat_lt, nat_eq, refl, sym, ap, ◌∙◌, Some, None, is_some, ◌⊎◌, inl, inr, arith, length-append}
 use Rattle.std.specs.List.{flat_map, list_any, list_all}
 use Rattle.std.proofs.lemmas.Bool.Decides.{nat_tests}
-use Rattle.std.proofs.lemmas.Grind.{common_steps}
 use Rattle.std.proofs.lemmas.List.Folds.{flat_map-map}
 use Rattle.fond_text.specs.declared.place.Place.{Place}
 use Rattle.fond_tree.specs.Tokens.{Token, Opens, Closes, Names, Stray, tokens}
@@ -11,7 +10,7 @@ use Rattle.fond_tree.specs.declared.tree.Tree.{Tree, out-Tree}
 use Rattle.fond_tree.specs.declared.tree.Tree.TheOpen.{Tree-F, Leaf, Node}
 use Rattle.fond_tree.specs.declared.tree.Tree.TheFolds.{fold_out-Tree, map-Tree}
 use Rattle.fond_first.specs.Words.{leaf_of, members_of, leaf_step, members_step}
-use Rattle.fond_tool.specs.Commands.{IsAction, are_leaves, is_leaf_node}
+use Rattle.fond_tool.specs.Commands.{IsAction, is_leaf_node}
 
 -- a tree is a leaf of this place and name
 pub record IsLeafTree (tree : Tree) : Type 0 where

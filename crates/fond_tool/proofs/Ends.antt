@@ -1,14 +1,14 @@
 -- Answers that are written, and files that cannot be read.
-use Rattle.std.proofs.Common.{◌≡◌, ℕ, ◌<◌, length, refl, List, [], ◌∷◌, Option, Some, None, Contains, IfSome, IsSomeAnd, ◌⊎◌, inl, inr, sym, ◌∙◌, arith}
+use Rattle.std.proofs.Common.{◌≡◌, ℕ, refl, List, [], ◌∷◌, Option, None, IsSomeAnd, ◌⊎◌, inl, inr, sym, ◌∙◌, arith}
 use Rattle.fond_ast.specs.declared.task.LiftedTask.{LiftedTask}
 use Rattle.fond_edge.specs.declared.shelf.ShelfFile.{ShelfFile}
 use Rattle.fond_edge.specs.Files.{file_of}
 use Rattle.fond_edge.specs.Written.{Appended}
 use Rattle.fond_tool.specs.declared.status.Status.{Status}
 use Rattle.fond_tool.specs.declared.status.Status.TheVariants.{Done, Unsolvable, Undecided, Refused, BadWords, ReadFault, WriteFault, Rejected, Stopped, NoMemory}
-use Rattle.fond_tool.specs.Commands.{Command, Succ, Fits, file_names}
+use Rattle.fond_tool.specs.Commands.{Command, Succ}
 use Rattle.fond_tool.specs.Outputs.{SuccOutput, TaskOutput, Output}
-use Rattle.fond_tool.specs.Answers.{AreContents, CannotRead, CommandAnswer, Answer, IsWritten, Ends}
+use Rattle.fond_tool.specs.Answers.{CannotRead, CommandAnswer, Answer, Ends}
 
 -- a status that an answer may have: neither a write fault nor want of memory
 pub record IsTold (status : Status) : Type 0 where

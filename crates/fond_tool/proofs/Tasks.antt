@@ -1,5 +1,5 @@
 -- A domain and a problem that are read are a task.
-use Rattle.std.proofs.Common.{◌≡◌, ℕ, List, sym, ap, ◌∙◌, subst}
+use Rattle.std.proofs.Common.{◌≡◌, ℕ, List, subst}
 use Rattle.fond_text.specs.declared.ground.Atom.{Atom}
 use Rattle.fond_ast.specs.declared.form.LCond.{LCond}
 use Rattle.fond_ast.specs.declared.task.LPredicate.{LPredicate}

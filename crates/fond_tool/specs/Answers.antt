@@ -1,7 +1,6 @@
 -- What the program answers to the words of the command line, and how it ends.
 use Rattle.std.specs.Prelude.{◌≡◌, ◌⊎◌, ℕ, List, [], ◌∷◌, Contains, Option, Some, None, IfSome, IsSomeAnd, codes}
 use Rattle.fond_edge.specs.declared.shelf.ShelfFile.{ShelfFile}
-use Rattle.fond_edge.specs.Faults.{Rose}
 use Rattle.fond_edge.specs.Files.{file_of}
 use Rattle.fond_edge.specs.Written.{Appended, AppendedPart}
 use Rattle.fond_tool.specs.declared.status.Status.{Status}

@@ -124,7 +124,14 @@ fn answer<S: Shelf>(alloc: Global, words: &[Word], shelf: &mut S) -> Result<Answ
     let Some(action) = read_action(alloc, given.action)? else {
         return line(alloc, b"bad words", Status::BadWords);
     };
-    fetch_and_answer(alloc, shelf, given.domain, given.problem, given.action, &action)
+    fetch_and_answer(
+        alloc,
+        shelf,
+        given.domain,
+        given.problem,
+        given.action,
+        &action,
+    )
 }
 
 /// Does what the words ask, writes the answer to the sink, and says how it ended. docs/COMMANDS.md lists the

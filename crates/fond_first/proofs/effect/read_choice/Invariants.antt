@@ -12,3 +12,4 @@ invariant-loop-member l =
     (flat_map (λ part. part) (map (effect_words l.names) l.parts.items) ++ flat_map (λ part. part) (map words (drop l.member-index l.members)) ≡ flat_map (λ part. part) (map words l.members))
     × (list_all (λ seen. seen.plain) (map (seen_effect l.names) (drop l.member-index l.members)) ≡ list_all (λ seen. seen.plain) (map (seen_effect l.names) l.members))
     × (list_all (λ part. part) (map (is_effect_within (length l.names)) l.parts.items) ≡ true)
+    × (length l.parts.items ≡ l.member-index)

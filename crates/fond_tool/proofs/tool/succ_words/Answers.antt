@@ -1,4 +1,4 @@
-use Rattle.std.proofs.Common.{rules, ◌≡◌, ◌∷◌, [], false, true, ◌∙◌, sym, ap, codes}
+use Rattle.std.proofs.Common.{rules, ◌≡◌, ◌∷◌, [], true, ◌∙◌, ap, codes}
 use Rattle.std.specs.Str.{bytes_eq}
 use Rattle.std.proofs.lemmas.Slice.Eq.{bytes_eq-Decides}
 use Rattle.fond_tool.proofs.FourWords.{four_words}
