@@ -12,3 +12,5 @@ pub mod fluent;
 pub mod form;
 pub mod problem;
 pub mod section;
+#[cfg(test)]
+mod tests;
