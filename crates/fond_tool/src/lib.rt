@@ -6,4 +6,6 @@ pub mod action;
 pub mod answer;
 pub mod status;
 pub mod task;
+#[cfg(test)]
+mod tests;
 pub mod tool;
