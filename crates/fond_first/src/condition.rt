@@ -3,7 +3,7 @@
 ghost use Rattle.fond_first.specs.Conditions.{is_declared, is_condition, IsConditionOf};
 ghost use Rattle.fond_first.specs.Words.{is_plain};
 ghost use Rattle.fond_ast.specs.Within.{is_condition_within};
-ghost use Rattle.std.specs.Prelude.{◌≡◌, ◌<◌, ◌^◌, ◌&&◌, true, false, [], length, slice_index_or, IfOk, OnOk, OnErr, IsErrOf};
+ghost use Rattle.std.specs.Prelude.{◌≡◌, ◌<◌, ◌^◌, ◌&&◌, true, false, [], length, slice_index_or, IfOk, IfErr, OnOk, OnErr, IsErrOf};
 
 use crate::form::{FormError, is_plain_name, is_same, number_of};
 use fond_ast::form::{LAtom, LCond};
@@ -39,12 +39,13 @@ pub fn read_condition(alloc: Global, names: &Names, tree: &Tree) -> Result<LCond
     }
 }
 
-/// The atom of the declared predicate of this name, where nothing stands behind the name.
+/// The atom of the declared predicate of this name, where nothing stands behind the name. Takes no memory.
 pub fn read_atom(names: &Names, name: &[u8], alone: bool) -> Result<LAtom, FormError>
     requires { length names.now < 2 ^ 32 }
     ensures read { IfOk result (λ atom. slice_index_or names.now atom.predicate [] ≡ name.now) }
     ensures fits { OnOk result ((is_plain name.now && is_declared names.now name.now && alone) ≡ true) }
     ensures unfit { OnErr result ((is_plain name.now && is_declared names.now name.now && alone) ≡ false) }
+    ensures error { IfErr result (λ error. error ≡ FormError.Unfit) }
     ensures within { IfOk result (λ atom. atom.predicate < length names.now) }
 {
     if !alone || !is_plain_name(name) {

@@ -1,9 +1,10 @@
 //! Lists of names in which each name stands once.
 
+ghost use Rattle.fond_first.specs.Conditions.{is_declared};
 ghost use Rattle.fond_first.specs.Sections.{head_of, declared_also};
 ghost use Rattle.std.specs.List.{filter_map};
 ghost use Rattle.std.specs.Option.{option_copied};
-ghost use Rattle.std.specs.Prelude.{◌≡◌, ◌<◌, ◌^◌, length, fold, OnOk};
+ghost use Rattle.std.specs.Prelude.{◌≡◌, ◌<◌, ◌^◌, false, length, fold, OnOk, OnErr};
 
 use crate::form::number_of;
 use crate::section::members;
@@ -19,6 +20,8 @@ const MOST_NAMES: usize = 4_294_967_295;
 pub fn declare(alloc: Global, names: &mut Names, name: &Name) -> Result<(), NoMemory>
     requires { length names.old < 2 ^ 32 }
     ensures ok { OnOk result (names.new ≡ declared_also names.old name.now) }
+    ensures err { OnErr result (names.new ≡ names.old) }
+    ensures fresh { OnErr result (is_declared names.old name.now ≡ false) }
     ensures few { length names.new < 2 ^ 32 }
 {
     if number_of(names, name.bytes()).is_some() {
@@ -40,7 +43,7 @@ fn head_leaf(tree: &Tree) -> Option<&Name>
     }
 }
 
-/// Declares the names that these trees begin with, in order.
+/// Declares the names that these trees begin with, in order. After an error, those of the first trees are declared.
 pub fn declare_heads(alloc: Global, names: &mut Names, trees: &[Tree]) -> Result<(), NoMemory>
     requires { length names.old < 2 ^ 32 }
     ensures ok { OnOk result (names.new ≡ fold declared_also names.old (filter_map head_of trees.now)) }

@@ -7,7 +7,7 @@ ghost use Rattle.fond_first.specs.Words.{words, enclosed};
 ghost use Rattle.fond_ast.specs.Within.{is_effect_within};
 ghost use Rattle.std.specs.List.{flat_map, list_all};
 ghost use Rattle.std.specs.Str.{bytes_eq};
-ghost use Rattle.std.specs.Prelude.{◌≡◌, ◌<◌, ◌^◌, ◌==◌, ◌&&◌, ◌∷◌, true, false, not, [], slice_index_or, Some, map, codes, length, IfOk, OnOk, OnErr, IsErrOf};
+ghost use Rattle.std.specs.Prelude.{◌≡◌, ◌<◌, ◌^◌, ◌==◌, ◌&&◌, ◌∷◌, true, false, not, [], slice_index_or, Some, map, codes, length, IfOk, IfErr, OnOk, OnErr, IsErrOf};
 
 use crate::condition::read_atom;
 use crate::form::{FormError, is_same};
@@ -16,13 +16,14 @@ use fond_text::name::Names;
 use fond_tree::tree::Tree;
 use std::alloc::Global;
 
-/// The atom that a tree is, over these predicates.
+/// The atom that a tree is, over these predicates. Takes no memory.
 pub fn read_atom_tree(names: &Names, tree: &Tree) -> Result<LAtom, FormError>
     requires { length names.now < 2 ^ 32 }
     ensures read { IfOk result (λ atom. words tree.now ≡ atom_words names.now atom) }
     ensures head { IfOk result (λ atom. head_of tree.now ≡ Some (slice_index_or names.now atom.predicate [])) }
     ensures fits { OnOk result (is_atom_tree names.now tree.now ≡ true) }
     ensures unfit { OnErr result (is_atom_tree names.now tree.now ≡ false) }
+    ensures error { IfErr result (λ error. error ≡ FormError.Unfit) }
     ensures within { IfOk result (λ atom. atom.predicate < length names.now) }
 {
     match tree {
@@ -68,6 +69,7 @@ fn read_literal(names: &Names, head: &[u8], rest: &[Tree]) -> Result<LEffect, Fo
     ensures read { IfOk result (λ effect. enclosed (head.now ∷ flat_map (λ part. part) (map words rest.now)) ≡ effect_words names.now effect) }
     ensures fits { OnOk result (plain_behind names.now (Some head.now) (map (seen_effect names.now) rest.now) ≡ true) }
     ensures unfit { OnErr result (plain_behind names.now (Some head.now) (map (seen_effect names.now) rest.now) ≡ false) }
+    ensures error { IfErr result (λ error. error ≡ FormError.Unfit) }
     ensures within { IfOk result (λ effect. is_effect_within (length names.now) effect ≡ true) }
 {
     if !is_same(head, b"not") {
