@@ -1,4 +1,5 @@
 mod Lists
 mod Names
-mod Repeats
 mod Predicates
+mod Progress
+mod Repeats
