@@ -17,12 +17,14 @@ use fond_text::name::Names;
 use fond_tree::tree::Tree;
 use std::alloc::Global;
 
+/// Whether a tree is a key of an action.
 fn is_action_key(tree: &Tree) -> bool
     ensures { result ≡ is_key tree.now }
 {
     is_leaf(tree, b":parameters") || is_leaf(tree, b":precondition") || is_leaf(tree, b":effect")
 }
 
+/// Whether a list is keys, each with a tree behind it.
 fn are_keys_and_trees(pairs: &[Tree]) -> bool
     ensures { result ≡ are_pairs pairs.now }
 {
@@ -36,6 +38,7 @@ fn are_keys_and_trees(pairs: &[Tree]) -> bool
     true
 }
 
+/// Whether the parameters, where a key gives them, are `()`.
 fn has_no_parameters(pairs: &[Tree]) -> bool
     ensures { result ≡ is_one_or_none is_empty_node (keyed (codes ":parameters") pairs.now) }
 {
@@ -46,6 +49,7 @@ fn has_no_parameters(pairs: &[Tree]) -> bool
     }
 }
 
+/// The condition behind the key of the precondition, or the one that always holds.
 fn read_precondition(alloc: Global, names: &Names, pairs: &[Tree]) -> Result<LCond, FormError>
     requires { length names.now < 2 ^ 32 }
     ensures read { IfOk result (λ condition. first_words (keyed (codes ":precondition") pairs.now) ≡ condition_words names.now condition) }
@@ -60,6 +64,7 @@ fn read_precondition(alloc: Global, names: &Names, pairs: &[Tree]) -> Result<LCo
     }
 }
 
+/// The effect behind the key of the effect, or the one that gives nothing.
 fn read_keyed_effect(alloc: Global, names: &Names, pairs: &[Tree]) -> Result<LEffect, FormError>
     requires { length names.now < 2 ^ 32 }
     ensures read { IfOk result (λ effect. first_words (keyed (codes ":effect") pairs.now) ≡ effect_words names.now effect) }

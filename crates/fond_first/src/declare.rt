@@ -43,7 +43,8 @@ fn head_leaf(tree: &Tree) -> Option<&Name>
     }
 }
 
-/// Declares the names that these trees begin with, in order. After an error, those of the first trees are declared.
+/// Declares the names that these trees begin with, in order. Looks through the names so far at each tree. After
+/// an error, the names of the first trees are declared.
 pub fn declare_heads(alloc: Global, names: &mut Names, trees: &[Tree]) -> Result<(), NoMemory>
     requires { length names.old < 2 ^ 32 }
     ensures ok { OnOk result (names.new ≡ fold declared_also names.old (filter_map head_of trees.now)) }

@@ -27,6 +27,7 @@ pub struct ReadDomain {
     pub schemas: LSchemas,
 }
 
+/// Whether each tree is a predicate without parameters.
 fn are_predicate_trees(trees: &[Tree]) -> bool
     ensures { result ≡ list_all is_predicate trees.now }
 {
@@ -89,6 +90,7 @@ fn are_distinct_actions(alloc: Global, sections: &[Tree]) -> Result<bool, NoMemo
     Ok(names.len() == count)
 }
 
+/// Whether each tree is a section of a domain.
 fn are_sections(sections: &[Tree]) -> bool
     ensures { result ≡ list_all is_domain_section sections.now }
 {
@@ -99,7 +101,8 @@ fn are_sections(sections: &[Tree]) -> bool
     })
 }
 
-/// The domain that a tree is.
+/// The domain that a tree is. Takes time in the number of its words times that of its predicates and actions,
+/// and memory in the size of the tree.
 pub fn read_domain(alloc: Global, file: &Tree) -> Result<ReadDomain, FormError>
     ensures read { IfOk result (λ domain. AreDomainOf (sections_of file.now) domain.predicates domain.schemas) }
     ensures names { IfOk result (λ domain. domain.names ≡ names_of (sections_of file.now)) }

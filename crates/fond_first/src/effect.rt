@@ -63,6 +63,7 @@ pub fn read_plain_effect(alloc: Global, names: &Names, tree: &Tree) -> Result<LE
     }
 }
 
+/// The literal that begins with this word, which is not `and`.
 fn read_literal(names: &Names, head: &[u8], rest: &[Tree]) -> Result<LEffect, FormError>
     requires few { length names.now < 2 ^ 32 }
     requires other { bytes_eq head.now (codes "and") ≡ false }
@@ -102,6 +103,7 @@ pub fn read_effect(alloc: Global, names: &Names, tree: &Tree) -> Result<LEffect,
     read_plain_effect(alloc, names, tree)
 }
 
+/// The choice between these members, at least one.
 fn read_choice(alloc: Global, names: &Names, members: &[Tree]) -> Result<LEffect, FormError>
     requires { length names.now < 2 ^ 32 }
     ensures read { IfOk result (λ effect. enclosed (codes "oneof" ∷ flat_map (λ part. part) (map words members.now)) ≡ effect_words names.now effect) }

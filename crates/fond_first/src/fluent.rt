@@ -11,6 +11,7 @@ use fond_text::fault::NoMemory;
 use fond_text::name::Names;
 use std::alloc::Global;
 
+/// Sets the flag of the atom's predicate, and leaves the others.
 fn mark_atom(atom: &LAtom, flags: &mut [bool])
     ensures { (number : ℕ) → number < length flags.old → slice_index_or flags.new number false ≡ (slice_index_or flags.old number false || atom.now.predicate == number) }
 {

@@ -85,7 +85,7 @@ fn is_reserved_word(leaf: &[u8]) -> bool
     is_condition_operator(leaf) || is_other_word(leaf)
 }
 
-/// The number of the predicate of this name, if one is declared.
+/// The number of the predicate of this name, if one is declared. Looks through the names one after the other.
 pub fn number_of(names: &Names, name: &[u8]) -> Option<u32>
     requires { length names.now < 2 ^ 32 }
     ensures found { IfSome result (λ number. slice_get names.now number ≡ Some name.now) }

@@ -86,6 +86,7 @@ fn read_literals(
     Ok(())
 }
 
+/// The atoms of the section of initial literals that are not negated.
 fn read_init(alloc: Global, names: &Names, sections: &[Tree]) -> Result<Atoms, FormError>
     requires { length names.now < 2 ^ 32 }
     ensures read { IfOk result (λ init. map (atom_named names.now) init ≡ map without_objects (filter_map head_of (filter (is_atom_tree names.now) (behind_all (codes ":init") sections.now)))) }
@@ -104,6 +105,7 @@ fn read_init(alloc: Global, names: &Names, sections: &[Tree]) -> Result<Atoms, F
     }
 }
 
+/// The condition of the one section with the goal.
 fn read_goal(alloc: Global, names: &Names, sections: &[Tree]) -> Result<LCond, FormError>
     requires { length names.now < 2 ^ 32 }
     ensures read { IfOk result (λ goal. condition_words names.now goal ≡ flat_map words (behind_all (codes ":goal") sections.now)) }
@@ -120,7 +122,8 @@ fn read_goal(alloc: Global, names: &Names, sections: &[Tree]) -> Result<LCond, F
     }
 }
 
-fn has_one_name(sections: &[Tree]) -> bool
+/// Whether one section tells the domain, by a name.
+fn has_domain_name(sections: &[Tree]) -> bool
     ensures { result ≡ is_one has_name (headed (codes ":domain") sections.now) }
 {
     match only_headed(sections, b":domain") {
@@ -129,6 +132,7 @@ fn has_one_name(sections: &[Tree]) -> bool
     }
 }
 
+/// Whether each tree is a section of a problem.
 fn are_sections(sections: &[Tree]) -> bool
     ensures { result ≡ list_all is_problem_section sections.now }
 {
@@ -140,7 +144,8 @@ fn are_sections(sections: &[Tree]) -> bool
     })
 }
 
-/// The problem that a tree is, over these predicates.
+/// The problem that a tree is, over these predicates. Takes time in the number of its words times that of the
+/// predicates, and memory in the size of the tree.
 pub fn read_problem(alloc: Global, names: &Names, file: &Tree) -> Result<ReadProblem, FormError>
     requires { length names.now < 2 ^ 32 }
     ensures read { IfOk result (λ problem. AreProblemOf names.now (sections_of file.now) problem.init problem.goal) }
@@ -153,7 +158,7 @@ pub fn read_problem(alloc: Global, names: &Names, file: &Tree) -> Result<ReadPro
         return Err(FormError::Unfit);
     }
     let parts = sections(file);
-    if !are_sections(parts) || !is_single(parts, b":requirements") || !has_one_name(parts) {
+    if !are_sections(parts) || !is_single(parts, b":requirements") || !has_domain_name(parts) {
         return Err(FormError::Unfit);
     }
     let init = read_init(alloc, names, parts)?;
