@@ -58,6 +58,7 @@ pub fn read_action(alloc: Global, word: &Word) -> Result<Option<Tree>, NoMemory>
     }
 }
 
+/// The bytes of a leaf.
 fn leaf_name(tree: &Tree) -> Option<&[u8]>
     ensures { option_copied result ≡ leaf_of tree.now }
 {

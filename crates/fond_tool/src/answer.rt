@@ -34,6 +34,7 @@ pub fn line(alloc: Global, words: &[u8], status: Status) -> Result<Answer, NoMem
     Ok(Answer { text, status })
 }
 
+/// The successors by a schema.
 fn schema_answer(alloc: Global, task: &LiftedTask, schema: &LSchema) -> Result<Answer, NoMemory>
     requires { Contains task.now.schemas schema.now }
     ensures text { IfOk result (λ answer. SchemaOutput task.now schema.now answer.text.items) }
@@ -50,6 +51,7 @@ fn schema_answer(alloc: Global, task: &LiftedTask, schema: &LSchema) -> Result<A
     })
 }
 
+/// The successors by an action word that is read as this tree, or a refusal where it names no schema.
 fn task_answer(
     alloc: Global,
     task: &LiftedTask,

@@ -28,6 +28,7 @@ pub enum TaskFault {
     NoMemory,
 }
 
+/// The domain that a text is read as.
 fn domain_of(alloc: Global, text: &[u8]) -> Result<ReadDomain, FormError>
     ensures read { IfOk result (λ domain. (tree : Tree) × IsDomainText text.now tree × AreDomainOf (sections_of tree) domain.predicates domain.schemas × (domain.names ≡ names_of (sections_of tree))) }
     ensures unfit { IsErrOf result FormError.Unfit → IsNoDomain text.now }
@@ -42,6 +43,7 @@ fn domain_of(alloc: Global, text: &[u8]) -> Result<ReadDomain, FormError>
     }
 }
 
+/// The problem that a text is read as, over these predicates.
 fn problem_of(alloc: Global, names: &Names, text: &[u8]) -> Result<ReadProblem, FormError>
     requires { length names.now < 2 ^ 32 }
     ensures read { IfOk result (λ problem. (tree : Tree) × IsProblemText names.now text.now tree × AreProblemOf names.now (sections_of tree) problem.init problem.goal) }
@@ -56,6 +58,7 @@ fn problem_of(alloc: Global, names: &Names, text: &[u8]) -> Result<ReadProblem, 
     }
 }
 
+/// The task of a domain and a problem over its predicates.
 fn join(domain: ReadDomain, problem: ReadProblem) -> LiftedTask
     requires few { length domain.names < 2 ^ 32 }
     requires counted { length domain.predicates ≡ length domain.names }

@@ -25,6 +25,7 @@ struct Texts {
     problem: Vec<u8>,
 }
 
+/// The bytes of one file.
 fn fetch_text<S: Shelf>(alloc: Global, shelf: &mut S, name: &Word) -> Result<Vec<u8>, FetchFault>
     ensures fetched { IfOk result (λ text. AreContents (S.held shelf.old) (name.now ∷ []) (text.items ∷ [])) }
     ensures failed { IsErrOf result FetchFault.Failed → CannotRead (S.held shelf.old) (Rose (S.faults shelf.old) (S.faults shelf.new)) (name.now ∷ []) }
@@ -38,6 +39,7 @@ fn fetch_text<S: Shelf>(alloc: Global, shelf: &mut S, name: &Word) -> Result<Vec
     }
 }
 
+/// The bytes of the two files, the domain's first.
 fn fetch_texts<S: Shelf>(
     alloc: Global,
     shelf: &mut S,
