@@ -2,7 +2,7 @@
 use Rattle.std.proofs.Common.{◌≡◌, ℕ, ◌≤◌, ◌&&◌, ◌||◌, Bool, true, false, not, List, [], ◌∷◌, ◌++◌, length, nat_lt, nat_eq, refl, sym, ap, ◌∙◌, Some, None, is_some, ◌⊎◌, inl, inr, arith, length-append}
 use Rattle.std.specs.List.{flat_map, list_any, list_all}
 use Rattle.std.proofs.lemmas.Bool.Decides.{nat_tests}
-use Rattle.std.proofs.lemmas.List.Folds.{flat_map-map}
+use Rattle.std.proofs.lemmas.List.Folds.{flat_map-map, list_any-append}
 use Rattle.fond_text.specs.declared.place.Place.{Place}
 use Rattle.fond_tree.specs.Tokens.{Token, Opens, Closes, Names, Stray, tokens}
 use Rattle.fond_tree.specs.Spelling.{IsReadAs, spelling, spelling_step}
@@ -65,14 +65,6 @@ are_node_of_leaves (Closes ∷ rest) = false
 are_node_of_leaves (Names place name ∷ rest) = false
 are_node_of_leaves (Stray ∷ rest) = false
 
-or_step : (b p q r : Bool) → p ≡ (q || r) → (b || p) ≡ ((b || q) || r)
-or_step true p q r e = refl
-or_step false p q r e = e
-
-any-append : (xs ys : List Token) → list_any is_opening (xs ++ ys) ≡ (list_any is_opening xs || list_any is_opening ys)
-any-append [] ys = refl
-any-append (x ∷ xs) ys = or_step (is_opening x) (list_any is_opening (xs ++ ys)) (list_any is_opening xs) (list_any is_opening ys) (any-append xs ys)
-
 -- an opening parenthesis stands in what spells a tree, or in more tokens, where the tree is no leaf, or in those
 opening_before : (tree : Tree) (any all : Bool) → any ≡ not all → IsLeafTree tree ⊎ IsNodeTree tree → (list_any is_opening (spelling tree) || any) ≡ not (is_some (leaf_of tree) && all)
 opening_before tree any all e (inl h) = rw (h.spelled, h.leaf) e
@@ -82,7 +74,7 @@ opening_before tree any all e (inr h) = rw (h.spelled, h.leaf) refl
 opening_of : (trees : List Tree) → list_any is_opening (flat_map spelling trees) ≡ not (list_all (λ tree. is_some (leaf_of tree)) trees)
 opening_of [] = refl
 opening_of (tree ∷ trees) =
-    any-append (spelling tree) (flat_map spelling trees)
+    list_any-append is_opening (spelling tree) (flat_map spelling trees)
     ∙ opening_before tree (list_any is_opening (flat_map spelling trees)) (list_all (λ other. is_some (leaf_of other)) trees) (opening_of trees) (cases_of tree)
 
 -- what spells trees is as long as they are many
@@ -114,7 +106,7 @@ members_of_leaves (tree ∷ trees) =
     let more : nat_lt 1 (length (flat_map spelling (tree ∷ trees) ++ Closes ∷ [])) ≡ true = grind (arith, nat_tests, long, whole) in
     let all = list_all (λ other. is_some (leaf_of other)) (tree ∷ trees) in
     let opened : list_any is_opening (flat_map spelling (tree ∷ trees) ++ Closes ∷ []) ≡ (not all || false) =
-    any-append (flat_map spelling (tree ∷ trees)) (Closes ∷ []) ∙ ap (λ b. b || false) (opening_of (tree ∷ trees)) in
+    list_any-append is_opening (flat_map spelling (tree ∷ trees)) (Closes ∷ []) ∙ ap (λ b. b || false) (opening_of (tree ∷ trees)) in
     ap (λ b. not b && all) some ∙ turned_twice all ∙ sym (ap (λ b. not b && nat_lt 1 (length (flat_map spelling (tree ∷ trees) ++ Closes ∷ []))) opened ∙ ap (λ b. not (not all || false) && b) more)
 
 -- a tree is a node of leaves where its tokens say so
