@@ -1,10 +1,6 @@
 -- What an Ok says, carried over to another fact.
 use Rattle.std.proofs.Common.{◌≡◌, ap, Result, Ok, Err, IfOk, IsErrOf}
 
-pub if_ok : {X E : Type 0} {P : X → Type 0} {Q : X → Type 0} (r : Result X E) → ((x : X) → P x → Q x) → IfOk r P → IfOk r Q
-if_ok (Ok x) gives p = gives x p
-if_ok (Err e) gives p = tt
-
 pub if_ok_both : {X E : Type 0} {O : X → Type 0} {P : X → Type 0} {Q : X → Type 0} (r : Result X E) → ((x : X) → O x → P x → Q x) → IfOk r O → IfOk r P → IfOk r Q
 if_ok_both (Ok x) gives o p = gives x o p
 if_ok_both (Err e) gives o p = tt

@@ -1,9 +1,10 @@
 use Rattle.std.proofs.Common.{rules, refl, inl, inr, codes}
-use Rattle.fond_tool.proofs.Results.{if_ok, if_ok_both}
+use Rattle.std.proofs.lemmas.Result.{IfOk-weaker}
+use Rattle.fond_tool.proofs.Results.{if_ok_both}
 use Rattle.fond_tool.proofs.answer.succ_answer.Goals as goal
 
 pub returns-in-Ok : goal.returns-in-Ok
-returns-in-Ok c = if_ok c.task_answer.result (λ answer output. inr (c.in-Ok.task, c.in-Ok.ensures.read, output)) c.task_answer.ensures
+returns-in-Ok c = IfOk-weaker c.task_answer.result _ _ (λ answer output. inr (c.in-Ok.task, c.in-Ok.ensures.read, output)) c.task_answer.ensures
 
 pub returns-in-Err-Domain : goal.returns-in-Err-Domain
 returns-in-Err-Domain c =
