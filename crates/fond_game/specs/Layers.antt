@@ -1,4 +1,4 @@
--- Sure layers and sure pairs: where they are reached, no policy is a solution.
+-- Sure layers, which no solution reaches, and sure pairs, whose action may lead into one.
 use Rattle.std.specs.Prelude.{◌≡◌, ◌⊎◌, List, ◌∷◌, ◌++◌, Bool, true, false, Option, Some, slice_get, Contains}
 use Rattle.fond_state.specs.Cubes.{CubeLiesIn}
 use Rattle.fond_task.specs.declared.form.Kleene.TheVariants.{No}
@@ -31,8 +31,8 @@ SomeLeads cube act layer = (outcome : List Entry) × Contains act.outcomes outco
 abbrev pub EachLeads : CubeView → Act → List CubeView → Type 0
 EachLeads cube act layer = (outcome : List Entry) → Contains act.outcomes outcome → Leads cube outcome layer
 
--- whoever takes the action in the cube is in the layer again or in an earlier one: some outcome leads into an
--- earlier layer; or the action is fair and each outcome leads into this layer; or it is unfair and some does
+-- whoever takes the action in the cube can be brought into this layer again or into an earlier one: some
+-- outcome leads into an earlier layer; or the action is fair and each outcome leads into this layer; or it is unfair and some does
 abbrev pub Forces : List (List CubeView) → List CubeView → CubeView → Act → Type 0
 Forces earlier layer cube act =
     ((before : List CubeView) × Contains earlier before × SomeLeads cube act before)

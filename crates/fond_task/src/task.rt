@@ -203,7 +203,8 @@ pub struct Labels {
     pub schemas: Names,
 }
 
-/// A ground task. Every number in it names something that exists, and each action has an outcome.
+/// A ground task. Every number of an atom in its conditions and effects is that of one of its atoms, its initial
+/// state has as many, and each action has an outcome.
 #[derive(Drop)]
 pub struct Task {
     pub atoms: Atoms,

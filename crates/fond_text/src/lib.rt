@@ -8,4 +8,6 @@ pub mod fault;
 pub mod ground;
 pub mod name;
 pub mod place;
+#[cfg(test)]
+mod tests;
 pub mod word;
