@@ -63,7 +63,7 @@ found p [] h = cc
 found p (x ∷ xs) h =
     elim (or_cases (p x) (list_any p xs) h) [ inl e ↦ (x, inl refl, e) | inr e ↦ (let inner = found p xs e in (inner.0, inr inner.1, inner.2)) ]
 
-abbrev put : List LPredicate → List State → State → List State
+abbrev pub put : List LPredicate → List State → State → List State
 put predicates before s = if list_any (is_same_state predicates s) before then before else before ++ s ∷ []
 
 stays : (b : Bool) (before : List State) (s x : State) → Member before x → Member (if b then before else before ++ s ∷ []) x

@@ -1,5 +1,6 @@
 pub mod Choices
 pub mod Come
+pub mod Distinct
 pub mod Given
 pub mod Members
 pub mod Quiet

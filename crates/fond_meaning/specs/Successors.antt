@@ -1,5 +1,5 @@
 -- The successors of a state, in the order in which they are told.
-use Rattle.std.specs.Prelude.{ℕ, Bool, true, false, not, List, [], ◌∷◌, ◌++◌, map, fold, if◌then◌else◌}
+use Rattle.std.specs.Prelude.{ℕ, Bool, true, false, not, List, [], ◌∷◌, ◌++◌, map, fold, Contains, if◌then◌else◌}
 use Rattle.std.specs.List.{list_all, list_any, enumerate_from}
 use Rattle.fond_text.specs.declared.ground.Atom.{Atom}
 use Rattle.fond_ast.specs.declared.task.LPredicate.{LPredicate}
@@ -33,3 +33,8 @@ once predicates states = fold (λ before state. if list_any (is_same_state predi
 -- the states after the choices of a schema's effect, each once, in the order of the first choice that gives it
 abbrev pub successors : LiftedTask → LSchema → State → List State
 successors task schema state = once task.predicates (map (λ change. after state change) (choices schema.effect))
+
+-- no state stands twice in a list
+abbrev pub AreDistinct : List State → Type 0
+AreDistinct [] = Unit {0}
+AreDistinct (state ∷ states) = (Contains states state → ⊥) × AreDistinct states
