@@ -4,3 +4,4 @@ pub mod Steps
 pub mod Values
 pub mod Images
 pub mod Laws
+pub mod Texts

@@ -1,0 +1,4 @@
+//! Stepping a rule list through the states of a task, by outcomes that are told from outside.
+#![tactic(auto)]
+
+pub mod step;

@@ -1,0 +1,4 @@
+//! Lists of rules, and the rule that holds first in a state.
+#![tactic(auto)]
+
+pub mod rules;
