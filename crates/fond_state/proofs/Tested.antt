@@ -16,7 +16,8 @@ agreed_from None truth told = refl
 agreed_from (Some true) truth told = told true refl
 agreed_from (Some false) truth told = not_from_false truth (told false refl)
 
-abbrev lies_from : List Bool → ℕ → List (Option Bool) → Bool
+-- the test of lying in the cube of these literals, of which the first is that of this atom
+abbrev pub lies_from : List Bool → ℕ → List (Option Bool) → Bool
 lies_from state n cube = list_all (λ item. agrees (truth_at state item.0) item.1) (enumerate_from n cube)
 
 abbrev LiesFrom : List Bool → ℕ → List (Option Bool) → Type 0

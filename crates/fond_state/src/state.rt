@@ -1,6 +1,6 @@
 //! A truth value for each atom.
 
-ghost use Rattle.std.specs.Prelude.{◌≡◌, ◌<◌, List, Bool, false, length, replicate, IfOk};
+ghost use Rattle.std.specs.Prelude.{◌≡◌, ◌<◌, ◌^◌, List, Bool, false, length, replicate, slice_set, IfOk};
 ghost use Rattle.fond_state.specs.Cubes.{truth_at};
 
 use fond_text::fault::NoMemory;
@@ -17,6 +17,8 @@ impl Model for State {
     ghost Value = { List Bool };
 
     ghost view = { λ s. s.values.items };
+
+    ghost invariant = { λ s. length s.values.items < 2 ^ 32 };
 }
 
 impl State {
@@ -29,11 +31,44 @@ impl State {
         })
     }
 
+    /// The same state again.
+    pub fn copy(&self, alloc: Global) -> Result<State, NoMemory>
+        ensures { IfOk result (λ s. s ≡ self.now) }
+    {
+        Ok(State {
+            values: Vec::from_slice(alloc, self.values.as_slice())?,
+        })
+    }
+
+    /// How many atoms there are.
+    pub fn len(&self) -> usize
+        ensures counted { result ≡ length self.now }
+        ensures few { result < 2 ^ 32 }
+    {
+        self.values.len()
+    }
+
     /// Whether the atom is true.
     pub fn get(&self, atom: u32) -> bool
         requires { atom < length self.now }
         ensures { result ≡ truth_at self.now atom }
     {
         self.values[atom as usize]
+    }
+
+    /// Gives the atom this truth value.
+    pub fn set(&mut self, atom: u32, v: bool)
+        requires { atom < length self.old }
+        ensures { self.new ≡ slice_set self.old atom v }
+    {
+        self.values[atom as usize] = v;
+    }
+
+    /// The truth values, in order of number.
+    pub(crate) fn values(&self) -> &[bool]
+        ensures value { result.now ≡ self.now }
+        ensures few { length self.now < 2 ^ 32 }
+    {
+        self.values.as_slice()
     }
 }
