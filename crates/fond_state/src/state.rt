@@ -64,6 +64,14 @@ impl State {
         self.values[atom as usize] = v;
     }
 
+    /// Takes the truth values of the other state, without more memory.
+    pub fn copy_from(&mut self, other: &State)
+        requires { length self.old ≡ length other.now }
+        ensures { self.new ≡ other.now }
+    {
+        self.values.copy_from_slice(other.values());
+    }
+
     /// The truth values, in order of number.
     pub(crate) fn values(&self) -> &[bool]
         ensures value { result.now ≡ self.now }

@@ -21,10 +21,13 @@ fn the_set_atom_alone_changes(rt: HostRuntime) -> Result<(), Fail> {
     state.set(0, true);
     state.set(2, true);
     let same = state.copy(rt.alloc())?;
+    let mut again = State::new(rt.alloc(), 3)?;
+    again.copy_from(&state);
     state.set(2, false);
     for (atom, now, before) in [(0, true, true), (1, false, false), (2, false, true)] {
         assert_eq!(rt; state.get(atom), now);
         assert_eq!(rt; same.get(atom), before);
+        assert_eq!(rt; again.get(atom), before);
     }
     Ok(())
 }

@@ -4,6 +4,8 @@
 
 pub mod form;
 pub mod laws;
+pub mod step;
 pub mod task;
+pub mod truth;
 #[cfg(test)]
 mod tests;

@@ -1,0 +1,60 @@
+//! The next state.
+
+ghost use Rattle.fond_task.specs.Within.{is_entry_within};
+ghost use Rattle.fond_task.specs.Truth.{is_true};
+ghost use Rattle.fond_task.specs.Steps.{adds, deletes, next_state};
+ghost use Rattle.fond_task.specs.declared.task.Act.{Act};
+ghost use Rattle.fond_task.specs.declared.task.Entry.{Entry};
+ghost use Rattle.fond_state.specs.Cubes.{truth_at};
+ghost use Rattle.std.specs.List.{list_all};
+ghost use Rattle.std.specs.Prelude.{◌≡◌, ◌<◌, ◌&&◌, ◌||◌, ℕ, List, true, not, length, slice_get, Some, IsTrue};
+
+use crate::task::{Outcome, Task};
+use crate::truth::evaluate;
+use fond_state::state::State;
+
+/// Makes false what the outcome deletes in the state before.
+fn delete_all(entries: &Outcome, state: &State, out: &mut State)
+    requires within { IsTrue (list_all (is_entry_within (length state.now)) entries.now) }
+    requires long { length out.old ≡ length state.now }
+    ensures same_length { length out.new ≡ length out.old }
+    ensures put { (k : ℕ) → k < length out.old → truth_at out.new k ≡ (truth_at out.old k && not (deletes state.now entries.now k)) }
+{
+    for i in 0..entries.len() {
+        let entry = entries.get(i);
+        if !entry.add && evaluate(&entry.cond, state) {
+            out.set(entry.atom, false);
+        }
+    }
+}
+
+/// Makes true what the outcome adds in the state before.
+fn add_all(entries: &Outcome, state: &State, out: &mut State)
+    requires within { IsTrue (list_all (is_entry_within (length state.now)) entries.now) }
+    requires long { length out.old ≡ length state.now }
+    ensures same_length { length out.new ≡ length out.old }
+    ensures put { (k : ℕ) → k < length out.old → truth_at out.new k ≡ (adds state.now entries.now k || truth_at out.old k) }
+{
+    for i in 0..entries.len() {
+        let entry = entries.get(i);
+        if entry.add && evaluate(&entry.cond, state) {
+            out.set(entry.atom, true);
+        }
+    }
+}
+
+/// Makes `out` the state that comes next by this outcome of the action. Deletes come first, so that an add
+/// wins, and each condition is looked at in the state before. Takes no memory.
+pub fn apply_into(task: &Task, state: &State, act: u32, outcome: u32, out: &mut State)
+    requires long { length state.now ≡ length task.now.atoms }
+    requires out_long { length out.old ≡ length task.now.atoms }
+    requires there { act < length task.now.acts }
+    requires outcome_there { (a : Act) → slice_get task.now.acts act ≡ Some a → outcome < length a.outcomes }
+    requires applicable { (a : Act) → slice_get task.now.acts act ≡ Some a → is_true state.now a.pre ≡ true }
+    ensures { (a : Act) (entries : List Entry) → slice_get task.now.acts act ≡ Some a → slice_get a.outcomes outcome ≡ Some entries → out.new ≡ next_state state.now entries }
+{
+    let entries = task.acts.get(act as usize).outcomes.get(outcome as usize);
+    out.copy_from(state);
+    delete_all(entries, state, out);
+    add_all(entries, state, out);
+}
