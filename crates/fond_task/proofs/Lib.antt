@@ -3,3 +3,6 @@ pub mod Indices
 pub mod Nexts
 pub mod Exact
 pub mod Forms
+pub mod Found
+pub mod Puts
+pub mod Lines

@@ -6,6 +6,7 @@ pub mod form;
 pub mod laws;
 pub mod step;
 pub mod task;
+pub mod text;
 pub mod truth;
 #[cfg(test)]
 mod tests;

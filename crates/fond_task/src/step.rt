@@ -1,45 +1,42 @@
 //! The next state.
 
 ghost use Rattle.fond_task.specs.Within.{is_entry_within};
-ghost use Rattle.fond_task.specs.Truth.{is_true};
+ghost use Rattle.fond_task.specs.Truth.{is_same, is_true};
 ghost use Rattle.fond_task.specs.Steps.{adds, deletes, next_state};
 ghost use Rattle.fond_task.specs.declared.task.Act.{Act};
 ghost use Rattle.fond_task.specs.declared.task.Entry.{Entry};
 ghost use Rattle.fond_state.specs.Cubes.{truth_at};
 ghost use Rattle.std.specs.List.{list_all};
-ghost use Rattle.std.specs.Prelude.{◌≡◌, ◌<◌, ◌&&◌, ◌||◌, ℕ, List, true, not, length, slice_get, Some, IsTrue};
+ghost use Rattle.std.specs.Prelude.{◌≡◌, ◌<◌, ◌==◌, ◌&&◌, if◌then◌else◌, ℕ, List, true, length, slice_get, Some, IsTrue};
 
-use crate::task::{Outcome, Task};
+use crate::task::{Entry, Outcome, Task};
 use crate::truth::evaluate;
 use fond_state::state::State;
 
-/// Makes false what the outcome deletes in the state before.
-fn delete_all(entries: &Outcome, state: &State, out: &mut State)
-    requires within { IsTrue (list_all (is_entry_within (length state.now)) entries.now) }
+/// Gives the entry's atom this truth value, where the entry gives this one and its condition is true in the
+/// state before.
+fn put(entry: &Entry, state: &State, value: bool, out: &mut State)
+    requires within { IsTrue (is_entry_within (length state.now) entry.now) }
     requires long { length out.old ≡ length state.now }
     ensures same_length { length out.new ≡ length out.old }
-    ensures put { (k : ℕ) → k < length out.old → truth_at out.new k ≡ (truth_at out.old k && not (deletes state.now entries.now k)) }
+    ensures put { (k : ℕ) → k < length out.old →
+        truth_at out.new k ≡ (if is_same entry.now.add value && entry.now.atom == k && is_true state.now entry.now.cond then value else truth_at out.old k) }
 {
-    for i in 0..entries.len() {
-        let entry = entries.get(i);
-        if !entry.add && evaluate(&entry.cond, state) {
-            out.set(entry.atom, false);
-        }
+    if entry.add == value && evaluate(&entry.cond, state) {
+        out.set(entry.atom, value);
     }
 }
 
-/// Makes true what the outcome adds in the state before.
-fn add_all(entries: &Outcome, state: &State, out: &mut State)
+/// Gives this truth value to each atom to which the outcome gives it in the state before.
+fn put_all(entries: &Outcome, state: &State, value: bool, out: &mut State)
     requires within { IsTrue (list_all (is_entry_within (length state.now)) entries.now) }
     requires long { length out.old ≡ length state.now }
     ensures same_length { length out.new ≡ length out.old }
-    ensures put { (k : ℕ) → k < length out.old → truth_at out.new k ≡ (adds state.now entries.now k || truth_at out.old k) }
+    ensures put { (k : ℕ) → k < length out.old →
+        truth_at out.new k ≡ (if (if value then adds state.now entries.now k else deletes state.now entries.now k) then value else truth_at out.old k) }
 {
     for i in 0..entries.len() {
-        let entry = entries.get(i);
-        if entry.add && evaluate(&entry.cond, state) {
-            out.set(entry.atom, true);
-        }
+        put(entries.get(i), state, value, out);
     }
 }
 
@@ -55,6 +52,6 @@ pub fn apply_into(task: &Task, state: &State, act: u32, outcome: u32, out: &mut 
 {
     let entries = task.acts.get(act as usize).outcomes.get(outcome as usize);
     out.copy_from(state);
-    delete_all(entries, state, out);
-    add_all(entries, state, out);
+    put_all(entries, state, false, out);
+    put_all(entries, state, true, out);
 }
