@@ -1,5 +1,6 @@
 -- What is known of the element at an index.
-use Rattle.std.proofs.Common.{◌≡◌, ℕ, zero, suc, ◌+◌, ◌<◌, List, [], ◌∷◌, Bool, true, Option, Some, None, length, drop, get_or, slice_get, add-one, sym, ap, ◌∙◌}
+use Rattle.std.proofs.Common.{◌≡◌, ℕ, zero, suc, ◌+◌, List, [], ◌∷◌, Bool, true, false, Some, drop, get_or, slice_get, add-one, sym, ap, ◌∙◌}
+use Rattle.std.specs.Prelude.{◌&&◌}
 use Rattle.std.specs.List.{list_all}
 use Rattle.std.proofs.Math.Seq.{drop-cons}
 use Rattle.std.proofs.lemmas.Bool.{and_parts}
@@ -36,3 +37,11 @@ pub same_entries : (acts : List Act) (i k : ℕ) (act other : Act) (entries more
 same_entries acts i k act other entries more is and at there =
     let same : act ≡ other = same_Some act other (sym is ∙ and) in
     same_Some entries more (sym at ∙ ap (λ (a : Act). slice_get a.outcomes k) same ∙ there)
+
+-- where the element at an index does not pass the test, not all do
+pub all_stops : {X : Type 0} (test : X → Bool) (xs : List X) (i : ℕ) (x : X) (all : Bool) → slice_get xs i ≡ Some x → test x ≡ false → list_all test (drop i xs) ≡ all → false ≡ all
+all_stops test xs i x all is fails before = sym (ap (λ b. b && list_all test (drop (i + 1) xs)) fails) ∙ sym (ap (list_all test) (drop_at xs i x is)) ∙ before
+
+-- where it does, it hangs on those behind it
+pub all_goes_on : {X : Type 0} (test : X → Bool) (xs : List X) (i : ℕ) (x : X) (all : Bool) → slice_get xs i ≡ Some x → test x ≡ true → list_all test (drop i xs) ≡ all → list_all test (drop (i + 1) xs) ≡ all
+all_goes_on test xs i x all is passes before = sym (ap (λ b. b && list_all test (drop (i + 1) xs)) passes) ∙ sym (ap (list_all test) (drop_at xs i x is)) ∙ before

@@ -21,7 +21,7 @@ module _ (labels : Labels) (state : List Bool) (atoms : List Atom) where
       now ≡ old ++ line truth atom → old ++ lines_from i ≡ all → now ++ lines_from (i + 1) ≡ all
   lines_more i atom truth old now all is known put before =
       let next : lines_from i ≡ line (truth_at state i) atom ++ lines_from (i + 1) =
-          ap (λ w. flat_map (λ item. line (truth_at state item.0) item.1) (enumerate_from i w)) (drop_at atoms i atom is) in
+      ap (λ w. flat_map (λ item. line (truth_at state item.0) item.1) (enumerate_from i w)) (drop_at atoms i atom is) in
       ap (λ w. w ++ lines_from (i + 1)) (put ∙ ap (λ b. old ++ line b atom) known)
       ∙ append_assoc old (line (truth_at state i) atom) (lines_from (i + 1))
       ∙ ap (λ w. old ++ w) (sym next) ∙ before

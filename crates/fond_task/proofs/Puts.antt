@@ -35,7 +35,7 @@ put_more state entries value i entry out new k is given =
     let rest = drop (i + 1) entries in
     let here = is_same entry.add value && entry.atom == k && is_true state entry.cond in
     let all : gives state value (drop i entries) k ≡ (here || gives state value rest k) =
-        ap (λ w. gives state value w k) (drop_at entries i entry is) ∙ gives-first state value entry rest k entry.add refl in
+    ap (λ w. gives state value w k) (drop_at entries i entry is) ∙ gives-first state value entry rest k entry.add refl in
     ap (λ b. if gives state value rest k then value else b) given
     ∙ given_later here (gives state value rest k) value (truth_at out k)
     ∙ ap (λ b. if b then value else truth_at out k) (sym all)

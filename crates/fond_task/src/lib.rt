@@ -6,7 +6,8 @@ pub mod form;
 pub mod laws;
 pub mod step;
 pub mod task;
-pub mod text;
-pub mod truth;
 #[cfg(test)]
 mod tests;
+pub mod text;
+pub mod truth;
+pub mod within;

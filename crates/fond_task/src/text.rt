@@ -58,7 +58,13 @@ pub fn put_atom(labels: &Labels, atom: &Atom, out: &mut Vec<u8>) -> Result<(), N
     ensures err { OnErr result (out.new.items ≡ out.old.items) }
 {
     let before = out.len();
-    match put_named(labels, &labels.predicates, atom.predicate, &atom.objects, out) {
+    match put_named(
+        labels,
+        &labels.predicates,
+        atom.predicate,
+        &atom.objects,
+        out,
+    ) {
         Ok(()) => Ok(()),
         Err(e) => {
             out.truncate(before);
@@ -68,11 +74,7 @@ pub fn put_atom(labels: &Labels, atom: &Atom, out: &mut Vec<u8>) -> Result<(), N
 }
 
 /// Appends the text of a ground action.
-pub fn put_action(
-    labels: &Labels,
-    ground: &GroundAction,
-    out: &mut Vec<u8>,
-) -> Result<(), NoMemory>
+pub fn put_action(labels: &Labels, ground: &GroundAction, out: &mut Vec<u8>) -> Result<(), NoMemory>
     ensures ok { OnOk result (out.new.items ≡ out.old.items ++ action_text labels.now ground.now) }
     ensures err { OnErr result (out.new.items ≡ out.old.items) }
 {
@@ -87,19 +89,20 @@ pub fn put_action(
 }
 
 /// Appends the line of an atom where it is true.
-fn put_line(
-    labels: &Labels,
-    atom: &Atom,
-    is_true: bool,
-    out: &mut Vec<u8>,
-) -> Result<(), NoMemory>
+fn put_line(labels: &Labels, atom: &Atom, is_true: bool, out: &mut Vec<u8>) -> Result<(), NoMemory>
     ensures ok { OnOk result (out.new.items ≡ out.old.items ++ (if is_true then atom_text labels.now atom.now ++ codes "\n" else [])) }
     ensures grew { (more : List ℕ) × (out.new.items ≡ out.old.items ++ more) }
 {
     if !is_true {
         return Ok(());
     }
-    put_named(labels, &labels.predicates, atom.predicate, &atom.objects, out)?;
+    put_named(
+        labels,
+        &labels.predicates,
+        atom.predicate,
+        &atom.objects,
+        out,
+    )?;
     out.extend_from_slice(b"\n")?;
     Ok(())
 }

@@ -1,4 +1,4 @@
-use Rattle.std.proofs.Common.{◌≡◌, ◌<◌, ◌∙◌, length, arith}
+use Rattle.std.proofs.Common.{◌<◌, ◌∙◌, length, arith}
 use Rattle.fond_task.specs.Within.{is_entry_within}
 use Rattle.fond_task.proofs.Found.{all_at}
 use Rattle.fond_task.proofs.Puts.{put_more}

@@ -1,5 +1,3 @@
-use Rattle.std.proofs.Common.{subst, sym, ◌≡◌, ℕ, true, length}
-use Rattle.fond_task.specs.Within.{is_form_within}
 use Rattle.fond_task.proofs.Found.{pre_within}
 use Rattle.fond_task.proofs.truth.applicable.Goals as goal
 
