@@ -13,17 +13,24 @@ use std::test::Fail;
 
 const HEADS: LAtom = LAtom { predicate: 0 };
 
-/// Whether the numbers of an effect are all below `count`.
+/// Whether the numbers of an effect are all below `count`, and its choices have members.
 fn fits(effect: &LEffect, count: usize) -> bool
     ensures { result ≡ is_effect_within count effect.now }
 {
     match effect {
         LEffect::Nothing => true,
         LEffect::Add(atom) | LEffect::Delete(atom) => (atom.predicate as usize) < count,
-        LEffect::And(parts) | LEffect::OneOf(parts) => {
+        LEffect::And(parts) => {
             let mut all = true;
             for part in parts {
                 all = all && fits(part, count);
+            }
+            all
+        }
+        LEffect::OneOf(members) => {
+            let mut all = !members.is_empty();
+            for member in members {
+                all = all && fits(member, count);
             }
             all
         }
