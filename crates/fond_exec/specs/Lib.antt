@@ -1,2 +1,4 @@
+pub mod Fits
+pub mod Executors
 pub mod Steps
 pub mod Traces

@@ -48,7 +48,8 @@ pub fn apply_into(task: &Task, state: &State, act: u32, outcome: u32, out: &mut 
     requires there { act < length task.now.acts }
     requires outcome_there { (a : Act) → slice_get task.now.acts act ≡ Some a → outcome < length a.outcomes }
     requires applicable { (a : Act) → slice_get task.now.acts act ≡ Some a → is_true state.now a.pre ≡ true }
-    ensures { (a : Act) (entries : List Entry) → slice_get task.now.acts act ≡ Some a → slice_get a.outcomes outcome ≡ Some entries → out.new ≡ next_state state.now entries }
+    ensures same_length { length out.new ≡ length out.old }
+    ensures next { (a : Act) (entries : List Entry) → slice_get task.now.acts act ≡ Some a → slice_get a.outcomes outcome ≡ Some entries → out.new ≡ next_state state.now entries }
 {
     let entries = task.acts.get(act as usize).outcomes.get(outcome as usize);
     out.copy_from(state);

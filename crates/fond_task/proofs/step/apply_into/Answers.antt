@@ -7,15 +7,15 @@ use Rattle.fond_task.proofs.step.apply_into.Goals as goal
 pub put_all-requires-clause-within : goal.put_all-requires-clause-within
 put_all-requires-clause-within c =
     let task = c.args.task.now in
-    rw (c.requires.long) (outcome_within _ task.acts c.args.act c.get.result.now c.args.outcome c.get-entries.result.now task.acts_within c.get.ensures c.get-entries.ensures)
+    rw (c.requires.long) (outcome_within _ task.acts c.args.act c.get.result.now _ c.get-entries.result.now task.acts_within c.get.ensures c.get-entries.ensures)
 
 pub put_all-requires-2-clause-within : goal.put_all-requires-2-clause-within
 put_all-requires-2-clause-within c =
     let task = c.args.task.now in
-    rw (c.requires.long) (outcome_within _ task.acts c.args.act c.get.result.now c.args.outcome c.get-entries.result.now task.acts_within c.get.ensures c.get-entries.ensures)
+    rw (c.requires.long) (outcome_within _ task.acts c.args.act c.get.result.now _ c.get-entries.result.now task.acts_within c.get.ensures c.get-entries.ensures)
 
-pub returns : goal.returns
-returns c = λ act entries is at.
+pub returns-clause-next : goal.returns-clause-next
+returns-clause-next c = λ act entries is at.
     let state = c.args.state.now in
     let own = c.get-entries.result.now in
     next_by_puts state c.copy_from.new.self c.put_all.new.out c.put_all-2.new.out own c.copy_from.ensures c.put_all.ensures.same_length c.put_all-2.ensures.same_length c.put_all.ensures.put c.put_all-2.ensures.put

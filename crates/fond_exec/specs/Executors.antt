@@ -1,0 +1,18 @@
+-- What an executor shows: the task and the rules that it borrows, and its state. The conditions on them.
+use Rattle.std.specs.Prelude.{ℕ, ◌<◌, List, Bool, All, length}
+use Rattle.fond_task.specs.declared.task.Task.{Task}
+use Rattle.fond_game.specs.declared.rule.Rule.{Rule}
+use Rattle.fond_rules.specs.Select.{AreOver}
+use Rattle.fond_exec.specs.declared.executor.Executor.{Executor}
+
+-- the task of an executor
+abbrev pub task_of : Executor → Task
+task_of executor = executor.task.now
+
+-- its rules
+abbrev pub rules_of : Executor → List Rule
+rules_of executor = executor.rules.now
+
+-- the state in which it is
+abbrev pub state_of : Executor → List Bool
+state_of executor = executor.state
