@@ -1,5 +1,5 @@
 -- What the selected rule chooses, and whether it may be taken.
-use Rattle.std.proofs.Common.{◌≡◌, ℕ, ◌<◌, List, Bool, true, false, Option, Some, None, length, slice_get, subst, sym, ap, ◌∙◌}
+use Rattle.std.proofs.Common.{◌≡◌, ℕ, ◌+◌, ◌<◌, get_or, below_more, List, Bool, true, false, Option, Some, None, length, slice_get, subst, sym, ap, ◌∙◌}
 use Rattle.std.specs.Prelude.{option_map, option_and_then}
 use Rattle.std.proofs.lemmas.Option.{none-some, same_Some, slice_get_within, get_or_from_slice_get}
 use Rattle.std.proofs.lemmas.Bool.{true≢false}
@@ -12,7 +12,6 @@ use Rattle.fond_game.specs.Policies.{IsApplicable, selected}
 use Rattle.fond_rules.specs.Select.{selected_rule}
 use Rattle.fond_rules.proofs.First.{found_first}
 use Rattle.fond_exec.specs.Fits.{AreActsThere}
-use Rattle.fond_exec.specs.Steps.{IsChosen}
 
 pub differs : (b : Bool) → b ≡ false → b ≡ true → ⊥
 differs b fails holds = true≢false (sym holds ∙ fails)
@@ -50,3 +49,14 @@ module _ (rules : List Rule) (state : List Bool) where
       let same : number ≡ act = same_Some number act (sym chosen ∙ is) in
       let at : slice_get task.acts act ≡ Some applicable.act = ap (slice_get task.acts) (sym same) ∙ applicable.numbered in
       differs answer fails (told applicable.act at ∙ applicable.holds)
+
+-- the actions of the rules before this index are there
+abbrev pub ThereBefore : ℕ → List Rule → ℕ → Type 0
+ThereBefore count rules i = (k : ℕ) (d : Rule) → k < i → (get_or rules k d).act < count
+
+-- so is that of the rule at it
+pub there_more : (count : ℕ) (rules : List Rule) (i : ℕ) (rule : Rule) → slice_get rules i ≡ Some rule → rule.act < count → ThereBefore count rules i → ThereBefore count rules (i + 1)
+there_more count rules i rule is there before k d within =
+    let P : ℕ → Type 0 = λ k. (d : Rule) → (get_or rules k d).act < count in
+    let Q : Rule → Type 0 = λ r. r.act < count in
+    below_more P i (λ k less d. before k d less) (λ d. subst Q (sym (get_or_from_slice_get rules i rule d is)) there) k within d

@@ -1,8 +1,7 @@
--- What an executor shows: the task and the rules that it borrows, and its state. The conditions on them.
-use Rattle.std.specs.Prelude.{ℕ, ◌<◌, List, Bool, All, length}
+-- What an executor shows: the task and the rules that it borrows, and the state in which it is.
+use Rattle.std.specs.Prelude.{List, Bool}
 use Rattle.fond_task.specs.declared.task.Task.{Task}
 use Rattle.fond_game.specs.declared.rule.Rule.{Rule}
-use Rattle.fond_rules.specs.Select.{AreOver}
 use Rattle.fond_exec.specs.declared.executor.Executor.{Executor}
 
 -- the task of an executor

@@ -2,8 +2,7 @@
 use Rattle.std.specs.Prelude.{◌<◌, List, All, length}
 use Rattle.fond_task.specs.declared.task.Task.{Task}
 use Rattle.fond_game.specs.declared.rule.Rule.{Rule}
-use Rattle.fond_rules.specs.Select.{AreOver}
 
--- the rules are over the atoms of the task, and their actions are there
+-- the actions of the rules are there in the task
 abbrev pub AreActsThere : Task → List Rule → Type 0
 AreActsThere task rules = All (λ rule. rule.act < length task.acts) rules

@@ -2,3 +2,4 @@ pub mod Fits
 pub mod Executors
 pub mod Steps
 pub mod Traces
+pub mod Lines

@@ -1,6 +1,6 @@
 -- The first element that passes a test.
-use Rattle.std.proofs.Common.{◌≡◌, ℕ, zero, suc, ◌+◌, ◌<◌, ◌≤◌, List, [], ◌∷◌, Bool, true, false, not, Option, Some, None, length, drop, cond, slice_get, refl, sym, ap, ◌∙◌, arith, get_or, below_more}
-use Rattle.std.specs.Prelude.{option_map, option_and_then, position, find, nat_lt}
+use Rattle.std.proofs.Common.{◌≡◌, ℕ, ◌+◌, ◌<◌, ◌≤◌, List, Bool, true, false, not, Some, None, length, drop, cond, slice_get, refl, sym, ap, ◌∙◌, arith, get_or, below_more}
+use Rattle.std.specs.Prelude.{option_and_then, position, find, nat_lt}
 use Rattle.std.specs.List.{position_or_len}
 use Rattle.std.proofs.lemmas.List.Folds.{find_at}
 use Rattle.std.proofs.lemmas.Option.{slice_get_within, slice_get_past, get_or_from_slice_get}

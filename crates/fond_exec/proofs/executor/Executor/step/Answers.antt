@@ -1,9 +1,7 @@
-use Rattle.std.proofs.Common.{rules, ◌≡◌, ◌∙◌, ◌<◌, ◌≤◌, ℕ, List, length, sym, ap, true, false, Some, None, refl, arith}
+use Rattle.std.proofs.Common.{rules, ◌≡◌, ◌∙◌, ◌<◌, ◌≤◌, length, sym, true, false, Some, None, refl, arith}
 use Rattle.std.proofs.Common.{[], get_or, slice_get}
 use Rattle.std.proofs.lemmas.Option.{slice_get-get_or}
-use Rattle.fond_game.specs.Policies.{selected}
 use Rattle.fond_rules.specs.Select.{selected_rule}
-use Rattle.fond_task.specs.Truth.{is_true}
 use Rattle.fond_exec.proofs.Chosen.{differs, act_there, chooses, none_chosen, none_applicable}
 use Rattle.fond_exec.proofs.executor.Executor.step.Goals as goal
 

@@ -1,4 +1,4 @@
-use Rattle.std.proofs.Common.{◌≡◌, ◌∙◌, true, false, rules, sym}
+use Rattle.std.proofs.Common.{◌≡◌, ◌∙◌, true, false, sym}
 use Rattle.fond_state.specs.Cubes.{lies_in}
 use Rattle.fond_rules.proofs.First.{first_here, none_more}
 use Rattle.fond_rules.proofs.rules.Rules.select.Goals as goal
