@@ -1,0 +1,56 @@
+-- The parts that stand in front of a text, and what stands behind them.
+use Rattle.std.specs.Prelude.{◌≡◌, ◌≢◌, ℕ, ◌==◌, ◌&&◌, ◌||◌, not, Bool, true, false, List, [], ◌∷◌, ◌++◌, Option, Some, None, All, IsTrue, codes, if◌then◌else◌}
+use Rattle.std.specs.Str.{bytes_eq}
+use Rattle.std.specs.List.{flat_map, list_all}
+use Rattle.fond_cert.specs.Lines.{is_plain_byte, IsGroup, group_text, WrittenLiteral, literal_text, is_number}
+
+-- a text is that of an atom or an action
+abbrev pub IsGroupText : List ℕ → Type 0
+IsGroupText text = (leaves : List (List ℕ)) × IsGroup leaves × (text ≡ group_text leaves)
+
+-- a text begins with no atom or action
+abbrev pub HasNoGroup : List ℕ → Type 0
+HasNoGroup text = (leaves : List (List ℕ)) (rest : List ℕ) → IsGroup leaves → text ≢ group_text leaves ++ rest
+
+-- what stands behind leaves and their closing parenthesis, where a leaf is open or is yet to begin
+abbrev pub behind_leaves : Bool → List ℕ → Option (List ℕ)
+behind_leaves is_open [] = None
+behind_leaves is_open (b ∷ rest) =
+    if is_plain_byte b then behind_leaves true rest
+    else if is_open && b == 32 then behind_leaves false rest
+    else if is_open && b == 41 then Some rest
+    else None
+
+-- a text is that of literals
+abbrev pub AreLiterals : List ℕ → Type 0
+AreLiterals text =
+    (literals : List WrittenLiteral) × All (λ literal. IsGroup literal.leaves) literals × (text ≡ flat_map literal_text literals)
+
+-- a text begins with no literal
+abbrev pub HasNoLiteral : List ℕ → Type 0
+HasNoLiteral text = (literal : WrittenLiteral) (rest : List ℕ) → IsGroup literal.leaves → text ≢ literal_text literal ++ rest
+
+-- whether a byte may stand in a word: it is no space
+abbrev pub is_in_word : ℕ → Bool
+is_in_word b = not (b == 32)
+
+-- nothing is left, or a space comes next
+abbrev pub EndsWord : List ℕ → Type 0
+EndsWord [] = Unit {0}
+EndsWord (b ∷ rest) = b ≡ 32
+
+-- a text is a word, which has no space, and what stands behind it
+abbrev pub IsCut : List ℕ → List ℕ → List ℕ → Type 0
+IsCut text word rest = (text ≡ word ++ rest) × IsTrue (list_all is_in_word word) × EndsWord rest
+
+-- whether a text is that of a target: the word `goal`, or a number
+abbrev pub is_target : List ℕ → Bool
+is_target word = bytes_eq word (codes "goal") || is_number word
+
+-- words that are targets
+abbrev pub AreTargets : List (List ℕ) → Type 0
+AreTargets words = All (λ word. IsTrue (is_target word)) words
+
+-- a text does not begin with a space and a target
+abbrev pub HasNoTarget : List ℕ → Type 0
+HasNoTarget text = (word rest : List ℕ) → IsTrue (is_target word) → EndsWord rest → text ≢ codes " " ++ (word ++ rest)

@@ -1,0 +1,4 @@
+//! Scripts: the numbers of recorded outcomes, as text.
+#![tactic(auto)]
+
+pub mod script;
