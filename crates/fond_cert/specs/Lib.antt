@@ -2,6 +2,5 @@ pub mod Lines
 pub mod Words
 pub mod Texts
 pub mod Faults
-pub mod Refusals
 pub mod Parts
 pub mod Shapes

@@ -3,7 +3,6 @@
 //! looked up by the layer above.
 #![tactic(auto)]
 
-pub mod error;
 pub mod line;
 pub mod number;
 mod part;
