@@ -32,6 +32,7 @@ abbrev pub HasNoForm : Due → List ℕ → Type 0
 HasNoForm due piece = (line : WrittenLine) (next : Due) → IsProper line → due_behind due line ≡ Some next → piece ≢ line_text line
 
 -- a line is refused: it has no allowed form, which is code 1 at its first byte, or it is refused by its words
+-- or their order
 abbrev pub IsRefusedLine : Task → Due → List ℕ → ℕ → ℕ → Type 0
 IsRefusedLine task due piece code at =
     (HasNoForm due piece × (code ≡ 1) × (at ≡ 0))

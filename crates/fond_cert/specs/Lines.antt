@@ -8,7 +8,7 @@ use Rattle.fond_text.specs.Bytes.{is_leaf_byte}
 abbrev pub is_plain_byte : ℕ → Bool
 is_plain_byte b = is_leaf_byte b && not (nat_le 65 b && nat_le b 90)
 
--- a leaf of a certificate has a byte, and no capitals
+-- a leaf of a certificate has a byte, and all its bytes may stand in one
 abbrev pub IsPlainLeaf : List ℕ → Type 0
 IsPlainLeaf leaf = (0 < length leaf) × IsTrue (list_all is_plain_byte leaf)
 

@@ -39,7 +39,7 @@ abbrev pub EndsWord : List ℕ → Type 0
 EndsWord [] = Unit {0}
 EndsWord (b ∷ rest) = b ≡ 32
 
--- a text is a word, which has no space, and what stands behind it
+-- a text is a word, which has no space and may be empty, and what stands behind it
 abbrev pub IsCut : List ℕ → List ℕ → List ℕ → Type 0
 IsCut text word rest = (text ≡ word ++ rest) × IsTrue (list_all is_in_word word) × EndsWord rest
 
@@ -51,6 +51,6 @@ is_target word = bytes_eq word (codes "goal") || is_number word
 abbrev pub AreTargets : List (List ℕ) → Type 0
 AreTargets words = All (λ word. IsTrue (is_target word)) words
 
--- a text does not begin with a space and a target
+-- a text does not begin with a space and a word that is a target
 abbrev pub HasNoTarget : List ℕ → Type 0
 HasNoTarget text = (word rest : List ℕ) → IsTrue (is_target word) → EndsWord rest → text ≢ codes " " ++ (word ++ rest)

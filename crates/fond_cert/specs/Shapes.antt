@@ -40,7 +40,7 @@ IsShape (FairShape action outcome target literals) = IsGroupText action × AreFa
 IsShape (UnfairShape action targets literals) = IsGroupText action × AreUnfair targets literals
 IsShape (ReachShape count) = IsTrue (is_number count)
 
--- a text is no line
+-- a text is none of the lines between the header and the end
 abbrev pub HasNoShape : List ℕ → Type 0
 HasNoShape piece = (shape : Shape) → IsShape shape → piece ≢ shape_text shape
 

@@ -29,7 +29,7 @@ abbrev pub cube_of : Task → List (Option Bool) → List WrittenLiteral → Lis
 cube_of task cube [] = cube
 cube_of task cube (literal ∷ literals) = cube_of task (with_literal cube (atom_number task literal.leaves) literal.sign) literals
 
--- a line is that of a rule: of a fair action one outcome and its target, of an unfair one each target; its
+-- a line is that of a rule: with the word `fair` one outcome and its target, with `unfair` each target; its
 -- condition is the cube of its literals
 abbrev pub IsRuleLine : Task → Rule → WrittenLine → Type 0
 IsRuleLine task rule PolicyHeader = ⊥

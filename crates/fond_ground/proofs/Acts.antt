@@ -1,0 +1,88 @@
+-- What stands for what in the middle of a loop, and tables in place of a task.
+use Rattle.std.proofs.Common.{◌≡◌, ℕ, suc, zero, ◌+◌, add-one, ◌<◌, ◌∙◌, cond, Bool, true, false, List, [], ◌∷◌, ◌++◌, Option, Some, None, length, get_or, slice_get, replicate, drop, map, filter, refl, sym, ap, subst, arith}
+use Rattle.std.specs.List.{enumerate_from}
+use Rattle.std.proofs.lemmas.List.{append_assoc, append-nil}
+use Rattle.fond_task.specs.declared.form.Kleene.{Kleene}
+use Rattle.fond_task.specs.declared.task.Act.{Act}
+use Rattle.fond_ast.specs.declared.form.LCond.{LCond}
+use Rattle.fond_ast.specs.declared.form.LCond.TheOpen.{LCond-F, Truth, Holds, And}
+use Rattle.fond_ast.specs.declared.form.LCond.TheFolds.{fold-LCond}
+use Rattle.fond_ast.specs.declared.task.LSchema.{LSchema}
+use Rattle.fond_ast.specs.declared.task.LiftedTask.{LiftedTask}
+use Rattle.fond_meaning.specs.Successors.{atom_of_number}
+use Rattle.fond_ground.specs.Numbers.{is_initial, fluent_numbers}
+use Rattle.fond_ground.specs.Values.{condition_value, condition_value_step, known_value}
+use Rattle.fond_ground.specs.Grounds.{is_kept, AreActsOf}
+use Rattle.fond_ground.specs.Tables.{table_value, table_step, IsTableOf}
+use Rattle.fond_ground.proofs.Forms.{drop_more, may}
+
+step_same : (task : LiftedTask) (numbers : List (Option ℕ)) (start : List Bool) → IsTableOf task numbers start → (cube : List (Option Bool)) (layer : LCond-F Kleene) → table_step numbers start cube layer ≡ condition_value_step task cube layer
+step_same task numbers start table cube Truth = refl
+step_same task numbers start table cube (Holds atom) = λ i. known_value (table.numbered atom.predicate i) (table.initial atom.predicate i) cube
+step_same task numbers start table cube (And parts) = refl
+
+-- a table gives the values that its task gives
+pub value_same : (task : LiftedTask) (numbers : List (Option ℕ)) (start : List Bool) → IsTableOf task numbers start → (cube : List (Option Bool)) (condition : LCond) → table_value numbers start cube condition ≡ condition_value task cube condition
+value_same task numbers start table cube condition = λ i. fold-LCond Kleene (λ layer. step_same task numbers start table cube layer i) condition
+
+-- one more element stands for one more
+pub more-stand : {A B : Type 0} (R : List A → List B → Type 0) (xs : List A) (i : ℕ) (x : A) (es next : List B) (e : B) → i < length xs → x ≡ get_or xs i x → next ≡ es ++ e ∷ []
+    → ((rest : List B) → R (drop (i + 1) xs) rest → R (x ∷ drop (i + 1) xs) (e ∷ rest))
+    → ((rest : List B) → R (drop i xs) rest → R xs (es ++ rest)) → (rest : List B) → R (drop (i + 1) xs) rest → R xs (next ++ rest)
+more-stand R xs i x es next e lt at made step before rest r =
+    subst (R xs) (sym (ap (λ w. w ++ rest) made ∙ append_assoc es (e ∷ []) rest)) (before (e ∷ rest) (subst (λ w. R w (e ∷ rest)) (sym (drop_more xs i x lt at)) (step rest r)))
+
+pub all-stand : {A B : Type 0} (R : List A → List B → Type 0) (xs : List A) (i : ℕ) (es : List B) → drop i xs ≡ [] → R [] [] → ((rest : List B) → R (drop i xs) rest → R xs (es ++ rest)) → R xs es
+all-stand R xs i es none here before = subst (R xs) (append-nil es) (before [] (subst (λ w. R w []) (sym none) here))
+
+-- whether a schema is kept, by a table
+pub kept_same : (task : LiftedTask) (numbers : List (Option ℕ)) (start : List Bool) → IsTableOf task numbers start → (schema : LSchema) (answer : Bool) → ((count : ℕ) → answer ≡ may (table_value numbers start (replicate count None) schema.pre)) → is_kept task schema ≡ answer
+kept_same task numbers start table schema answer h =
+    sym (h (length (fluent_numbers task)) ∙ ap may (value_same task numbers start table (replicate (length (fluent_numbers task)) None) schema.pre))
+
+-- the actions of one schema and those of others
+pub acts_join : (task : LiftedTask) (b : Bool) (item : ℕ × LSchema) (items : List (ℕ × LSchema)) (more rest : List Act) → AreActsOf task (cond b (item ∷ []) []) more → AreActsOf task items rest → AreActsOf task (cond b (item ∷ items) items) (more ++ rest)
+acts_join task true item items [] rest h r = elim h [ ]
+acts_join task true item items (act ∷ []) rest h r = (h.0, r)
+acts_join task true item items (act ∷ other ∷ more) rest h r = elim (h.1) [ ]
+acts_join task false item items [] rest h r = r
+acts_join task false item items (act ∷ more) rest h r = elim h [ ]
+
+enumerate_split : {X : Type 0} (xs : List X) (i from : ℕ) (x : X) → slice_get xs i ≡ Some x → enumerate_from from (drop i xs) ≡ (from, x) ∷ enumerate_from (from + 1) (drop (suc i) xs)
+enumerate_split [] zero from x h = absurd (cc)
+enumerate_split [] (suc i) from x h = absurd (cc)
+enumerate_split (y ∷ ys) zero from x h = let same : y ≡ x = cc in ap (λ z. (from, z) ∷ enumerate_from (from + 1) ys) same
+enumerate_split (y ∷ ys) (suc i) from x h = enumerate_split ys i from x h
+
+pub acts-more : (task : LiftedTask) (i : ℕ) (schema : LSchema) (acts next : List Act) → slice_get task.schemas i ≡ Some schema
+    → (more : List Act) × (next ≡ acts ++ more) × AreActsOf task (filter (λ item. is_kept task item.1) ((i, schema) ∷ [])) more
+    → ((rest : List Act) → AreActsOf task (filter (λ item. is_kept task item.1) (enumerate_from i (drop i task.schemas))) rest → AreActsOf task (filter (λ item. is_kept task item.1) (enumerate_from 0 task.schemas)) (acts ++ rest))
+    → (rest : List Act) → AreActsOf task (filter (λ item. is_kept task item.1) (enumerate_from (i + 1) (drop (i + 1) task.schemas))) rest → AreActsOf task (filter (λ item. is_kept task item.1) (enumerate_from 0 task.schemas)) (next ++ rest)
+acts-more task i schema acts next h one before rest r =
+    let K : ℕ × LSchema → Bool = λ item. is_kept task item.1 in
+    let all = filter K (enumerate_from 0 task.schemas) in
+    let left = filter K (enumerate_from (i + 1) (drop (suc i) task.schemas)) in
+    let r' : AreActsOf task left rest = subst (λ n. AreActsOf task (filter K (enumerate_from (i + 1) (drop n task.schemas))) rest) (add-one i) r in
+    let joined : AreActsOf task (filter K ((i, schema) ∷ enumerate_from (i + 1) (drop (suc i) task.schemas))) (one.0 ++ rest) = acts_join task (is_kept task schema) (i, schema) left one.0 rest one.2 r' in
+    subst (AreActsOf task all) (sym (ap (λ w. w ++ rest) one.1 ∙ append_assoc acts one.0 rest))
+    (before (one.0 ++ rest) (subst (λ w. AreActsOf task (filter K w) (one.0 ++ rest)) (sym (enumerate_split task.schemas i i schema h)) joined))
+
+pub init_same : (task : LiftedTask) (numbers : List (Option ℕ)) (start : List Bool) → IsTableOf task numbers start → (ns : List ℕ) → map (λ atom. get_or start atom.predicate false) (map atom_of_number ns) ≡ map (is_initial task) ns
+init_same task numbers start table [] = refl
+init_same task numbers start table (n ∷ ns) = λ i. table.initial n i ∷ init_same task numbers start table ns i
+
+mapped_split : {A B : Type 0} (f : A → B) (xs : List A) (i : ℕ) (x : A) → slice_get xs i ≡ Some x → map f (drop i xs) ≡ f x ∷ map f (drop (suc i) xs)
+mapped_split f [] zero x h = absurd (cc)
+mapped_split f [] (suc i) x h = absurd (cc)
+mapped_split f (y ∷ ys) zero x h = let same : y ≡ x = cc in ap (λ z. f z ∷ map f ys) same
+mapped_split f (y ∷ ys) (suc i) x h = mapped_split f ys i x h
+
+-- one more that is mapped
+pub mapped-more : {A B : Type 0} (f : A → B) (xs : List A) (i : ℕ) (x : A) (done next whole : List B) → slice_get xs i ≡ Some x → next ≡ done ++ f x ∷ [] → done ++ map f (drop i xs) ≡ whole → next ++ map f (drop (i + 1) xs) ≡ whole
+mapped-more f xs i x done next whole h e before =
+    ap (λ w. w ++ map f (drop (i + 1) xs)) e ∙ append_assoc done (f x ∷ []) _ ∙ ap (λ n. done ++ f x ∷ map f (drop n xs)) (add-one i) ∙ ap (λ w. done ++ w) (sym (mapped_split f xs i x h)) ∙ before
+
+pub default_same : {A : Type 0} (xs : List A) (i : ℕ) (d e : A) → i < length xs → get_or xs i d ≡ get_or xs i e
+default_same [] i d e lt = absurd (omega arith)
+default_same (x ∷ xs) zero d e lt = refl
+default_same (x ∷ xs) (suc i) d e lt = default_same xs i d e (omega arith)

@@ -1,0 +1,47 @@
+-- The ground task of a task without objects whose actions are all fair.
+use Rattle.std.specs.Prelude.{◌≡◌, ℕ, Bool, true, false, not, List, [], ◌∷◌, None, map, filter, length, replicate}
+use Rattle.std.specs.List.{enumerate_from}
+use Rattle.fond_task.specs.declared.form.Kleene.{Kleene}
+use Rattle.fond_task.specs.declared.form.Kleene.TheVariants.{No, Unknown, Yes}
+use Rattle.fond_task.specs.declared.task.Act.{Act}
+use Rattle.fond_task.specs.declared.task.Task.{Task}
+use Rattle.fond_ast.specs.declared.task.LSchema.{LSchema}
+use Rattle.fond_ast.specs.declared.task.LiftedTask.{LiftedTask}
+use Rattle.fond_ground.specs.Numbers.{fluent_numbers, fluent_atoms, is_initial}
+use Rattle.fond_ground.specs.Values.{condition_value, StandsFor}
+use Rattle.fond_ground.specs.Outcomes.{outcome_lists, AreOutcomesOf}
+
+-- whether a value is No
+abbrev pub is_no : Kleene → Bool
+is_no No = true
+is_no Unknown = false
+is_no Yes = false
+
+-- an action is kept where its precondition is not surely false, with all fluent atoms unknown
+abbrev pub is_kept : LiftedTask → LSchema → Bool
+is_kept task schema = not (is_no (condition_value task (replicate (length (fluent_numbers task)) None) schema.pre))
+
+-- a ground action is that of the schema of this number: its condition, its outcomes, and fair
+pub record IsActOf (task : LiftedTask) (number : ℕ) (schema : LSchema) (act : Act) : Type 0 where
+  pub named : act.ground ≡ record { schema = number; objects = [] }
+  pub pre : StandsFor task schema.pre act.pre
+  pub fair : act.unfair ≡ false
+  pub outcomes : AreOutcomesOf task (outcome_lists schema.effect) act.outcomes
+
+-- ground actions are those of numbered schemas, in order
+abbrev pub AreActsOf : LiftedTask → List (ℕ × LSchema) → List Act → Type 0
+AreActsOf task [] [] = Unit {0}
+AreActsOf task [] (act ∷ acts) = ⊥
+AreActsOf task (item ∷ items) [] = ⊥
+AreActsOf task (item ∷ items) (act ∷ acts) = IsActOf task item.0 item.1 act × AreActsOf task items acts
+
+-- the ground task has the fluent atoms, the kept actions, the initial atoms and the goal of the task, and its
+-- names
+pub record IsGroundOf (task : LiftedTask) (ground : Task) : Type 0 where
+  pub atoms : ground.atoms ≡ fluent_atoms task
+  pub acts : AreActsOf task (filter (λ item. is_kept task item.1) (enumerate_from 0 task.schemas)) ground.acts
+  pub init : ground.init ≡ map (is_initial task) (fluent_numbers task)
+  pub goal : StandsFor task task.goal ground.goal
+  pub predicates : ground.labels.predicates ≡ map (λ predicate. predicate.name) task.predicates
+  pub schemas : ground.labels.schemas ≡ map (λ schema. schema.name) task.schemas
+  pub objects : ground.labels.objects ≡ []

@@ -1,0 +1,6 @@
+pub mod Numbers
+pub mod Values
+pub mod Outcomes
+pub mod Grounds
+pub mod Tables
+pub mod Puts

@@ -1,0 +1,30 @@
+-- The three-valued value of written conditions on a cube over the fluent atoms.
+use Rattle.std.specs.Prelude.{◌≡◌, ℕ, Bool, true, List, Option, Some, None, if◌then◌else◌}
+use Rattle.fond_state.specs.Cubes.{literal_at}
+use Rattle.fond_task.specs.declared.form.Form.{Form}
+use Rattle.fond_task.specs.declared.form.Kleene.{Kleene}
+use Rattle.fond_task.specs.declared.form.Kleene.TheVariants.{No, Yes}
+use Rattle.fond_task.specs.Values.{least, literal_value, value}
+use Rattle.fond_ast.specs.declared.form.LCond.{LCond}
+use Rattle.fond_ast.specs.declared.form.LCond.TheOpen.{LCond-F, Truth, Holds, And}
+use Rattle.fond_ast.specs.declared.form.LCond.TheFolds.{fold-LCond}
+use Rattle.fond_ast.specs.declared.task.LiftedTask.{LiftedTask}
+use Rattle.fond_ground.specs.Numbers.{atom_number, is_initial}
+
+-- a fluent atom has the value that the cube gives it, and a static one that of its truth at first
+abbrev pub known_value : Option ℕ → Bool → List (Option Bool) → Kleene
+known_value None initial cube = if initial then Yes else No
+known_value (Some number) initial cube = literal_value (literal_at cube number) true
+
+abbrev pub condition_value_step : LiftedTask → List (Option Bool) → LCond-F Kleene → Kleene
+condition_value_step task cube Truth = Yes
+condition_value_step task cube (Holds atom) = known_value (atom_number task atom.predicate) (is_initial task atom.predicate) cube
+condition_value_step task cube (And parts) = least parts.items
+
+-- the value of a written condition on a cube: a conjunction is the least of its parts
+abbrev pub condition_value : LiftedTask → List (Option Bool) → LCond → Kleene
+condition_value task cube = fold-LCond Kleene (condition_value_step task cube)
+
+-- a form stands for a written condition where they have one value on every cube
+abbrev pub StandsFor : LiftedTask → LCond → Form → Type 0
+StandsFor task condition form = (cube : List (Option Bool)) → value cube form ≡ condition_value task cube condition
