@@ -11,7 +11,7 @@ use Rattle.fond_game.specs.declared.rule.Rule.{Rule}
 use Rattle.fond_game.specs.Policies.{IsApplicable, selected}
 use Rattle.fond_rules.specs.Select.{selected_rule}
 use Rattle.fond_rules.proofs.First.{found_first}
-use Rattle.fond_exec.specs.Fits.{AreActsThere}
+use Rattle.fond_rules.specs.Belongs.{AreActsThere}
 
 pub differs : (b : Bool) → b ≡ false → b ≡ true → ⊥
 differs b fails holds = true≢false (sym holds ∙ fails)

@@ -1,4 +1,3 @@
-pub mod Fits
 pub mod Executors
 pub mod Steps
 pub mod Traces

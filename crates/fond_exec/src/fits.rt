@@ -2,7 +2,7 @@
 
 ghost use Rattle.std.specs.Prelude.{◌≡◌, true, length};
 ghost use Rattle.fond_rules.specs.Select.{AreOver};
-ghost use Rattle.fond_exec.specs.Fits.{AreActsThere};
+ghost use Rattle.fond_rules.specs.Belongs.{AreActsThere};
 
 use fond_rules::rules::Rules;
 use fond_task::task::Task;

@@ -3,7 +3,7 @@
 ghost use Rattle.std.specs.Prelude.{◌≡◌, length, IfOk};
 ghost use Rattle.fond_rules.specs.Select.{AreOver};
 ghost use Rattle.fond_task.specs.Truth.{is_true};
-ghost use Rattle.fond_exec.specs.Fits.{AreActsThere};
+ghost use Rattle.fond_rules.specs.Belongs.{AreActsThere};
 ghost use Rattle.fond_exec.specs.Executors.{task_of, rules_of, state_of};
 ghost use Rattle.fond_exec.specs.Steps.{IsStep};
 

@@ -7,7 +7,7 @@ ghost use Rattle.fond_rules.specs.Select.{AreOver};
 ghost use Rattle.fond_task.specs.Texts.{action_text, state_text};
 ghost use Rattle.fond_task.specs.Truth.{is_true};
 ghost use Rattle.std.specs.Prelude.{length};
-ghost use Rattle.fond_exec.specs.Fits.{AreActsThere};
+ghost use Rattle.fond_rules.specs.Belongs.{AreActsThere};
 ghost use Rattle.fond_exec.specs.Executors.{task_of, rules_of, state_of};
 ghost use Rattle.fond_exec.specs.Lines.{told_line, is_taken};
 ghost use Rattle.fond_exec.specs.Traces.{goal_line, outcome_line, step_line, Trace};
