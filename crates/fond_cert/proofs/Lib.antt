@@ -1,7 +1,16 @@
+pub mod Feeds
 pub mod Groups
 pub mod Literals
 pub mod Cuts
 pub mod Bodies
 pub mod Rules
 pub mod Numbers
+pub mod Targets
+pub mod Cubes
+pub mod Refusals
+pub mod Fair
+pub mod Unfair
 pub mod Forms
+pub mod Grown
+pub mod Policies
+pub mod Belongs

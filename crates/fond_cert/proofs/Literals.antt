@@ -3,11 +3,11 @@ use borrow.Author.Tests.{eqb-true}
 use Rattle.std.proofs.Common.{◌≡◌, ◌≢◌, ℕ, ◌==◌, length, Bool, true, false, List, [], ◌∷◌, ◌++◌, All, refl, sym, ap, ◌∙◌, arith, append_assoc}
 use Rattle.std.specs.List.{flat_map}
 use Rattle.std.proofs.lemmas.List.Elements.{All-head, All-tail, All-cons, All-nil}
-use Rattle.fond_cert.specs.Lines.{IsGroup, group_text, WrittenLiteral, sign_text, literal_text}
-use Rattle.fond_cert.specs.Parts.{IsGroupText, HasNoGroup, AreLiterals, HasNoLiteral}
+use Rattle.fond_cert.specs.Lines.{IsGroup, group_text, WrittenLiteral, sign_text}
+use Rattle.fond_cert.specs.Parts.{IsGroupText, HasNoGroup, AreLiterals, HasNoLiteral, literal_text}
 use Rattle.fond_cert.proofs.Groups.{same_behind}
 
-literal_apart : (literal : WrittenLiteral) (rest : List ℕ) → literal_text literal ++ rest ≡ 32 ∷ (sign_text literal.sign ++ (group_text literal.leaves ++ rest))
+pub literal_apart : (literal : WrittenLiteral) (rest : List ℕ) → literal_text literal ++ rest ≡ 32 ∷ (sign_text literal.sign ++ (group_text literal.leaves ++ rest))
 literal_apart literal rest = ap (λ t. 32 ∷ t) (append_assoc (sign_text literal.sign) (group_text literal.leaves) rest)
 
 pub same_head : (a b : ℕ) (s t : List ℕ) → a ∷ s ≡ b ∷ t → a ≡ b
@@ -16,13 +16,13 @@ same_head a b s t e = cc
 pub same_tail : (a b : ℕ) (s t : List ℕ) → a ∷ s ≡ b ∷ t → s ≡ t
 same_tail a b s t e = cc
 
-behind_sign : (a b : Bool) (s t : List ℕ) → sign_text a ++ s ≡ sign_text b ++ t → s ≡ t
+pub behind_sign : (a b : Bool) (s t : List ℕ) → sign_text a ++ s ≡ sign_text b ++ t → s ≡ t
 behind_sign true true s t e = same_tail 43 43 s t e
 behind_sign true false s t e = let h = same_head 43 45 s t e in absurd (omega (arith, h))
 behind_sign false true s t e = let h = same_head 45 43 s t e in absurd (omega (arith, h))
 behind_sign false false s t e = same_tail 45 45 s t e
 
-behind_space : (s t : List ℕ) → 32 ∷ s ≡ 32 ∷ t → s ≡ t
+pub behind_space : (s t : List ℕ) → 32 ∷ s ≡ 32 ∷ t → s ≡ t
 behind_space s t e = same_tail 32 32 s t e
 
 pub no_space : (text : List ℕ) → ((rest : List ℕ) → text ≢ 32 ∷ rest) → HasNoLiteral text

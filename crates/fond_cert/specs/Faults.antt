@@ -1,23 +1,28 @@
 -- Which text is refused as no policy certificate, with which code and at which byte.
-use Rattle.std.specs.Prelude.{◌≡◌, ◌≢◌, ◌⊎◌, ℕ, ◌+◌, List, [], ◌∷◌, ◌++◌, Option, Some, None, Contains, length, codes}
+use Rattle.std.specs.Prelude.{◌≡◌, ◌≢◌, ◌⊎◌, ℕ, ◌+◌, ◌^◌, nat_lt, if◌then◌else◌, List, [], ◌∷◌, ◌++◌, Option, Some, None, length, codes}
 use Rattle.fond_task.specs.declared.task.Task.{Task}
 use Rattle.fond_cert.specs.Lines.{WrittenLine, PolicyHeader, FairRule, UnfairRule, ReachLine, EndLine, line_text, IsProper}
+use Rattle.fond_cert.specs.Feeds.{HasNoFeed}
 use Rattle.fond_cert.specs.Words.{line_refusal}
 use Rattle.fond_cert.specs.Texts.{lines_text}
 
--- what is due at a place: the header, a rule or the reach line, the end, or nothing more
+-- what is due at a place: the header, a rule or the reach line behind this many rules, the end, or nothing more
 pub data Due : Type 0 where
   HeaderDue : Due
-  RuleDue : Due
+  RuleDue : (rules : ℕ) → Due
   EndDue : Due
   NothingDue : Due
 
+-- what is due behind one more rule: there are fewer than 2^32
+abbrev pub one_more : ℕ → Option Due
+one_more rules = if nat_lt (rules + 1) (2 ^ 32) then Some (RuleDue (rules + 1)) else None
+
 -- what is due behind a line, where the line is allowed
 abbrev pub due_behind : Due → WrittenLine → Option Due
-due_behind HeaderDue PolicyHeader = Some RuleDue
-due_behind RuleDue (FairRule action outcome target literals) = Some RuleDue
-due_behind RuleDue (UnfairRule action targets literals) = Some RuleDue
-due_behind RuleDue (ReachLine count) = Some EndDue
+due_behind HeaderDue PolicyHeader = Some (RuleDue 0)
+due_behind (RuleDue rules) (FairRule action outcome target literals) = one_more rules
+due_behind (RuleDue rules) (UnfairRule action targets literals) = one_more rules
+due_behind (RuleDue rules) (ReachLine count) = Some EndDue
 due_behind EndDue EndLine = Some NothingDue
 due_behind due line = None
 
@@ -43,14 +48,14 @@ IsRefusedLine task due piece code at =
 -- first line
 abbrev pub IsRefusedRest : Task → Due → List ℕ → ℕ → ℕ → Type 0
 IsRefusedRest task due rest code at =
-    ((Contains rest 10 → ⊥) × (code ≡ 1) × (at ≡ 0))
-    ⊎ ((piece : List ℕ) × (behind : List ℕ) × (rest ≡ piece ++ codes "\n" ++ behind) × (Contains piece 10 → ⊥) × IsRefusedLine task due piece code at)
+    (HasNoFeed rest × (code ≡ 1) × (at ≡ 0))
+    ⊎ ((piece : List ℕ) × (behind : List ℕ) × (rest ≡ piece ++ (codes "\n" ++ behind)) × HasNoFeed piece × IsRefusedLine task due piece code at)
 
 -- where nothing is due, any rest is refused with code 1 at its first byte
 abbrev pub IsRefusedAt : Task → Due → List ℕ → ℕ → ℕ → Type 0
 IsRefusedAt task NothingDue rest code at = (rest ≢ []) × (code ≡ 1) × (at ≡ 0)
 IsRefusedAt task HeaderDue rest code at = IsRefusedRest task HeaderDue rest code at
-IsRefusedAt task RuleDue rest code at = IsRefusedRest task RuleDue rest code at
+IsRefusedAt task (RuleDue rules) rest code at = IsRefusedRest task (RuleDue rules) rest code at
 IsRefusedAt task EndDue rest code at = IsRefusedRest task EndDue rest code at
 
 -- a text is refused at a byte: behind lines that are right, the rest is refused

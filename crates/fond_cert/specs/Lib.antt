@@ -1,6 +1,9 @@
+pub mod Feeds
 pub mod Lines
 pub mod Words
 pub mod Texts
 pub mod Faults
 pub mod Parts
 pub mod Shapes
+pub mod Refusals
+pub mod Checked

@@ -1,5 +1,5 @@
 -- The lines of a policy certificate as they are written, whatever their words name.
-use Rattle.std.specs.Prelude.{ℕ, ◌<◌, ◌&&◌, ◌||◌, ◌==◌, nat_le, Bool, true, false, not, List, [], ◌∷◌, ◌++◌, All, length, IsTrue, codes}
+use Rattle.std.specs.Prelude.{ℕ, ◌<◌, ◌^◌, ◌&&◌, ◌||◌, ◌==◌, nat_le, Bool, true, false, not, List, [], ◌∷◌, ◌++◌, All, length, IsTrue, codes}
 use Rattle.std.specs.Char.{is_ascii_digit}
 use Rattle.std.specs.List.{flat_map, list_all}
 use Rattle.fond_text.specs.Bytes.{is_leaf_byte}
@@ -40,10 +40,6 @@ abbrev pub IsProperTarget : WrittenTarget → Type 0
 IsProperTarget GoalWord = Unit {0}
 IsProperTarget (NumberWord digits) = IsTrue (is_number digits)
 
-abbrev pub target_text : WrittenTarget → List ℕ
-target_text GoalWord = codes "goal"
-target_text (NumberWord digits) = digits
-
 -- a literal as it is written: its sign and its atom
 pub record WrittenLiteral : Type 0 where
   pub sign : Bool
@@ -53,10 +49,6 @@ abbrev pub sign_text : Bool → List ℕ
 sign_text true = codes "+"
 sign_text false = codes "-"
 
--- a literal is a space, a sign and an atom
-abbrev pub literal_text : WrittenLiteral → List ℕ
-literal_text literal = codes " " ++ (sign_text literal.sign ++ group_text literal.leaves)
-
 -- a line as it is written, without its line feed
 pub data WrittenLine : Type 0 where
   PolicyHeader : WrittenLine
@@ -65,15 +57,46 @@ pub data WrittenLine : Type 0 where
   ReachLine : (count : List ℕ) → WrittenLine
   EndLine : WrittenLine
 
+-- a piece of a line: bytes that are always the same, an action, an atom, or a number that has to be below a bound
+pub data Piece : Type 0 where
+  Fixed : (text : List ℕ) → Piece
+  ActionWord : (leaves : List (List ℕ)) → Piece
+  AtomWord : (leaves : List (List ℕ)) → Piece
+  Below : (bound : ℕ) (digits : List ℕ) → Piece
+
+abbrev pub piece_text : Piece → List ℕ
+piece_text (Fixed text) = text
+piece_text (ActionWord leaves) = group_text leaves
+piece_text (AtomWord leaves) = group_text leaves
+piece_text (Below bound digits) = digits
+
+abbrev pub target_piece : WrittenTarget → Piece
+target_piece GoalWord = Fixed (codes "goal")
+target_piece (NumberWord digits) = Below (2 ^ 32) digits
+
+-- targets, each behind a space
+abbrev pub target_pieces : List WrittenTarget → List Piece
+target_pieces [] = []
+target_pieces (target ∷ targets) = Fixed (codes " ") ∷ target_piece target ∷ target_pieces targets
+
+-- literals, each a sign and an atom behind a space
+abbrev pub literal_pieces : List WrittenLiteral → List Piece
+literal_pieces [] = []
+literal_pieces (literal ∷ literals) = Fixed (codes " ") ∷ Fixed (sign_text literal.sign) ∷ AtomWord literal.leaves ∷ literal_pieces literals
+
+-- the pieces of a line
+abbrev pub line_pieces : WrittenLine → List Piece
+line_pieces PolicyHeader = Fixed (codes "dualfond 1 policy") ∷ []
+line_pieces (FairRule action outcome target literals) =
+    Fixed (codes "rule ") ∷ ActionWord action ∷ Fixed (codes " fair ") ∷ Below (2 ^ 32) outcome ∷ Fixed (codes " ") ∷ target_piece target ∷ Fixed (codes " :") ∷ literal_pieces literals
+line_pieces (UnfairRule action targets literals) =
+    Fixed (codes "rule ") ∷ ActionWord action ∷ Fixed (codes " unfair") ∷ (target_pieces targets ++ (Fixed (codes " :") ∷ literal_pieces literals))
+line_pieces (ReachLine count) = Fixed (codes "reach ") ∷ Below (2 ^ 64) count ∷ []
+line_pieces EndLine = Fixed (codes "end") ∷ []
+
 -- the text of a line
 abbrev pub line_text : WrittenLine → List ℕ
-line_text PolicyHeader = codes "dualfond 1 policy"
-line_text (FairRule action outcome target literals) =
-    codes "rule " ++ (group_text action ++ (codes " fair " ++ (outcome ++ (codes " " ++ (target_text target ++ (codes " :" ++ flat_map literal_text literals))))))
-line_text (UnfairRule action targets literals) =
-    codes "rule " ++ (group_text action ++ (codes " unfair" ++ (flat_map (λ target. codes " " ++ target_text target) targets ++ (codes " :" ++ flat_map literal_text literals))))
-line_text (ReachLine count) = codes "reach " ++ count
-line_text EndLine = codes "end"
+line_text line = flat_map piece_text (line_pieces line)
 
 -- the atoms and actions of a line have leaves, its numbers are numbers, and an unfair rule has targets
 abbrev pub IsProper : WrittenLine → Type 0

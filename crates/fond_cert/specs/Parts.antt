@@ -2,7 +2,7 @@
 use Rattle.std.specs.Prelude.{◌≡◌, ◌≢◌, ℕ, ◌==◌, ◌&&◌, ◌||◌, not, Bool, true, false, List, [], ◌∷◌, ◌++◌, Option, Some, None, All, IsTrue, codes, if◌then◌else◌}
 use Rattle.std.specs.Str.{bytes_eq}
 use Rattle.std.specs.List.{flat_map, list_all}
-use Rattle.fond_cert.specs.Lines.{is_plain_byte, IsGroup, group_text, WrittenLiteral, literal_text, is_number}
+use Rattle.fond_cert.specs.Lines.{is_plain_byte, IsGroup, group_text, WrittenLiteral, sign_text, is_number}
 
 -- a text is that of an atom or an action
 abbrev pub IsGroupText : List ℕ → Type 0
@@ -20,6 +20,10 @@ behind_leaves is_open (b ∷ rest) =
     else if is_open && b == 32 then behind_leaves false rest
     else if is_open && b == 41 then Some rest
     else None
+
+-- a literal is a space, a sign and an atom
+abbrev pub literal_text : WrittenLiteral → List ℕ
+literal_text literal = codes " " ++ (sign_text literal.sign ++ group_text literal.leaves)
 
 -- a text is that of literals
 abbrev pub AreLiterals : List ℕ → Type 0

@@ -1,7 +1,9 @@
 -- The lines between the header and the end, with their parts as they are written.
 use Rattle.std.specs.Prelude.{◌≡◌, ◌≢◌, ℕ, ◌<◌, List, ◌++◌, IsTrue, length, codes}
 use Rattle.fond_cert.specs.declared.line.Line.{Line}
-use Rattle.fond_cert.specs.declared.line.Line.TheVariants.{Fair, Unfair, Reach}
+use Rattle.fond_cert.specs.declared.line.Line.TheVariants.{Rule, Reach}
+use Rattle.fond_cert.specs.declared.line.RuleLine.{RuleLine}
+use Rattle.fond_cert.specs.declared.line.RuleLine.TheVariants.{Fair, Unfair}
 use Rattle.fond_cert.specs.Lines.{spaced}
 use Rattle.fond_cert.specs.Parts.{IsGroupText, is_target, AreTargets, AreLiterals}
 use Rattle.fond_cert.specs.Lines.{is_number}
@@ -44,10 +46,14 @@ IsShape (ReachShape count) = IsTrue (is_number count)
 abbrev pub HasNoShape : List ℕ → Type 0
 HasNoShape piece = (shape : Shape) → IsShape shape → piece ≢ shape_text shape
 
--- a line is read from a text
-abbrev pub IsLineOf : Line → List ℕ → Type 0
-IsLineOf (Fair action outcome target literals) piece =
+-- a rule is cut from a text
+abbrev pub IsRuleOf : RuleLine → List ℕ → Type 0
+IsRuleOf (Fair action outcome target literals) piece =
     IsShape (FairShape action.now outcome.now target.now literals.now) × (piece ≡ shape_text (FairShape action.now outcome.now target.now literals.now))
-IsLineOf (Unfair action targets literals) piece =
+IsRuleOf (Unfair action targets literals) piece =
     (words : List (List ℕ)) × (targets.now ≡ spaced words) × IsShape (UnfairShape action.now words literals.now) × (piece ≡ shape_text (UnfairShape action.now words literals.now))
+
+-- a line is cut from a text
+abbrev pub IsLineOf : Line → List ℕ → Type 0
+IsLineOf (Rule line) piece = IsRuleOf line piece
 IsLineOf (Reach count) piece = IsShape (ReachShape count.now) × (piece ≡ shape_text (ReachShape count.now))

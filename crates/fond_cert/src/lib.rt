@@ -1,11 +1,19 @@
-//! Certificates as text. So far the lines between the header and the end of a policy certificate without layers
-//! and pairs are cut into their parts, exactly: what is cut is a line, and what is not cut is none. Their words are
-//! looked up by the layer above.
+//! Certificates as text. So far those of policies without layers and pairs are read: the rules and the reach number
+//! that a text spells over the actions and atoms of a task, or the code and the byte of its first fault.
 #![tactic(auto)]
 
-pub mod line;
-pub mod number;
+pub mod error;
+mod feed;
+mod grow;
+mod line;
+mod literal;
+mod number;
 mod part;
+pub mod policy;
+#[cfg(test)]
+mod policy_tests;
+mod rule;
+mod target;
 #[cfg(test)]
 mod tests;
 mod word;

@@ -7,9 +7,9 @@ ghost use Rattle.fond_cert.specs.Parts.{AreLiterals};
 use crate::part::{after, are_literals, group};
 use crate::word::{behind_targets, is_number, is_target, word};
 
-/// A line by the texts of its parts. The targets and the literals each have a space before them.
+/// A rule by the texts of its parts. The targets and the literals each have a space before them.
 #[derive(Clone, Copy)]
-pub enum Line<'a> {
+pub enum RuleLine<'a> {
     Fair {
         action: &'a [u8],
         outcome: &'a [u8],
@@ -21,12 +21,16 @@ pub enum Line<'a> {
         targets: &'a [u8],
         literals: &'a [u8],
     },
-    Reach {
-        count: &'a [u8],
-    },
 }
 
-ghost use Rattle.fond_cert.specs.Shapes.{fair_text, unfair_text, AreFair, AreUnfair, HasNoShape, IsLineOf};
+/// A line by the texts of its parts.
+#[derive(Clone, Copy)]
+pub enum Line<'a> {
+    Rule(RuleLine<'a>),
+    Reach { count: &'a [u8] },
+}
+
+ghost use Rattle.fond_cert.specs.Shapes.{fair_text, unfair_text, AreFair, AreUnfair, HasNoShape, IsRuleOf, IsLineOf};
 
 /// Whether the parts of a fair rule are right.
 fn are_fair(outcome: &[u8], target: &[u8], literals: &[u8]) -> bool
@@ -75,14 +79,14 @@ fn unfair<'a>(text: &'a [u8]) -> Option<(&'a [u8], &'a [u8])>
 }
 
 /// The parts of a rule.
-fn rule<'a>(piece: &'a [u8]) -> Option<Line<'a>>
+fn rule<'a>(piece: &'a [u8]) -> Option<RuleLine<'a>>
     requires { (rest : List ℕ) → piece.now ≢ codes "reach " ++ rest }
-    ensures { MatchOption result (HasNoShape piece.now) (λ line. IsLineOf line piece.now) }
+    ensures { MatchOption result (HasNoShape piece.now) (λ line. IsRuleOf line piece.now) }
 {
     let (action, rest) = group(after(piece, b"rule ")?)?;
     if let Some(text) = after(rest, b" fair ") {
         let (outcome, target, literals) = fair(text)?;
-        return Some(Line::Fair {
+        return Some(RuleLine::Fair {
             action,
             outcome,
             target,
@@ -90,7 +94,7 @@ fn rule<'a>(piece: &'a [u8]) -> Option<Line<'a>>
         });
     }
     let (targets, literals) = unfair(after(rest, b" unfair")?)?;
-    Some(Line::Unfair {
+    Some(RuleLine::Unfair {
         action,
         targets,
         literals,
@@ -102,7 +106,7 @@ pub fn cut_line<'a>(piece: &'a [u8]) -> Option<Line<'a>>
     ensures { MatchOption result (HasNoShape piece.now) (λ line. IsLineOf line piece.now) }
 {
     let Some(count) = after(piece, b"reach ") else {
-        return rule(piece);
+        return Some(Line::Rule(rule(piece)?));
     };
     if is_number(count) {
         Some(Line::Reach { count })

@@ -1,17 +1,19 @@
 //! Lines and numbers worked out by hand.
 
-use crate::line::{Line, cut_line};
+use crate::line::{Line, RuleLine, cut_line};
 use crate::number::number;
 
 #[test]
 fn a_fair_rule_is_cut(rt: HostRuntime) {
     let Some(
-        Line::Fair {
-            action,
-            outcome,
-            target,
-            literals,
-        },
+        Line::Rule(
+            RuleLine::Fair {
+                action,
+                outcome,
+                target,
+                literals,
+            },
+        ),
     ) = cut_line(b"rule (flip coin) fair 0 goal : +(tails) -(heads)")
     else {
         assert!(rt; false);
@@ -26,11 +28,13 @@ fn a_fair_rule_is_cut(rt: HostRuntime) {
 #[test]
 fn an_unfair_rule_is_cut(rt: HostRuntime) {
     let Some(
-        Line::Unfair {
-            action,
-            targets,
-            literals,
-        },
+        Line::Rule(
+            RuleLine::Unfair {
+                action,
+                targets,
+                literals,
+            },
+        ),
     ) = cut_line(b"rule (mix) unfair goal 12 :")
     else {
         assert!(rt; false);

@@ -1,0 +1,130 @@
+-- What the words of a line are checked to be.
+use Rattle.std.specs.Prelude.{◌≡◌, ◌≢◌, ◌⊎◌, ℕ, ◌<◌, ◌≤◌, ◌+◌, ◌^◌, nat_lt, Bool, true, false, List, [], ◌∷◌, ◌++◌, Option, Some, None, All, length, replicate, if◌then◌else◌, codes}
+use Rattle.std.specs.List.{flat_map}
+use Rattle.std.specs.Fmt.{decimal}
+use Rattle.std.specs.Str.{bytes_eq}
+use Rattle.fond_task.specs.declared.task.Task.{Task}
+use Rattle.fond_game.specs.declared.rule.Rule.{Rule}
+use Rattle.fond_game.specs.declared.rule.Target.{Target}
+use Rattle.fond_cert.specs.declared.error.CertError.{CertError}
+use Rattle.fond_cert.specs.declared.error.CertError.TheVariants.{Refused as RefusedText, NoMemory as WithoutMemory}
+use Rattle.fond_cert.specs.declared.error.LineError.{LineError}
+use Rattle.fond_cert.specs.declared.error.LineError.TheVariants.{Refused as RefusedLine, NoMemory}
+use Rattle.fond_cert.specs.Lines.{IsGroup, spaced, WrittenTarget, GoalWord, NumberWord, IsProperTarget, WrittenLiteral, WrittenLine, PolicyHeader, FairRule, UnfairRule, ReachLine, EndLine, line_text, IsProper, piece_text, target_pieces, literal_pieces}
+use Rattle.fond_cert.specs.Parts.{AreTargets}
+use Rattle.fond_cert.specs.Words.{Refused, first_refused, atom_numbers, is_increasing, line_refusal}
+use Rattle.fond_cert.specs.Texts.{written_targets, cube_of, IsRuleLine}
+use Rattle.fond_cert.specs.Faults.{RuleDue, IsRefusedLine}
+
+-- the target that a word writes
+abbrev pub as_target : List ℕ → WrittenTarget
+as_target word = if bytes_eq word (codes "goal") then GoalWord else NumberWord word
+
+-- a text is that of targets, each behind a space
+abbrev pub AreTargetsText : List ℕ → Type 0
+AreTargetsText text = (words : List (List ℕ)) × AreTargets words × (text ≡ spaced words)
+
+-- targets are read from a text that begins at this byte of a line, and none of them is refused
+pub record AreTargetsAt (task : Task) (at : ℕ) (text : List ℕ) (targets : List Target) : Type 0 where
+  pub written : List WrittenTarget
+  pub proper : All IsProperTarget written
+  pub spelled : text ≡ flat_map piece_text (target_pieces written)
+  pub right : first_refused task at (target_pieces written) ≡ None
+  pub named : written ≡ written_targets targets
+
+-- one of the targets is the first that is refused
+pub record IsTargetRefused (task : Task) (at : ℕ) (text : List ℕ) (refused : Refused) : Type 0 where
+  pub written : List WrittenTarget
+  pub proper : All IsProperTarget written
+  pub spelled : text ≡ flat_map piece_text (target_pieces written)
+  pub wrong : first_refused task at (target_pieces written) ≡ Some refused
+
+abbrev pub IsTargetsError : Task → ℕ → List ℕ → LineError → Type 0
+IsTargetsError task at text (RefusedLine code byte) = IsTargetRefused task at text (record { code = code; at = byte })
+IsTargetsError task at text NoMemory = Unit {0}
+
+-- a cube is read from a text of literals that begins at this byte of a line, and none of them is refused
+pub record IsCubeAt (task : Task) (at : ℕ) (text : List ℕ) (cube : List (Option Bool)) (is_ordered : Bool) : Type 0 where
+  pub literals : List WrittenLiteral
+  pub proper : All (λ literal. IsGroup literal.leaves) literals
+  pub spelled : text ≡ flat_map piece_text (literal_pieces literals)
+  pub right : first_refused task at (literal_pieces literals) ≡ None
+  pub cube_is : cube ≡ cube_of task (replicate (length task.atoms) None) literals
+  pub order_is : is_ordered ≡ is_increasing (atom_numbers task literals)
+
+-- one of the literals is the first that is refused
+pub record IsLiteralRefused (task : Task) (at : ℕ) (text : List ℕ) (refused : Refused) : Type 0 where
+  pub literals : List WrittenLiteral
+  pub proper : All (λ literal. IsGroup literal.leaves) literals
+  pub spelled : text ≡ flat_map piece_text (literal_pieces literals)
+  pub wrong : first_refused task at (literal_pieces literals) ≡ Some refused
+
+abbrev pub IsLiteralsError : Task → ℕ → List ℕ → LineError → Type 0
+IsLiteralsError task at text (RefusedLine code byte) = IsLiteralRefused task at text (record { code = code; at = byte })
+IsLiteralsError task at text NoMemory = Unit {0}
+
+-- whether a number is above the one before it, if there is one
+abbrev pub rises : Option ℕ → ℕ → Bool
+rises None number = true
+rises (Some last) number = nat_lt last number
+
+-- whether a line is one of a rule
+abbrev pub is_rule : WrittenLine → Bool
+is_rule PolicyHeader = false
+is_rule (FairRule action outcome target literals) = true
+is_rule (UnfairRule action targets literals) = true
+is_rule (ReachLine count) = false
+is_rule EndLine = false
+
+-- a piece of text is a line of this rule, and is not refused
+pub record ReadsRule (task : Task) (piece : List ℕ) (rule : Rule) : Type 0 where
+  pub line : WrittenLine
+  pub proper : IsProper line
+  pub kind : is_rule line ≡ true
+  pub spelled : piece ≡ line_text line
+  pub right : line_refusal task line ≡ None
+  pub rule_is : IsRuleLine task rule line
+
+-- a piece of text is a line of a rule, and is refused
+pub record IsRuleRefused (task : Task) (piece : List ℕ) (refused : Refused) : Type 0 where
+  pub line : WrittenLine
+  pub proper : IsProper line
+  pub kind : is_rule line ≡ true
+  pub spelled : piece ≡ line_text line
+  pub wrong : line_refusal task line ≡ Some refused
+
+abbrev pub IsRuleError : Task → List ℕ → LineError → Type 0
+IsRuleError task piece (RefusedLine code byte) = IsRuleRefused task piece (record { code = code; at = byte })
+IsRuleError task piece NoMemory = Unit {0}
+
+-- a piece of text is the reach line with this number, which is not refused
+pub record ReadsReach (task : Task) (piece : List ℕ) (reach : ℕ) : Type 0 where
+  pub small : reach < 2 ^ 64
+  pub proper : IsProper (ReachLine (decimal reach))
+  pub spelled : piece ≡ line_text (ReachLine (decimal reach))
+  pub right : line_refusal task (ReachLine (decimal reach)) ≡ None
+
+-- what a line behind rules makes of them: one more rule, or the reach number behind them
+abbrev pub IsGrown : Task → List Rule → List ℕ → Option ℕ → List Rule → Type 0
+IsGrown task before piece None after = (rule : Rule) × (after ≡ before ++ rule ∷ []) × (length after < 2 ^ 32) × ReadsRule task piece rule
+IsGrown task before piece (Some reach) after = (after ≡ before) × ReadsReach task piece reach
+
+-- a line behind this many rules is refused
+abbrev pub IsLineError : Task → ℕ → List ℕ → LineError → Type 0
+IsLineError task rules piece (RefusedLine code byte) = IsRefusedLine task (RuleDue rules) piece code byte
+IsLineError task rules piece NoMemory = Unit {0}
+
+-- what stands where the end is due, up to the end of the text: all of it where it does not begin with the end, or
+-- what stands behind the end
+abbrev pub IsMisplaced : List ℕ → List ℕ → Type 0
+IsMisplaced text rest = ((rest ≡ text) × ((more : List ℕ) → text ≢ codes "end\n" ++ more)) ⊎ ((text ≡ codes "end\n" ++ rest) × (rest ≢ []))
+
+-- an error of a line is within this many bytes
+abbrev pub IsWithin : ℕ → LineError → Type 0
+IsWithin bound (RefusedLine code byte) = byte ≤ bound
+IsWithin bound NoMemory = Unit {0}
+
+-- an error of a text is that of its line that begins at this byte
+abbrev pub IsPlaced : ℕ → LineError → CertError → Type 0
+IsPlaced start (RefusedLine code byte) error = error ≡ RefusedText code (start + byte)
+IsPlaced start NoMemory error = error ≡ WithoutMemory

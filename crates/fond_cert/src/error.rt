@@ -1,0 +1,38 @@
+//! Why a text is no certificate of a task.
+
+ghost use Rattle.fond_cert.specs.declared.error.CertError.TheVariants.{NoMemory as OutOfMemory};
+ghost use Rattle.fond_cert.specs.declared.error.LineError.TheVariants.{NoMemory as WithoutMemory};
+ghost use Rattle.std.specs.Prelude.{◌≡◌};
+
+use fond_text::fault::NoMemory;
+
+/// Why a text is no certificate of a task. docs/CERTIFICATES.md lists the codes.
+#[derive(Clone, Copy, Debug, PartialEq, Eq)]
+pub enum CertError {
+    /// The code, the number behind the C, and the byte at which it stands, counted from 0.
+    Refused { code: u8, byte: u64 },
+    NoMemory,
+}
+
+impl From<NoMemory> for CertError {
+    ghost from_gives = { λ _ e. e ≡ OutOfMemory };
+
+    fn from(_e: NoMemory) -> CertError {
+        CertError::NoMemory
+    }
+}
+
+/// Why a line is refused: the code, and the byte of the line at which it stands.
+#[derive(Clone, Copy, Debug, PartialEq, Eq)]
+pub(crate) enum LineError {
+    Refused { code: u8, at: usize },
+    NoMemory,
+}
+
+impl From<NoMemory> for LineError {
+    ghost from_gives = { λ _ e. e ≡ WithoutMemory };
+
+    fn from(_e: NoMemory) -> LineError {
+        LineError::NoMemory
+    }
+}

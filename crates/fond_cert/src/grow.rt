@@ -1,0 +1,94 @@
+//! Rules line by line.
+
+ghost use Rattle.fond_cert.specs.Checked.{IsGrown, IsLineError, ReadsReach, ReadsRule, IsRuleError};
+ghost use Rattle.fond_cert.specs.Lines.{is_number};
+ghost use Rattle.fond_cert.specs.Shapes.{IsRuleOf};
+ghost use Rattle.fond_index.specs.Indexes.{task_of};
+ghost use Rattle.fond_task.specs.declared.task.Task.{Task};
+ghost use Rattle.std.specs.Prelude.{◌≡◌, ◌++◌, ℕ, IsTrue, codes, length, IfOk, IfErr};
+
+use crate::error::LineError;
+use crate::line::{Line, RuleLine, cut_line};
+use crate::number::number;
+use crate::rule::{fair_rule, unfair_rule};
+use fond_game::rule::Rule;
+use fond_index::task_index::TaskIndex;
+use fond_rules::rules::Rules;
+use std::alloc::Global;
+
+/// The refusal of a line that has no form that is allowed at its place.
+pub(crate) const FORMLESS: LineError = LineError::Refused { code: 1, at: 0 };
+
+/// The rule that a line writes, by its parts.
+fn rule_of(
+    alloc: Global,
+    index: &TaskIndex,
+    piece: &[u8],
+    line: RuleLine,
+) -> Result<Rule, LineError>
+    requires { IsRuleOf line piece.now }
+    ensures read { IfOk result (ReadsRule (task_of index.now) piece.now) }
+    ensures wrong { IfErr result (IsRuleError (task_of index.now) piece.now) }
+{
+    match line {
+        RuleLine::Fair {
+            action,
+            outcome,
+            target,
+            literals,
+        } => fair_rule(alloc, index, action, outcome, target, literals),
+        RuleLine::Unfair {
+            action,
+            targets,
+            literals,
+        } => unfair_rule(alloc, index, action, targets, literals),
+    }
+}
+
+/// The number of the reach line, by its digits.
+fn reach_of(piece: &[u8], count: &[u8]) -> Result<u64, LineError>
+    requires number { IsTrue (is_number count.now) }
+    requires spelled { piece.now ≡ codes "reach " ++ count.now }
+    ensures read { IfOk result (λ reach. (task : Task) → ReadsReach task piece.now reach) }
+    ensures wrong { IfErr result (λ error. (task : Task) (rules : ℕ) → IsLineError task rules piece.now error) }
+{
+    match number(count) {
+        Some(reach) => Ok(reach),
+        None => Err(LineError::Refused {
+            code: 4,
+            at: piece.len() - count.len(),
+        }),
+    }
+}
+
+/// Puts the rule that the line writes, or gives the number where it is the reach line.
+pub(crate) fn grow(
+    alloc: Global,
+    index: &TaskIndex,
+    rules: &mut Rules,
+    piece: &[u8],
+) -> Result<Option<u64>, LineError>
+    ensures grown { IfOk result (λ reach. IsGrown (task_of index.now) rules.old piece.now reach rules.new) }
+    ensures wrong { IfErr result (IsLineError (task_of index.now) (length rules.old) piece.now) }
+{
+    let Some(line) = cut_line(piece) else {
+        return Err(FORMLESS);
+    };
+    let line = match line {
+        Line::Reach { count } => {
+            return match reach_of(piece, count) {
+                Ok(reach) => Ok(Some(reach)),
+                Err(error) => Err(error),
+            };
+        }
+        Line::Rule(line) => line,
+    };
+    if rules.len() == u32::MAX {
+        return Err(FORMLESS);
+    }
+    match rule_of(alloc, index, piece, line) {
+        Ok(rule) => rules.push(rule)?,
+        Err(error) => return Err(error),
+    }
+    Ok(None)
+}

@@ -1,0 +1,91 @@
+//! Reading a policy certificate.
+
+ghost use Rattle.fond_cert.specs.Checked.{IsMisplaced, IsPlaced, IsWithin};
+ghost use Rattle.fond_cert.specs.Refusals.{IsRefusal};
+ghost use Rattle.fond_cert.specs.Texts.{IsPolicyText};
+ghost use Rattle.fond_rules.specs.Belongs.{BelongTo};
+ghost use Rattle.fond_index.specs.Indexes.{task_of};
+ghost use Rattle.std.specs.Prelude.{◌≡◌, ◌++◌, ◌+◌, ◌-◌, ◌≤◌, codes, length, MatchOption, IfOk, IfErr};
+
+use crate::error::{CertError, LineError};
+use crate::feed::line_of;
+use crate::grow::{FORMLESS, grow};
+use crate::part::after;
+use fond_index::task_index::TaskIndex;
+use fond_rules::rules::Rules;
+use fond_task::task::Task;
+use std::alloc::Global;
+
+/// A policy certificate without layers and pairs: its rules, and how many states they reach.
+#[derive(Drop)]
+pub struct Policy {
+    pub rules: Rules,
+    pub reach: u64,
+}
+
+/// The error of a text by that of its line at which the rest begins.
+fn placed(text: &[u8], rest: &[u8], error: LineError) -> CertError
+    requires rest { length rest.now ≤ length text.now }
+    requires line { IsWithin (length rest.now) error }
+    ensures { IsPlaced (length text.now - length rest.now) error result }
+{
+    match error {
+        LineError::Refused { code, at } => CertError::Refused {
+            code,
+            byte: (text.len() - rest.len() + at) as u64,
+        },
+        LineError::NoMemory => CertError::NoMemory,
+    }
+}
+
+/// What is no end behind the reach line: all of it, or what stands behind the end.
+fn no_end<'a>(text: &'a [u8]) -> Option<&'a [u8]>
+    ensures { MatchOption result (text.now ≡ codes "end\n") (λ rest. IsMisplaced text.now rest.now) }
+{
+    let Some(rest) = after(text, b"end\n") else {
+        return Some(text);
+    };
+    if rest.is_empty() { None } else { Some(rest) }
+}
+
+/// The policy behind the header.
+fn read_lines(
+    alloc: Global,
+    index: &TaskIndex,
+    text: &[u8],
+    lines: &[u8],
+) -> Result<Policy, CertError>
+    requires { text.now ≡ codes "dualfond 1 policy\n" ++ lines.now }
+    ensures read { IfOk result (λ policy. IsPolicyText (task_of index.now) policy.rules policy.reach text.now) }
+    ensures refused { IfErr result (IsRefusal (task_of index.now) text.now) }
+{
+    let mut rules = Rules::new(alloc);
+    let mut rest = lines;
+    while let Some((piece, behind)) = line_of(rest) {
+        match grow(alloc, index, &mut rules, piece) {
+            Ok(None) => rest = behind,
+            Ok(Some(reach)) => {
+                return match no_end(behind) {
+                    None => Ok(Policy { rules, reach }),
+                    Some(rest) => Err(placed(text, rest, FORMLESS)),
+                };
+            }
+            Err(error) => return Err(placed(text, rest, error)),
+        }
+    }
+    Err(placed(text, rest, FORMLESS))
+}
+
+/// The policy that the text spells over the actions and atoms of the task. Takes time in the length of the text
+/// and memory for its rules, beside what the names of the task take once.
+pub fn read_policy(alloc: Global, task: &Task, text: &[u8]) -> Result<Policy, CertError>
+    ensures read { IfOk result (λ policy. IsPolicyText task.now policy.rules policy.reach text.now) }
+    ensures belongs { IfOk result (λ policy. BelongTo task.now policy.rules) }
+    ensures refused { IfErr result (IsRefusal task.now text.now) }
+{
+    let Some(lines) = after(text, b"dualfond 1 policy\n") else {
+        return Err(CertError::Refused { code: 1, byte: 0 });
+    };
+    let index = TaskIndex::of(alloc, task)?;
+    read_lines(alloc, &index, text, lines)
+}
