@@ -1,17 +1,8 @@
+use crate::answers::{COIN, COIN_P, Told, answer_to, put};
 use fond_edge::lists::{Calls, ShelfFiles};
 use fond_edge::memory_shelf::MemoryShelf;
-use fond_edge::memory_sink::MemorySink;
-use fond_edge::shelf::ShelfFile;
-use fond_text::bytes::Bytes;
-use fond_text::word::Word;
-use fond_tool::tool::run_tool;
 use std::alloc::Global;
 use std::test::Fail;
-
-const COIN: &str =
-    "(define (domain coin) (:predicates (heads))\n(:action flip :effect (oneof (heads) (and))))\n";
-
-const COIN_P: &str = "(define (problem c) (:domain coin) (:goal (heads)))\n";
 
 const WON_P: &str = "(define (problem w) (:domain coin) (:init (heads)) (:goal (heads)))\n";
 
@@ -24,20 +15,6 @@ const BOTH: &str =
     "(define (domain both) (:predicates (p))\n(:action a :effect (and (p) (not (p)))))\n";
 
 const BOTH_P: &str = "(define (problem b) (:domain both) (:goal (p)))\n";
-
-/// What a call of the tool answered.
-#[derive(Drop)]
-struct Told {
-    status: u8,
-    text: Bytes,
-}
-
-fn put(alloc: Global, files: &mut ShelfFiles, name: &str, text: &str) -> Result<(), Fail> {
-    let name = Word::copy(alloc, name.as_bytes()).map_err(|_| "name")?;
-    let bytes = Bytes::copy(alloc, text.as_bytes()).map_err(|_| "text")?;
-    files.push(ShelfFile { name, bytes }).map_err(|_| "file")?;
-    Ok(())
-}
 
 fn shelf(alloc: Global, failing: Option<u64>) -> Result<MemoryShelf, Fail> {
     let mut files = ShelfFiles::new(alloc);
@@ -56,14 +33,6 @@ fn shelf(alloc: Global, failing: Option<u64>) -> Result<MemoryShelf, Fail> {
     Ok(MemoryShelf::new(files, calls))
 }
 
-fn words(alloc: Global, line: &[&str]) -> Result<Vec<Word>, Fail> {
-    let mut words = Vec::new(alloc);
-    for word in line {
-        words.push(Word::copy(alloc, word.as_bytes()).map_err(|_| "word")?)?;
-    }
-    Ok(words)
-}
-
 /// The answer to these words where the numbered read and the numbered write fail.
 fn run_line(
     alloc: Global,
@@ -71,16 +40,7 @@ fn run_line(
     bad_read: Option<u64>,
     bad_write: Option<u64>,
 ) -> Result<Told, Fail> {
-    let words = words(alloc, line)?;
-    let mut shelf = shelf(alloc, bad_read)?;
-    let mut calls = Calls::new(alloc);
-    if let Some(call) = bad_write {
-        calls.push(call).map_err(|_| "call")?;
-    }
-    let mut sink = MemorySink::new(alloc, 4096, 7, calls).map_err(|_| "sink")?;
-    let status = run_tool(alloc, &words, &mut shelf, &mut sink).number();
-    let text = Bytes::copy(alloc, sink.bytes()).map_err(|_| "text")?;
-    Ok(Told { status, text })
+    answer_to(alloc, line, shelf(alloc, bad_read)?, bad_write)
 }
 
 #[test]

@@ -1,13 +1,17 @@
 -- Answers that are written, and files that cannot be read.
-use Rattle.std.proofs.Common.{◌≡◌, ℕ, refl, List, [], ◌∷◌, Option, None, IsSomeAnd, ◌⊎◌, inl, inr, sym, ◌∙◌, arith}
+use Rattle.std.proofs.Common.{◌≡◌, ℕ, zero, suc, ◌<◌, ◌≤◌, refl, Bool, List, [], ◌∷◌, Contains, get_or, Option, None, IsSomeAnd, ◌⊎◌, inl, inr, sym, ◌∙◌, arith}
 use Rattle.fond_ast.specs.declared.task.LiftedTask.{LiftedTask}
 use Rattle.fond_edge.specs.declared.shelf.ShelfFile.{ShelfFile}
+use Rattle.fond_edge.specs.Faults.{Rose}
 use Rattle.fond_edge.specs.Files.{file_of}
 use Rattle.fond_edge.specs.Written.{Appended}
+use Rattle.fond_game.specs.declared.rule.Rule.{Rule}
+use Rattle.fond_task.specs.declared.task.Task.{Task}
 use Rattle.fond_tool.specs.declared.status.Status.{Status}
 use Rattle.fond_tool.specs.declared.status.Status.TheVariants.{Done, Unsolvable, Undecided, Refused, BadWords, ReadFault, WriteFault, Rejected, Stopped, NoMemory}
-use Rattle.fond_tool.specs.Commands.{Command, Succ}
+use Rattle.fond_tool.specs.Commands.{Command, Succ, Run}
 use Rattle.fond_tool.specs.Outputs.{SuccOutput, TaskOutput, Output}
+use Rattle.fond_tool.specs.Runs.{IsEndStatus, TraceOutput, ScriptOutput, CertOutput, RunOutput}
 use Rattle.fond_tool.specs.Answers.{CannotRead, CommandAnswer, Answer, Ends}
 
 -- a status that an answer may have: neither a write fault nor want of memory
@@ -27,6 +31,9 @@ told_refused = record { no_write_fault = λ h. cc; no_want = λ h. cc }
 told_rejected : IsTold Rejected
 told_rejected = record { no_write_fault = λ h. cc; no_want = λ h. cc }
 
+told_stopped : IsTold Stopped
+told_stopped = record { no_write_fault = λ h. cc; no_want = λ h. cc }
+
 told_bad_words : IsTold BadWords
 told_bad_words = record { no_write_fault = λ h. cc; no_want = λ h. cc }
 
@@ -41,8 +48,25 @@ succ_told : (domain problem action text : List ℕ) (status : Status) → SuccOu
 succ_told domain problem action text status (inl h) = told status Refused told_refused h.3
 succ_told domain problem action text status (inr h) = task_told h.0 action text status h.2
 
+end_told : (task : Task) (last : List Bool) (status : Status) → IsEndStatus task last status → IsTold status
+end_told task last status (inl h) = told status Done told_done h.1
+end_told task last status (inr h) = told status Stopped told_stopped h.1
+
+script_told : (task : Task) (rules : List Rule) (script text : List ℕ) (status : Status) → ScriptOutput task rules script text status → IsTold status
+script_told task rules script text status (inl h) = told status Rejected told_rejected h.3
+script_told task rules script text status (inr h) = let traced : TraceOutput task rules h.0 text status = h.2 in end_told task traced.1 status traced.4
+
+cert_told : (task : Task) (cert script text : List ℕ) (status : Status) → CertOutput task cert script text status → IsTold status
+cert_told task cert script text status (inl h) = told status Rejected told_rejected h.4
+cert_told task cert script text status (inr h) = script_told task h.0 script text status h.3
+
+run_told : (domain problem side cert script text : List ℕ) (status : Status) → RunOutput domain problem side cert script text status → IsTold status
+run_told domain problem side cert script text status (inl h) = told status Refused told_refused h.3
+run_told domain problem side cert script text status (inr h) = cert_told h.1 cert script text status h.5
+
 output_told : (command : Command) (contents : List (List ℕ)) (text : List ℕ) (status : Status) → Output command contents text status → IsTold status
 output_told (Succ d p action) contents text status h = succ_told h.0 h.1 action text status h.3
+output_told (Run d p u c s) contents text status h = run_told h.0 h.1 h.2 h.3 h.4 text status h.6
 
 command_told : (command : Command) (held : Option (List ShelfFile)) (rose : Type 0) (text : List ℕ) (status : Status) → CommandAnswer command held rose text status → IsTold status
 command_told command held rose text status (inl h) = told status ReadFault told_read_fault h.2
@@ -69,3 +93,15 @@ ends_written answer rose old new text NoMemory told given appended = absurd (tol
 pub cannot_read_one : (held : Option (List ShelfFile)) (rose : Type 0) (name : List ℕ) → rose ⊎ IsSomeAnd held (λ files. file_of files name ≡ None) → CannotRead held rose (name ∷ [])
 cannot_read_one held rose name (inl h) = inl h
 cannot_read_one held rose name (inr h) = inr (name, (0, omega arith, refl), h)
+
+only_one : (name other : List ℕ) (number : ℕ) → number < 1 → get_or (name ∷ []) number other ≡ other → name ≡ other
+only_one name other zero within is = is
+only_one name other (suc number) within is = absurd (omega arith)
+
+-- a file that is not read, as one of more files, where the faults before it did not fall
+pub cannot_read_among : (held : Option (List ShelfFile)) (before since after : ℕ) (name : List ℕ) (names : List (List ℕ)) → before ≤ since → Contains names name →
+    CannotRead held (Rose since after) (name ∷ []) → CannotRead held (Rose before after) names
+cannot_read_among held before since after name names low among (inl rose) = inl (omega arith)
+cannot_read_among held before since after name names low among (inr h) =
+    let same : name ≡ h.0 = only_one name h.0 h.1.0 h.1.1 h.1.2 in
+    inr (name, among, rw same h.2)

@@ -1,6 +1,6 @@
 mod ActionTrees
 mod Ends
 mod Found
-mod FourWords
 mod Results
 mod Tasks
+mod WordLists

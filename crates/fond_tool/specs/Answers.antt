@@ -6,7 +6,8 @@ use Rattle.fond_edge.specs.Written.{Appended, AppendedPart}
 use Rattle.fond_tool.specs.declared.status.Status.{Status}
 use Rattle.fond_tool.specs.declared.status.Status.TheVariants.{Done, Unsolvable, Undecided, Refused, BadWords, ReadFault, WriteFault, Rejected, Stopped, NoMemory}
 use Rattle.fond_tool.specs.Commands.{Command, Fits, file_names}
-use Rattle.fond_tool.specs.Outputs.{IsLine, Output}
+use Rattle.fond_tool.specs.Lines.{IsLine}
+use Rattle.fond_tool.specs.Outputs.{Output}
 
 -- the contents of the named files, in order: where the shelf tells what it holds, they are what it holds
 abbrev pub AreContents : Option (List ShelfFile) → List (List ℕ) → List (List ℕ) → Type 0

@@ -5,9 +5,11 @@ use Rattle.fond_tree.specs.declared.tree.Tree.{Tree}
 use Rattle.fond_tree.specs.Spelling.{IsReadAs}
 use Rattle.fond_first.specs.Words.{leaf_of, members_of}
 
--- a command: `succ` with the names of a domain and of a problem, and an action
+-- a command: `succ` with the names of a domain and of a problem, and an action; `run` with the names of a domain, of
+-- a problem, of a side list, of a certificate and of a script
 pub data Command : Type 0 where
   Succ : (domain problem action : List ℕ) → Command
+  Run : (domain problem side cert script : List ℕ) → Command
 
 -- whether there are members, at least one and all of them leaves
 abbrev pub are_leaves : Option (List Tree) → Bool
@@ -32,7 +34,10 @@ IsAction word = (tree : Tree) × IsReadAs word tree × (is_leaf_node tree ≡ tr
 abbrev pub Fits : List (List ℕ) → Command → Type 0
 Fits words (Succ domain problem action) =
     (words ≡ codes "succ" ∷ domain ∷ problem ∷ action ∷ []) × (domain ≢ []) × (problem ≢ []) × IsAction action
+Fits words (Run domain problem side cert script) =
+    (words ≡ codes "run" ∷ domain ∷ problem ∷ side ∷ cert ∷ script ∷ []) × (domain ≢ []) × (problem ≢ []) × (side ≢ []) × (cert ≢ []) × (script ≢ [])
 
 -- the words of a command that name files, in order
 abbrev pub file_names : Command → List (List ℕ)
 file_names (Succ domain problem action) = domain ∷ problem ∷ []
+file_names (Run domain problem side cert script) = domain ∷ problem ∷ side ∷ cert ∷ script ∷ []

@@ -9,12 +9,10 @@ use Rattle.fond_meaning.specs.Successors.{initial}
 use Rattle.fond_lifted.specs.Texts.{successors_text}
 use Rattle.fond_tool.specs.declared.status.Status.{Status}
 use Rattle.fond_tool.specs.declared.status.Status.TheVariants.{Done, Refused, Rejected}
-use Rattle.fond_tool.specs.Commands.{Command, Succ}
+use Rattle.fond_tool.specs.Commands.{Command, Succ, Run}
+use Rattle.fond_tool.specs.Lines.{IsLine}
+use Rattle.fond_tool.specs.Runs.{RunOutput}
 use Rattle.fond_tool.specs.Tasks.{IsTaskOf, IsFirstFault}
-
--- the text is this line with a line feed behind it
-abbrev pub IsLine : List ℕ → List ℕ → Type 0
-IsLine text line = text ≡ line ++ codes "\n"
 
 -- the tokens are a name alone between parentheses
 pub record SpellName (pieces : List Token) (name : List ℕ) : Type 0 where
@@ -48,3 +46,6 @@ SuccOutput domain problem action text status =
 abbrev pub Output : Command → List (List ℕ) → List ℕ → Status → Type 0
 Output (Succ d p action) contents text status =
     (domain : List ℕ) × (problem : List ℕ) × (contents ≡ domain ∷ problem ∷ []) × SuccOutput domain problem action text status
+Output (Run d p u c s) contents text status =
+    (domain : List ℕ) × (problem : List ℕ) × (side : List ℕ) × (cert : List ℕ) × (script : List ℕ) × (contents ≡ domain ∷ problem ∷ side ∷ cert ∷ script ∷ [])
+    × RunOutput domain problem side cert script text status

@@ -2,7 +2,8 @@
 
 ghost use Rattle.fond_ast.specs.declared.task.LSchema.{LSchema};
 ghost use Rattle.fond_tool.specs.Commands.{name_alone};
-ghost use Rattle.fond_tool.specs.Outputs.{IsLine, SchemaOutput, TaskOutput, SuccOutput};
+ghost use Rattle.fond_tool.specs.Lines.{IsLine};
+ghost use Rattle.fond_tool.specs.Outputs.{SchemaOutput, TaskOutput, SuccOutput};
 ghost use Rattle.fond_first.specs.Sections.{members_or_none};
 ghost use Rattle.fond_tree.specs.Spelling.{IsReadAs};
 ghost use Rattle.std.specs.Prelude.{◌≡◌, Contains, IfOk};

@@ -4,8 +4,11 @@
 
 pub mod action;
 pub mod answer;
+pub mod fetch;
+pub mod run;
 pub mod status;
 pub mod task;
 #[cfg(test)]
 mod tests;
 pub mod tool;
+pub mod words;

@@ -1,65 +1,24 @@
 //! The one call of the program.
 
 ghost use Rattle.fond_edge.specs.Faults.{Rose};
-ghost use Rattle.fond_tool.specs.Answers.{AreContents, CannotRead, CommandAnswer, Answer as AnswerTo, Ends};
-ghost use Rattle.fond_tool.specs.Commands.{Command, Succ, Fits};
+ghost use Rattle.fond_tool.specs.Answers.{CommandAnswer, Answer as AnswerTo, Ends};
+ghost use Rattle.fond_tool.specs.Commands.{Command, Succ, Run, Fits};
 ghost use Rattle.fond_tree.specs.Spelling.{IsReadAs};
-ghost use Rattle.std.specs.Prelude.{◌≡◌, ◌≢◌, ◌≤◌, [], ◌∷◌, codes, IfOk, IfSome, IfNone, IsErrOf};
+ghost use Rattle.std.specs.Prelude.{◌≡◌, ◌≤◌, IfOk};
 
 use crate::action::read_action;
 use crate::answer::{Answer, line, succ_answer};
+use crate::fetch::{fetch_run_texts, fetch_texts};
+use crate::run::run_answer;
 use crate::status::Status;
+use crate::words::{GivenWords, RunWords, given_words};
 use fond_edge::send::send;
 use fond_edge::shelf::{FetchFault, Shelf};
 use fond_edge::sink::Sink;
-use fond_first::form::is_same;
 use fond_text::fault::NoMemory;
 use fond_text::word::Word;
 use fond_tree::tree::Tree;
 use std::alloc::Global;
-
-/// The texts of a domain and a problem.
-#[derive(Drop)]
-struct Texts {
-    domain: Vec<u8>,
-    problem: Vec<u8>,
-}
-
-/// The bytes of one file.
-fn fetch_text<S: Shelf>(alloc: Global, shelf: &mut S, name: &Word) -> Result<Vec<u8>, FetchFault>
-    ensures fetched { IfOk result (λ text. AreContents (S.held shelf.old) (name.now ∷ []) (text.items ∷ [])) }
-    ensures failed { IsErrOf result FetchFault.Failed → CannotRead (S.held shelf.old) (Rose (S.faults shelf.old) (S.faults shelf.new)) (name.now ∷ []) }
-    ensures kept { S.held shelf.new ≡ S.held shelf.old }
-    ensures counted { S.faults shelf.old ≤ S.faults shelf.new }
-{
-    let mut text = Vec::new(alloc);
-    match shelf.fetch(alloc, name, &mut text) {
-        Ok(()) => Ok(text),
-        Err(fault) => Err(fault),
-    }
-}
-
-/// The bytes of the two files, the domain's first.
-fn fetch_texts<S: Shelf>(
-    alloc: Global,
-    shelf: &mut S,
-    domain: &Word,
-    problem: &Word,
-) -> Result<Texts, FetchFault>
-    ensures fetched { IfOk result (λ texts. AreContents (S.held shelf.old) (domain.now ∷ problem.now ∷ []) (texts.domain.items ∷ texts.problem.items ∷ [])) }
-    ensures failed { IsErrOf result FetchFault.Failed → CannotRead (S.held shelf.old) (Rose (S.faults shelf.old) (S.faults shelf.new)) (domain.now ∷ problem.now ∷ []) }
-    ensures kept { S.held shelf.new ≡ S.held shelf.old }
-    ensures counted { S.faults shelf.old ≤ S.faults shelf.new }
-{
-    let domain = match fetch_text(alloc, shelf, domain) {
-        Ok(text) => text,
-        Err(fault) => return Err(fault),
-    };
-    match fetch_text(alloc, shelf, problem) {
-        Ok(problem) => Ok(Texts { domain, problem }),
-        Err(fault) => Err(fault),
-    }
-}
 
 /// The answer to `succ`, whose action word is read as this tree.
 fn fetch_and_answer<S: Shelf>(
@@ -82,35 +41,21 @@ fn fetch_and_answer<S: Shelf>(
     }
 }
 
-/// The words of `succ`.
-#[derive(Clone, Copy)]
-struct SuccWords<'a> {
-    domain: &'a Word,
-    problem: &'a Word,
-    action: &'a Word,
-}
-
-/// The words of `succ` by their table, but for what the action word spells.
-fn succ_words(words: &[Word]) -> Option<SuccWords<'_>>
-    ensures some { IfSome result (λ given. words.now ≡ codes "succ" ∷ given.domain.now ∷ given.problem.now ∷ given.action.now ∷ []) }
-    ensures domain { IfSome result (λ given. given.domain.now ≢ []) }
-    ensures problem { IfSome result (λ given. given.problem.now ≢ []) }
-    ensures none { IfNone result ((command : Command) → Fits words.now command → ⊥) }
+/// The answer to `run`.
+fn fetch_and_run<S: Shelf>(
+    alloc: Global,
+    shelf: &mut S,
+    given: &RunWords,
+) -> Result<Answer, NoMemory>
+    ensures answered { IfOk result (λ answer. CommandAnswer (Run given.now.domain.now given.now.problem.now given.now.side.now given.now.cert.now given.now.script.now) (S.held shelf.old) (Rose (S.faults shelf.old) (S.faults shelf.new)) answer.text.items answer.status) }
+    ensures kept { S.held shelf.new ≡ S.held shelf.old }
+    ensures counted { S.faults shelf.old ≤ S.faults shelf.new }
 {
-    let [command, domain, problem, action] = words else {
-        return None;
-    };
-    if !is_same(command.bytes(), b"succ") {
-        return None;
+    match fetch_run_texts(alloc, shelf, given) {
+        Ok(texts) => run_answer(alloc, &texts),
+        Err(FetchFault::Failed) => line(alloc, b"read fault", Status::ReadFault),
+        Err(FetchFault::NoMemory) => Err(NoMemory),
     }
-    if domain.bytes().is_empty() || problem.bytes().is_empty() {
-        return None;
-    }
-    Some(SuccWords {
-        domain,
-        problem,
-        action,
-    })
 }
 
 /// The answer to the words of the command line.
@@ -120,8 +65,10 @@ fn answer<S: Shelf>(alloc: Global, words: &[Word], shelf: &mut S) -> Result<Answ
     ensures kept { S.held shelf.new ≡ S.held shelf.old }
     ensures counted { S.faults shelf.old ≤ S.faults shelf.new }
 {
-    let Some(given) = succ_words(words) else {
-        return line(alloc, b"bad words", Status::BadWords);
+    let given = match given_words(words) {
+        Some(GivenWords::Succ(given)) => given,
+        Some(GivenWords::Run(given)) => return fetch_and_run(alloc, shelf, &given),
+        None => return line(alloc, b"bad words", Status::BadWords),
     };
     let Some(action) = read_action(alloc, given.action)? else {
         return line(alloc, b"bad words", Status::BadWords);
@@ -140,7 +87,7 @@ fn answer<S: Shelf>(alloc: Global, words: &[Word], shelf: &mut S) -> Result<Answ
 /// words, the texts and the statuses.
 ///
 /// The order of work: the words, then the files in the order of the words, then their faults, then the
-/// action, then the job. All memory is taken before the first byte is written.
+/// certificate, the script or the action, then the job. All memory is taken before the first byte is written.
 pub fn run_tool<S: Shelf, K: Sink>(
     alloc: Global,
     words: &[Word],

@@ -1,8 +1,8 @@
 use Rattle.std.proofs.Common.{rules, ◌≡◌, ◌∷◌, [], true, ◌∙◌, ap, codes}
 use Rattle.std.specs.Str.{bytes_eq}
 use Rattle.std.proofs.lemmas.Slice.Eq.{bytes_eq-Decides}
-use Rattle.fond_tool.proofs.FourWords.{four_words}
-use Rattle.fond_tool.proofs.tool.succ_words.Goals as goal
+use Rattle.fond_tool.proofs.WordLists.{four_words}
+use Rattle.fond_tool.proofs.words.succ_words.Goals as goal
 
 pub returns-clause-some : goal.returns-clause-some
 returns-clause-some c =

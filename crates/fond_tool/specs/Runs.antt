@@ -1,0 +1,56 @@
+-- What `run` answers from the bytes of its files.
+use Rattle.std.specs.Prelude.{◌≡◌, ◌⊎◌, ℕ, Bool, true, false, List, ◌++◌, codes}
+use Rattle.std.specs.List.{list_all}
+use Rattle.std.specs.Fmt.{decimal}
+use Rattle.fond_text.specs.Bytes.{is_blank}
+use Rattle.fond_ast.specs.declared.task.LiftedTask.{LiftedTask}
+use Rattle.fond_task.specs.declared.task.Task.{Task}
+use Rattle.fond_task.specs.Texts.{state_text}
+use Rattle.fond_game.specs.declared.rule.Rule.{Rule}
+use Rattle.fond_game.specs.Policies.{IsGoal}
+use Rattle.fond_exec.specs.Traces.{Trace}
+use Rattle.fond_cert.specs.Texts.{IsPolicyText}
+use Rattle.fond_cert.specs.Faults.{IsPolicyFault}
+use Rattle.fond_script.specs.Scripts.{IsScript, IsScriptFault}
+use Rattle.fond_ground.specs.Grounds.{IsGroundOf}
+use Rattle.fond_tool.specs.declared.status.Status.{Status}
+use Rattle.fond_tool.specs.declared.status.Status.TheVariants.{Done, Refused, Rejected, Stopped}
+use Rattle.fond_tool.specs.Lines.{IsLine}
+use Rattle.fond_tool.specs.Tasks.{IsTaskOf, IsFirstFault}
+
+-- the status behind a last state: done at a goal, and else stopped
+abbrev pub IsEndStatus : Task → List Bool → Status → Type 0
+IsEndStatus task last status = (IsGoal task last × (status ≡ Done)) ⊎ ((IsGoal task last → ⊥) × (status ≡ Stopped))
+
+-- the trace of rules over numbers from the first state on, and its last state
+abbrev pub TraceOutput : Task → List Rule → List ℕ → List ℕ → Status → Type 0
+TraceOutput task rules numbers text status =
+    (lines : List ℕ) × (last : List Bool) × Trace task rules task.init numbers lines last × (text ≡ lines ++ state_text task last) × IsEndStatus task last status
+
+-- a refusal of the script at its first word that is no number, or the trace over its numbers
+abbrev pub ScriptOutput : Task → List Rule → List ℕ → List ℕ → Status → Type 0
+ScriptOutput task rules script text status =
+    ((byte : ℕ) × IsScriptFault script byte × IsLine text (codes "rejected S1 at " ++ decimal byte) × (status ≡ Rejected))
+    ⊎ ((numbers : List ℕ) × IsScript script numbers × TraceOutput task rules numbers text status)
+
+-- a refusal of the certificate at its first fault, or what comes of its rules
+abbrev pub CertOutput : Task → List ℕ → List ℕ → List ℕ → Status → Type 0
+CertOutput task cert script text status =
+    ((code : ℕ) × (byte : ℕ) × IsPolicyFault task cert code byte × IsLine text (codes "rejected C" ++ decimal code ++ codes " at " ++ decimal byte) × (status ≡ Rejected))
+    ⊎ ((rules : List Rule) × (reach : ℕ) × IsPolicyText task rules reach cert × ScriptOutput task rules script text status)
+
+-- whether a side list names no schema: each of its bytes is a blank
+abbrev pub is_empty_side : List ℕ → Bool
+is_empty_side side = list_all is_blank side
+
+-- the line of the first fault of domain, problem and side list: a side list that names a schema is refused until
+-- side lists are read
+abbrev pub IsFirstFaultOf : List ℕ → List ℕ → List ℕ → List ℕ → Type 0
+IsFirstFaultOf domain problem side line =
+    IsFirstFault domain problem line ⊎ ((task : LiftedTask) × IsTaskOf domain problem task × (is_empty_side side ≡ false) × (line ≡ codes "refused side 1 1 F24"))
+
+-- a refusal where a file has a fault, or what comes of the certificate and the script over the ground task
+abbrev pub RunOutput : List ℕ → List ℕ → List ℕ → List ℕ → List ℕ → List ℕ → Status → Type 0
+RunOutput domain problem side cert script text status =
+    ((line : List ℕ) × IsFirstFaultOf domain problem side line × IsLine text line × (status ≡ Refused))
+    ⊎ ((lifted : LiftedTask) × (task : Task) × IsTaskOf domain problem lifted × (is_empty_side side ≡ true) × IsGroundOf lifted task × CertOutput task cert script text status)

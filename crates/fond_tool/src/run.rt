@@ -1,0 +1,144 @@
+//! What `run` answers, from the bytes of its files to the trace: each stage of the order of work hands its value to
+//! the next one, or answers the line of its refusal.
+
+ghost use Rattle.fond_rules.specs.Belongs.{AreActsThere};
+ghost use Rattle.fond_rules.specs.Select.{AreOver};
+ghost use Rattle.fond_text.specs.Bytes.{is_blank};
+ghost use Rattle.fond_tool.specs.Lines.{IsLine};
+ghost use Rattle.fond_tool.specs.Runs.{is_empty_side, TraceOutput, ScriptOutput, CertOutput, RunOutput};
+ghost use Rattle.fond_tool.specs.Tasks.{IsTaskOf};
+ghost use Rattle.std.specs.Fmt.{decimal};
+ghost use Rattle.std.specs.Prelude.{◌≡◌, ◌++◌, length, codes, IfOk, OnOk, OnErr};
+
+use crate::answer::{Answer, line};
+use crate::fetch::RunTexts;
+use crate::status::Status;
+use crate::task::{TaskFault, read_task};
+use fond_ast::task::LiftedTask;
+use fond_cert::error::CertError;
+use fond_cert::policy::read_policy;
+use fond_exec::trace::trace;
+use fond_ground::ground::ground;
+use fond_rules::rules::Rules;
+use fond_script::script::{ScriptError, read_script};
+use fond_task::task::Task;
+use fond_text::fault::NoMemory;
+use std::alloc::Global;
+
+fn is_blank(b: u8) -> bool
+    ensures { result ≡ is_blank b }
+{
+    (9..=13).contains(&b) || b == b' '
+}
+
+/// Whether a side list names no schema.
+fn is_empty_side(side: &[u8]) -> bool
+    ensures { result ≡ is_empty_side side.now }
+{
+    side.iter().all(|b| is_blank(*b))
+}
+
+/// Appends the digits of a number.
+fn put_number(alloc: Global, number: u64, out: &mut Vec<u8>) -> Result<(), NoMemory>
+    ensures ok { OnOk result (out.new.items ≡ out.old.items ++ decimal number) }
+    ensures err { OnErr result (out.new.items ≡ out.old.items) }
+{
+    out.extend_from_slice(number.to_string(alloc)?.as_bytes())?;
+    Ok(())
+}
+
+/// The refusal of a certificate.
+fn cert_refusal(alloc: Global, code: u8, byte: u64) -> Result<Answer, NoMemory>
+    ensures text { IfOk result (λ answer. IsLine answer.text.items (codes "rejected C" ++ decimal code ++ codes " at " ++ decimal byte)) }
+    ensures status { IfOk result (λ answer. answer.status ≡ Status.Rejected) }
+{
+    let mut words = Vec::from_slice(alloc, b"rejected C")?;
+    put_number(alloc, u64::from(code), &mut words)?;
+    words.extend_from_slice(b" at ")?;
+    put_number(alloc, byte, &mut words)?;
+    line(alloc, &words, Status::Rejected)
+}
+
+/// The refusal of a script.
+fn script_refusal(alloc: Global, byte: u64) -> Result<Answer, NoMemory>
+    ensures text { IfOk result (λ answer. IsLine answer.text.items (codes "rejected S1 at " ++ decimal byte)) }
+    ensures status { IfOk result (λ answer. answer.status ≡ Status.Rejected) }
+{
+    let mut words = Vec::from_slice(alloc, b"rejected S1 at ")?;
+    put_number(alloc, byte, &mut words)?;
+    line(alloc, &words, Status::Rejected)
+}
+
+/// The trace of the rules over the numbers, with the last state.
+fn trace_answer(
+    alloc: Global,
+    task: &Task,
+    rules: &Rules,
+    numbers: &[u32],
+) -> Result<Answer, NoMemory>
+    requires over { AreOver (length task.now.atoms) rules.now }
+    requires there { AreActsThere task.now rules.now }
+    ensures { IfOk result (λ answer. TraceOutput task.now rules.now numbers.now answer.text.items answer.status) }
+{
+    let mut text = Vec::new(alloc);
+    let status = if trace(alloc, task, rules, numbers, &mut text)? {
+        Status::Done
+    } else {
+        Status::Stopped
+    };
+    Ok(Answer { text, status })
+}
+
+/// What comes of the rules over the numbers of a script, or the refusal of the script.
+fn script_answer(
+    alloc: Global,
+    task: &Task,
+    rules: &Rules,
+    script: &[u8],
+) -> Result<Answer, NoMemory>
+    requires over { AreOver (length task.now.atoms) rules.now }
+    requires there { AreActsThere task.now rules.now }
+    ensures { IfOk result (λ answer. ScriptOutput task.now rules.now script.now answer.text.items answer.status) }
+{
+    match read_script(alloc, script) {
+        Ok(numbers) => trace_answer(alloc, task, rules, &numbers),
+        Err(ScriptError::Refused { byte }) => script_refusal(alloc, byte),
+        Err(ScriptError::NoMemory) => Err(NoMemory),
+    }
+}
+
+/// What comes of the rules of a certificate, or the refusal of the certificate.
+fn cert_answer(alloc: Global, task: &Task, cert: &[u8], script: &[u8]) -> Result<Answer, NoMemory>
+    ensures { IfOk result (λ answer. CertOutput task.now cert.now script.now answer.text.items answer.status) }
+{
+    match read_policy(alloc, task, cert) {
+        Ok(policy) => script_answer(alloc, task, &policy.rules, script),
+        Err(CertError::Refused { code, byte }) => cert_refusal(alloc, code, byte),
+        Err(CertError::NoMemory) => Err(NoMemory),
+    }
+}
+
+/// What comes of the certificate and the script over the ground task, or the refusal of a side list that names a
+/// schema.
+fn ground_answer(alloc: Global, lifted: &LiftedTask, texts: &RunTexts) -> Result<Answer, NoMemory>
+    requires { IsTaskOf texts.now.domain.items texts.now.problem.items lifted.now }
+    ensures { IfOk result (λ answer. RunOutput texts.now.domain.items texts.now.problem.items texts.now.side.items texts.now.cert.items texts.now.script.items answer.text.items answer.status) }
+{
+    if !is_empty_side(&texts.side) {
+        return line(alloc, b"refused side 1 1 F24", Status::Refused);
+    }
+    let task = ground(alloc, lifted)?;
+    cert_answer(alloc, &task, &texts.cert, &texts.script)
+}
+
+/// The answer to `run`, from the bytes of its files.
+pub fn run_answer(alloc: Global, texts: &RunTexts) -> Result<Answer, NoMemory>
+    ensures { IfOk result (λ answer. RunOutput texts.now.domain.items texts.now.problem.items texts.now.side.items texts.now.cert.items texts.now.script.items answer.text.items answer.status) }
+{
+    match read_task(alloc, &texts.domain, &texts.problem) {
+        Ok(lifted) => ground_answer(alloc, &lifted, texts),
+        Err(TaskFault::Domain) => line(alloc, b"refused domain 1 1 F24", Status::Refused),
+        Err(TaskFault::Problem) => line(alloc, b"refused problem 1 1 F24", Status::Refused),
+        Err(TaskFault::NoMemory) => Err(NoMemory),
+    }
+}
