@@ -44,19 +44,17 @@ IsRefusedLine task due piece code at =
     ⊎ ((line : WrittenLine) × (next : Due) × IsProper line × (due_behind due line ≡ Some next) × (piece ≡ line_text line)
     × (line_refusal task line ≡ Some (record { code = code; at = at })))
 
--- where a line is due, the rest is refused: without a line feed with code 1 at its first byte, and else by its
--- first line
+-- where a line is due, the rest is refused: without a line feed with code 1 where it begins, which is the end of the
+-- text where it is empty, and else by its first line
 abbrev pub IsRefusedRest : Task → Due → List ℕ → ℕ → ℕ → Type 0
 IsRefusedRest task due rest code at =
     (HasNoFeed rest × (code ≡ 1) × (at ≡ 0))
     ⊎ ((piece : List ℕ) × (behind : List ℕ) × (rest ≡ piece ++ (codes "\n" ++ behind)) × HasNoFeed piece × IsRefusedLine task due piece code at)
 
--- where nothing is due, any rest is refused with code 1 at its first byte
+-- the rest is refused: where nothing is due, any bytes are, with code 1 at the first of them, and else by its line
 abbrev pub IsRefusedAt : Task → Due → List ℕ → ℕ → ℕ → Type 0
 IsRefusedAt task NothingDue rest code at = (rest ≢ []) × (code ≡ 1) × (at ≡ 0)
-IsRefusedAt task HeaderDue rest code at = IsRefusedRest task HeaderDue rest code at
-IsRefusedAt task (RuleDue rules) rest code at = IsRefusedRest task (RuleDue rules) rest code at
-IsRefusedAt task EndDue rest code at = IsRefusedRest task EndDue rest code at
+IsRefusedAt task due rest code at = IsRefusedRest task due rest code at
 
 -- a text is refused at a byte: behind lines that are right, the rest is refused
 pub record IsPolicyFault (task : Task) (text : List ℕ) (code byte : ℕ) : Type 0 where

@@ -57,7 +57,7 @@ pub data WrittenLine : Type 0 where
   ReachLine : (count : List ℕ) → WrittenLine
   EndLine : WrittenLine
 
--- a piece of a line: bytes that are always the same, an action, an atom, or a number that has to be below a bound
+-- a piece of a line: bytes that are never refused, an action, an atom, or a number that has to be below a bound
 pub data Piece : Type 0 where
   Fixed : (text : List ℕ) → Piece
   ActionWord : (leaves : List (List ℕ)) → Piece

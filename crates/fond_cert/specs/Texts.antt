@@ -55,8 +55,8 @@ AreRuleLines task (rule ∷ rules) (line ∷ lines) =
 abbrev pub lines_text : List WrittenLine → List ℕ
 lines_text lines = flat_map (λ line. line_text line ++ codes "\n") lines
 
--- a text is that of a policy of these rules, fewer than 2^32, and this reach number: the header, the rules' lines,
--- the reach line and the end
+-- a text is that of a policy of these rules, fewer than 2^32, and this reach number, below 2^64: the header, the
+-- rules' lines, the reach line and the end
 pub record IsPolicyText (task : Task) (rules : List Rule) (reach : ℕ) (text : List ℕ) : Type 0 where
   pub lines : List WrittenLine
   pub are_rules : AreRuleLines task rules lines

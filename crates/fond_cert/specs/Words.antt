@@ -34,7 +34,7 @@ abbrev pub first_refused : Task → ℕ → List Piece → Option Refused
 first_refused task at [] = None
 first_refused task at (piece ∷ pieces) = refused_or (piece_code task piece) at (first_refused task (at + length (piece_text piece)) pieces)
 
--- the numbers of the atoms of literals
+-- the numbers of the atoms of literals, without those that the task does not have
 abbrev pub atom_numbers : Task → List WrittenLiteral → List ℕ
 atom_numbers task literals = filter_map (λ literal. atom_number task (group_text literal.leaves)) literals
 
@@ -58,6 +58,6 @@ refusal_or_order (Some refused) ordered = Some refused
 refusal_or_order None true = None
 refusal_or_order None false = Some (record { code = 1; at = 0 })
 
--- a line is refused at its first piece that is refused, and else where its atoms are out of order
+-- a line is refused at its first piece that is refused, and else at its first byte where its atoms are out of order
 abbrev pub line_refusal : Task → WrittenLine → Option Refused
 line_refusal task line = refusal_or_order (first_refused task 0 (line_pieces line)) (is_ordered task line)
