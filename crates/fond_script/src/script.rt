@@ -6,6 +6,8 @@ ghost use Rattle.fond_script.specs.declared.script.ScriptError.TheVariants.{NoMe
 ghost use Rattle.std.specs.List.{prefix_len};
 ghost use Rattle.std.specs.Prelude.{◌≡◌, ℕ, not, IfOk, IfErr, IfSome, IfNone};
 
+use fond_text::bytes::is_blank;
+use fond_text::number::read_number;
 use std::alloc::{AllocFailed, Global};
 
 /// Why a text is no script.
@@ -24,13 +26,6 @@ impl<T: Drop> From<AllocFailed<T>> for ScriptError {
     }
 }
 
-/// Whether the byte is a blank: one of the bytes 9 to 13 and 32.
-fn is_blank(b: u8) -> bool
-    ensures { result ≡ is_blank b }
-{
-    (9..=13).contains(&b) || b == b' '
-}
-
 /// How many bytes of a word the text begins with.
 fn word_len(b: &[u8]) -> usize
     ensures { result ≡ prefix_len (λ c. not (is_blank c)) b.now }
@@ -43,17 +38,7 @@ fn number_of(word: &[u8]) -> Option<u32>
     ensures some { IfSome result (λ n. IsNumber word.now n) }
     ensures none { IfNone result ((n : ℕ) → IsNumber word.now n → ⊥) }
 {
-    let (first, further) = word.split_first()?;
-    if *first == b'+' || (*first == b'0' && !further.is_empty()) {
-        return None;
-    }
-    let Ok(digits) = std::str::from_utf8(word) else {
-        return None;
-    };
-    match digits.parse::<u32>() {
-        Ok(number) => Some(number),
-        Err(_) => None,
-    }
+    u32::try_from(read_number(word)?).ok()
 }
 
 /// The numbers that a script spells. Takes time in the length of the text and memory in their count.

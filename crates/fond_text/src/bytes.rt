@@ -1,10 +1,18 @@
 //! A list of bytes that is kept: the content of a file, or a text.
 
 ghost use Rattle.std.specs.Prelude.{◌≡◌, ℕ, ◌<◌, List, [], ◌∷◌, ◌++◌, length, slice_index, OnOk, OnErr, IfOk};
+ghost use Rattle.fond_text.specs.Bytes.{is_blank};
 
 use crate::fault::NoMemory;
 use std::alloc::Global;
 use std::marker::Model;
+
+/// Whether the byte is a blank: one of the bytes 9 to 13 and 32.
+pub fn is_blank(b: u8) -> bool
+    ensures { result ≡ is_blank b }
+{
+    (9..=13).contains(&b) || b == b' '
+}
 
 /// A list of bytes.
 #[derive(Drop)]

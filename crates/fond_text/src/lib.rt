@@ -7,6 +7,7 @@ pub mod bytes;
 pub mod fault;
 pub mod ground;
 pub mod name;
+pub mod number;
 pub mod place;
 #[cfg(test)]
 mod tests;

@@ -1,6 +1,7 @@
-use crate::bytes::Bytes;
+use crate::bytes::{Bytes, is_blank};
 use crate::ground::{Atom, Atoms, Objects};
 use crate::name::{Name, Names};
+use crate::number::{Digits, put_number, read_number};
 use crate::word::Word;
 use std::test::Fail;
 
@@ -37,4 +38,46 @@ fn kept_lists(rt: HostRuntime) -> Result<(), Fail> {
         .map_err(|_| "atom")?;
     assert_eq!(rt; atoms.len(), 1);
     Ok(())
+}
+
+#[test]
+fn blanks(rt: HostRuntime) {
+    for (byte, want) in [(8, false), (9, true), (13, true), (14, false), (32, true)] {
+        assert_eq!(rt; is_blank(byte), want, "at {byte}");
+    }
+}
+
+#[test]
+fn numbers(rt: HostRuntime) -> Result<(), Fail> {
+    let cases = [
+        (0, "0"),
+        (9, "9"),
+        (10, "10"),
+        (18_446_744_073_709_551_615, "18446744073709551615"),
+    ];
+    let mut out = Vec::new(rt.alloc());
+    for (n, text) in cases {
+        assert_eq!(rt; Digits::of(n).bytes(), text.as_bytes());
+        assert_eq!(rt; read_number(text.as_bytes()), Some(n), "at {text}");
+        put_number(&mut out, n).map_err(|_| "put")?;
+    }
+    assert_eq!(rt; out.as_slice(), b"091018446744073709551615".as_slice());
+    Ok(())
+}
+
+#[test]
+fn other_texts_are_no_numbers(rt: HostRuntime) {
+    let texts = [
+        "",
+        "00",
+        "01",
+        "+1",
+        "-1",
+        "1 ",
+        "18446744073709551616",
+        "123456789012345678901234567890",
+    ];
+    for text in texts {
+        assert_eq!(rt; read_number(text.as_bytes()), None, "at {text}");
+    }
 }
