@@ -1,4 +1,10 @@
+pub mod Balanced
+pub mod Members
+pub mod NoTree
+pub mod OneFault
 pub mod OneTree
 pub mod Places
+pub mod Right
+pub mod Stopped
 pub mod Trees
 mod Worked

@@ -12,15 +12,15 @@ use Rattle.fond_tree.specs.declared.tree.Tree.TheFolds.{fold_out-Tree, map-Tree}
 use Rattle.fond_tree.proofs.Trees.{spelling-Leaf, no_closing}
 
 -- the tokens of the members of a node
-abbrev row_spelling : {n : _} → Row_of-Tree n → List Token
+abbrev pub row_spelling : {n : _} → Row_of-Tree n → List Token
 row_spelling end_of-Tree = []
 row_spelling (more_of-Tree tree rest) = spelling tree ++ row_spelling rest
 
-row_spelling_is : {n : _} (row : Row_of-Tree n) → row_spelling row ≡ flat_map spelling (items-the_row-Tree n row)
+pub row_spelling_is : {n : _} (row : Row_of-Tree n) → row_spelling row ≡ flat_map spelling (items-the_row-Tree n row)
 row_spelling_is end_of-Tree = refl
 row_spelling_is (more_of-Tree tree rest) = ap (λ ts. spelling tree ++ ts) (row_spelling_is rest)
 
-spelling-Node' : (place : Place) (shape : _) (row : Row_of-Tree _) → spelling (Node' place shape row) ≡ Opens place ∷ (row_spelling row ++ Closes ∷ [])
+pub spelling-Node' : (place : Place) (shape : _) (row : Row_of-Tree _) → spelling (Node' place shape row) ≡ Opens place ∷ (row_spelling row ++ Closes ∷ [])
 spelling-Node' place shape row =
     fold_out-Tree (List Token) spelling_step (Node' place shape row) ∙ ap (λ x. spelling_step (map-Tree Tree (List Token) spelling x)) (outs-Node' place shape row)
     ∙ ap (λ ts. Opens place ∷ (ts ++ Closes ∷ [])) (flat_map-map (λ x. x) spelling _ ∙ ap (flat_map spelling) (items_shown-the_row-Tree-0 shape row) ∙ sym (row_spelling_is row))

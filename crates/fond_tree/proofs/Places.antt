@@ -1,5 +1,5 @@
--- Which tokens the rest of a text has, byte by byte.
-use Rattle.std.proofs.Common.{◌≡◌, ℕ, ◌+◌, ◌≤◌, ◌==◌, Bool, true, false, not, cond, if◌then◌else◌, ◌||◌, List, [], ◌∷◌, ◌++◌, map, take, drop, reverse, length, refl, sym, ◌∙◌, ap, arith, add-zero, suc, ◌⊎◌, inl, inr, ◌≢◌, subst, ◌<◌}
+-- Which tokens the rest of a text has and where it ends, byte by byte.
+use Rattle.std.proofs.Common.{◌≡◌, ℕ, ◌+◌, ◌≤◌, ◌==◌, Bool, true, false, not, cond, if◌then◌else◌, ◌||◌, List, [], ◌∷◌, ◌++◌, map, take, drop, reverse, length, refl, sym, ◌∙◌, ap, arith, add-zero, suc, ◌⊎◌, inl, inr, ◌≢◌, subst, ◌<◌, append_assoc, append-nil}
 use Rattle.std.proofs.lemmas.Bool.{true≢false}
 use Rattle.std.proofs.lemmas.Bool.Decides.{nat_tests}
 use Rattle.std.specs.Prelude.{take_while, count_by}
@@ -11,8 +11,9 @@ use Rattle.fond_text.specs.Name.{IsLeaf}
 use Rattle.fond_text.specs.Bytes.{line_feed, opening, closing, semicolon, is_blank, is_leaf_byte, lower}
 use Rattle.fond_text.specs.Places.{place_behind}
 use Rattle.fond_text.specs.declared.place.Place.{Place}
-use Rattle.fond_tree.specs.Tokens.{Token, Opens, Closes, Names, Stray, Behind, Gap, Leaf, Comment, behind_byte, begun_behind, tokens_behind}
-use Rattle.fond_tree.specs.Left.{behind_at, begun_in, tokens_at, goes_on, EndsGap, BeginsLeaf, BeginsNoTree}
+use Rattle.fond_tree.specs.Marks.{Mark, marks_behind}
+use Rattle.fond_tree.specs.Tokens.{Token, Opens, Closes, Names, Stray, Behind, Gap, Leaf, Comment, behind_byte, begun_behind}
+use Rattle.fond_tree.specs.Left.{behind_at, begun_in, marked, marks_at, end_at, goes_on, EndsGap, BeginsLeaf, BeginsUnclosed}
 
 length-after_last : {X : Type 0} (p : X → Bool) (xs : List X) → length (after_last p xs) ≡ suffix_len (λ x. not (p x)) xs
 length-after_last {X} p xs =
@@ -32,7 +33,7 @@ column_more xs b v e =
     ap (λ n. 1 + n) (length-after_last p (xs ++ b ∷ []) ∙ suffix_len-push q xs b ∙ ap (λ v. cond (not v) (1 + suffix_len q xs) 0) e ∙ ap (λ n. cond (not v) (1 + n) 0) (sym (length-after_last p xs)))
     ∙ elim v as (λ v. 1 + cond (not v) (1 + length (after_last p xs)) 0 ≡ cond v 1 (1 + length (after_last p xs) + 1)) [ true ↦ refl | false ↦ omega arith ]
 
-fold-push : {A B : Type 0} (f : B → A → B) (a : B) (xs : List A) (x : A) → fold f a (xs ++ x ∷ []) ≡ f (fold f a xs) x
+pub fold-push : {A B : Type 0} (f : B → A → B) (a : B) (xs : List A) (x : A) → fold f a (xs ++ x ∷ []) ≡ f (fold f a xs) x
 fold-push f a [] x = refl
 fold-push f a (y ∷ xs) x = fold-push f (f a y) xs x
 
@@ -53,22 +54,27 @@ begun_same Gap before b rest = refl
 begun_same Leaf before b rest = refl
 begun_same Comment before b rest = refl
 
-pub same_tokens : (behind : Behind) (before rest : List ℕ) → tokens_behind behind before rest ≡ tokens_at behind (place_behind before) rest
-unfolding tokens_at
-same_tokens behind before [] = refl
-same_tokens behind before (b ∷ rest) =
-    ap (λ front. front ++ tokens_behind (behind_byte behind b) (before ++ b ∷ []) rest) (begun_same behind before b rest)
-    ∙ ap (λ back. begun_in behind (place_behind before) b rest ++ back)
-    (same_tokens (behind_byte behind b) (before ++ b ∷ []) rest ∙ ap (λ place. tokens_at (behind_byte behind b) place rest) (place_more before b))
+pub same_marks : (behind : Behind) (before rest : List ℕ) → marks_behind behind before rest ≡ marks_at behind (place_behind before) rest
+unfolding marks_at
+same_marks behind before [] = refl
+same_marks behind before (b ∷ rest) =
+    ap (λ front. map (marked (place_behind before)) front ++ marks_behind (behind_byte behind b) (before ++ b ∷ []) rest) (begun_same behind before b rest)
+    ∙ ap (λ back. map (marked (place_behind before)) (begun_in behind (place_behind before) b rest) ++ back)
+    (same_marks (behind_byte behind b) (before ++ b ∷ []) rest ∙ ap (λ place. marks_at (behind_byte behind b) place rest) (place_more before b))
+
+pub same_end : (before rest : List ℕ) → end_at (place_behind before) rest ≡ place_behind (before ++ rest)
+unfolding end_at
+same_end before [] = ap place_behind (sym (append-nil before))
+same_end before (b ∷ rest) = ap (λ place. end_at place rest) (sym (place_more before b)) ∙ same_end (before ++ b ∷ []) rest ∙ ap place_behind (append_assoc before (b ∷ []) rest)
 
 -- what a byte in a comment or in a gap stands behind
 abbrev pub gap_or_comment : Bool → Behind
 gap_or_comment true = Comment
 gap_or_comment false = Gap
 
-pub no_tokens : (behind : Behind) (place : Place) → tokens_at behind place [] ≡ []
-unfolding tokens_at
-no_tokens behind place = refl
+pub no_marks : (behind : Behind) (place : Place) → marks_at behind place [] ≡ []
+unfolding marks_at
+no_marks behind place = refl
 
 blank_apart : (b : ℕ) → is_blank b ≡ true → (b == semicolon ≡ false) × (is_leaf_byte b ≡ false)
 blank_apart b e = grind (arith, nat_tests)
@@ -83,8 +89,8 @@ or_swaps false true v e = e
 or_swaps false false v e = e
 
 gap_step : (behind : Behind) (place : Place) (b : ℕ) (rest : List ℕ) → (is_blank b || b == semicolon) ≡ true → behind_byte Gap b ≡ behind →
-    tokens_at Gap place (b ∷ rest) ≡ tokens_at behind (behind_at b place) rest
-unfolding tokens_at
+    marks_at Gap place (b ∷ rest) ≡ marks_at behind (behind_at b place) rest
+unfolding marks_at
 gap_step behind place b rest e f = rw (e, f) refl
 
 -- what a blank or a semicolon outside a comment stands before
@@ -94,10 +100,10 @@ behind_gap b false s e = rw ((blank_apart b e).1, s) refl
 
 -- a byte of a gap or a comment begins no token
 pub skips : (in_comment : Bool) (place : Place) (b : ℕ) (rest : List ℕ) → (goes_on in_comment b || is_blank b) ≡ true →
-    tokens_at (gap_or_comment in_comment) place (b ∷ rest) ≡ tokens_at (gap_or_comment (goes_on in_comment b)) (behind_at b place) rest
-unfolding tokens_at
+    marks_at (gap_or_comment in_comment) place (b ∷ rest) ≡ marks_at (gap_or_comment (goes_on in_comment b)) (behind_at b place) rest
+unfolding marks_at
 skips true place b rest e =
-    elim (b == line_feed) as (λ v. tokens_at (if v then Gap else Comment) (behind_at b place) rest ≡ tokens_at (gap_or_comment (not v)) (behind_at b place) rest) [ true ↦ refl | false ↦ refl ]
+    elim (b == line_feed) as (λ v. marks_at (if v then Gap else Comment) (behind_at b place) rest ≡ marks_at (gap_or_comment (not v)) (behind_at b place) rest) [ true ↦ refl | false ↦ refl ]
 skips false place b rest e =
     gap_step (gap_or_comment (b == semicolon)) place b rest (or_swaps (b == semicolon) (is_blank b) true e) (behind_gap b (b == semicolon) refl e)
 
@@ -105,42 +111,58 @@ skips false place b rest e =
 abbrev pub right : Place → ℕ → Place
 right place n = record { line = place.line; column = place.column + n }
 
-leaf_more : (place : Place) (b : ℕ) (rest : List ℕ) → is_leaf_byte b ≡ true → tokens_at Leaf place (b ∷ rest) ≡ tokens_at Leaf (right place 1) rest
-unfolding tokens_at
+leaf_more : (place : Place) (b : ℕ) (rest : List ℕ) → is_leaf_byte b ≡ true → marks_at Leaf place (b ∷ rest) ≡ marks_at Leaf (right place 1) rest
+unfolding marks_at
 leaf_more place b rest e = let apart = leaf_apart b e in rw (e, apart.1, apart.2) refl
 
-leaf_ends : (place : Place) (b : ℕ) (rest : List ℕ) → is_leaf_byte b ≡ false → tokens_at Leaf place (b ∷ rest) ≡ tokens_at Gap place (b ∷ rest)
-unfolding tokens_at
+leaf_ends : (place : Place) (b : ℕ) (rest : List ℕ) → is_leaf_byte b ≡ false → marks_at Leaf place (b ∷ rest) ≡ marks_at Gap place (b ∷ rest)
+unfolding marks_at
 leaf_ends place b rest e = rw e refl
 
 drop_one : (n b : ℕ) (rest : List ℕ) → drop (1 + n) (b ∷ rest) ≡ drop n rest
 drop_one n b rest = let same : 1 + n ≡ suc n = omega arith in ap (λ m. drop m (b ∷ rest)) same
 
 leaf_run_at : (v : Bool) (place : Place) (b : ℕ) (rest : List ℕ) → is_leaf_byte b ≡ v →
-    tokens_at Leaf (right place 1) rest ≡ tokens_at Gap (right (right place 1) (prefix_len is_leaf_byte rest)) (drop (prefix_len is_leaf_byte rest) rest) →
-    tokens_at Leaf place (b ∷ rest) ≡ tokens_at Gap (right place (cond v (1 + prefix_len is_leaf_byte rest) 0)) (drop (cond v (1 + prefix_len is_leaf_byte rest) 0) (b ∷ rest))
+    marks_at Leaf (right place 1) rest ≡ marks_at Gap (right (right place 1) (prefix_len is_leaf_byte rest)) (drop (prefix_len is_leaf_byte rest) rest) →
+    marks_at Leaf place (b ∷ rest) ≡ marks_at Gap (right place (cond v (1 + prefix_len is_leaf_byte rest) 0)) (drop (cond v (1 + prefix_len is_leaf_byte rest) 0) (b ∷ rest))
 leaf_run_at true place b rest e further =
     let same : place.column + 1 + prefix_len is_leaf_byte rest ≡ place.column + (1 + prefix_len is_leaf_byte rest) = omega arith in
     leaf_more place b rest e ∙ further
-    ∙ λ i. tokens_at Gap (record { line = place.line; column = same i }) (sym (drop_one (prefix_len is_leaf_byte rest) b rest) i)
+    ∙ λ i. marks_at Gap (record { line = place.line; column = same i }) (sym (drop_one (prefix_len is_leaf_byte rest) b rest) i)
 leaf_run_at false place b rest e further =
-    leaf_ends place b rest e ∙ λ i. tokens_at Gap (record { line = place.line; column = sym (add-zero place.column) i }) (b ∷ rest)
+    leaf_ends place b rest e ∙ λ i. marks_at Gap (record { line = place.line; column = sym (add-zero place.column) i }) (b ∷ rest)
 
 -- the further bytes of a leaf begin no token
-pub leaf_run : (place : Place) (rest : List ℕ) → tokens_at Leaf place rest ≡ tokens_at Gap (right place (prefix_len is_leaf_byte rest)) (drop (prefix_len is_leaf_byte rest) rest)
-leaf_run place [] = no_tokens Leaf place ∙ sym (no_tokens Gap _)
+pub leaf_run : (place : Place) (rest : List ℕ) → marks_at Leaf place rest ≡ marks_at Gap (right place (prefix_len is_leaf_byte rest)) (drop (prefix_len is_leaf_byte rest) rest)
+leaf_run place [] = no_marks Leaf place ∙ sym (no_marks Gap _)
 leaf_run place (b ∷ rest) = leaf_run_at (is_leaf_byte b) place b rest refl (leaf_run (right place 1) rest)
 
 leaf_first : (place : Place) (b : ℕ) (rest : List ℕ) → is_leaf_byte b ≡ true →
-    tokens_at Gap place (b ∷ rest) ≡ Names place (map lower (take_while is_leaf_byte (b ∷ rest))) ∷ tokens_at Leaf (right place 1) rest
-unfolding tokens_at
+    marks_at Gap place (b ∷ rest) ≡ marked place (Names place (map lower (take_while is_leaf_byte (b ∷ rest)))) ∷ marks_at Leaf (right place 1) rest
+unfolding marks_at
 leaf_first place b rest e = let apart = leaf_apart b e in rw (e, apart.0, apart.3, apart.4, apart.1, apart.2) refl
+
+end_run_at : (v : Bool) (place : Place) (b : ℕ) (rest : List ℕ) → is_leaf_byte b ≡ v →
+    end_at (right place 1) rest ≡ end_at (right (right place 1) (prefix_len is_leaf_byte rest)) (drop (prefix_len is_leaf_byte rest) rest) →
+    end_at place (b ∷ rest) ≡ end_at (right place (cond v (1 + prefix_len is_leaf_byte rest) 0)) (drop (cond v (1 + prefix_len is_leaf_byte rest) 0) (b ∷ rest))
+unfolding end_at
+end_run_at true place b rest e further =
+    let same : place.column + 1 + prefix_len is_leaf_byte rest ≡ place.column + (1 + prefix_len is_leaf_byte rest) = omega arith in
+    let apart = leaf_apart b e in
+    rw apart.2 further
+    ∙ λ i. end_at (record { line = place.line; column = same i }) (sym (drop_one (prefix_len is_leaf_byte rest) b rest) i)
+end_run_at false place b rest e further = λ i. end_at (record { line = place.line; column = sym (add-zero place.column) i }) (b ∷ rest)
+
+-- behind the bytes of a leaf the end is the same
+pub end_run : (place : Place) (rest : List ℕ) → end_at place rest ≡ end_at (right place (prefix_len is_leaf_byte rest)) (drop (prefix_len is_leaf_byte rest) rest)
+end_run place [] = λ i. end_at (record { line = place.line; column = sym (add-zero place.column) i }) []
+end_run place (b ∷ rest) = end_run_at (is_leaf_byte b) place b rest refl (end_run (right place 1) rest)
 
 -- what a leaf's first byte begins, and what is left behind the leaf
 pub leaf_begins : (place : Place) (bytes : List ℕ) (b : ℕ) (rest : List ℕ) → bytes ≡ b ∷ rest → is_leaf_byte b ≡ true →
-    tokens_at Gap place bytes ≡ Names place (map lower (take_while is_leaf_byte bytes)) ∷ tokens_at Gap (right place (prefix_len is_leaf_byte bytes)) (drop (prefix_len is_leaf_byte bytes) bytes)
+    marks_at Gap place bytes ≡ marked place (Names place (map lower (take_while is_leaf_byte bytes))) ∷ marks_at Gap (right place (prefix_len is_leaf_byte bytes)) (drop (prefix_len is_leaf_byte bytes) bytes)
 leaf_begins place bytes b rest f e =
-    rw f (leaf_first place b rest e ∙ ap (λ back. Names place (map lower (take_while is_leaf_byte (b ∷ rest))) ∷ back) (sym (leaf_more place b rest e) ∙ leaf_run place (b ∷ rest)))
+    rw f (leaf_first place b rest e ∙ ap (λ back. marked place (Names place (map lower (take_while is_leaf_byte (b ∷ rest)))) ∷ back) (sym (leaf_more place b rest e) ∙ leaf_run place (b ∷ rest)))
 
 -- the token that begins at a byte outside a gap
 abbrev first_at : Place → ℕ → List ℕ → Token
@@ -153,65 +175,59 @@ first_at place b rest =
 name_at : ℕ → List ℕ → List ℕ
 name_at b rest = map lower (take_while is_leaf_byte (b ∷ rest))
 
-further_at : Place → ℕ → List ℕ → List Token
-further_at place b rest = tokens_at (behind_byte Gap b) (behind_at b place) rest
+further_at : Place → ℕ → List ℕ → List Mark
+further_at place b rest = marks_at (behind_byte Gap b) (behind_at b place) rest
 
-first_begins : (place : Place) (b : ℕ) (rest : List ℕ) → EndsGap (b ∷ rest) → tokens_at Gap place (b ∷ rest) ≡ first_at place b rest ∷ further_at place b rest
-unfolding tokens_at further_at name_at
+first_begins : (place : Place) (b : ℕ) (rest : List ℕ) → EndsGap (b ∷ rest) → marks_at Gap place (b ∷ rest) ≡ marked place (first_at place b rest) ∷ further_at place b rest
+unfolding marks_at further_at name_at
 first_begins place b rest ends =
     at_tests (is_blank b || b == semicolon) (b == opening) (b == closing) (is_leaf_byte b) (name_at b rest) (further_at place b rest) (ap (λ v. v || b == semicolon) ends.0 ∙ ends.1) where
-      at_tests : (g o c l : Bool) (name : List ℕ) (more : List Token) → g ≡ false →
-          (if g then [] else if o then Opens place ∷ [] else if c then Closes ∷ [] else if l then Names place name ∷ [] else Stray ∷ []) ++ more
-          ≡ (if o then Opens place else if c then Closes else if l then Names place name else Stray) ∷ more
+      at_tests : (g o c l : Bool) (name : List ℕ) (more : List Mark) → g ≡ false →
+          map (marked place) (if g then [] else if o then Opens place ∷ [] else if c then Closes ∷ [] else if l then Names place name ∷ [] else Stray ∷ []) ++ more
+          ≡ marked place (if o then Opens place else if c then Closes else if l then Names place name else Stray) ∷ more
       at_tests true o c l name more e = absurd (true≢false e)
       at_tests false true c l name more e = refl
       at_tests false false true l name more e = refl
       at_tests false false false true name more e = refl
       at_tests false false false false name more e = refl
 
-pub not_at_end : (place : Place) (text : List ℕ) → EndsGap text → tokens_at Gap place text ≡ [] → length text ≡ 0
-not_at_end place [] ends e = refl
-not_at_end place (b ∷ rest) ends e = absurd (cons≢nil (sym (first_begins place b rest ends) ∙ e)) where
-  cons≢nil : {t : Token} {more : List Token} → t ∷ more ≡ [] → ⊥
-  cons≢nil e = cc
-
-pub nothing_left : (place : Place) (text : List ℕ) → length text ≡ 0 → tokens_at Gap place text ≡ []
-nothing_left place [] e = no_tokens Gap place
+pub nothing_left : (place : Place) (text : List ℕ) → length text ≡ 0 → marks_at Gap place text ≡ []
+nothing_left place [] e = no_marks Gap place
 nothing_left place (b ∷ rest) e = absurd (omega (arith, e))
 
 pub opens : (old new : Place) (b : ℕ) (before rest now : List ℕ) → before ≡ b ∷ rest → b ≡ 40 → new ≡ behind_at b old → now ≡ rest →
-    tokens_at Gap old before ≡ Opens old ∷ tokens_at Gap new now
-unfolding tokens_at
+    marks_at Gap old before ≡ marked old (Opens old) ∷ marks_at Gap new now
+unfolding marks_at
 opens old new b before rest now split is at left = rw (split, at, left, is) refl
 
 pub closes : (old new : Place) (b : ℕ) (before rest now : List ℕ) → before ≡ b ∷ rest → b ≡ 41 → new ≡ behind_at b old → now ≡ rest →
-    tokens_at Gap old before ≡ Closes ∷ tokens_at Gap new now
-unfolding tokens_at
+    marks_at Gap old before ≡ marked old Closes ∷ marks_at Gap new now
+unfolding marks_at
 closes old new b before rest now split is at left = rw (split, at, left, is) refl
 
-pub not_closing : (place : Place) (b : ℕ) (before rest : List ℕ) → before ≡ b ∷ rest → EndsGap before → b ≢ 41 → (more : List Token) → tokens_at Gap place before ≡ Closes ∷ more → ⊥
+-- what is left begins with no closing parenthesis, where another byte stands first
+pub not_closing : (place : Place) (b : ℕ) (before rest : List ℕ) → before ≡ b ∷ rest → EndsGap before → b ≢ 41 → BeginsUnclosed (marks_at Gap place before)
 unfolding name_at
-not_closing place b before rest split ends other more e =
+not_closing place b before rest split ends other =
     let apart : (b == closing) ≡ false = grind (arith, nat_tests) in
-    let same : first_at place b rest ∷ further_at place b rest ≡ Closes ∷ more = sym (first_begins place b rest (rw split at ends)) ∙ rw split at e in
-    at_tests (b == opening) (b == closing) (is_leaf_byte b) (name_at b rest) (further_at place b rest) more apart same where
-      at_tests : (o c l : Bool) (name : List ℕ) (further more : List Token) → c ≡ false → (if o then Opens place else if c then Closes else if l then Names place name else Stray) ∷ further ≡ Closes ∷ more → ⊥
-      at_tests true c l name further more f e = cc
-      at_tests false true l name further more f e = absurd (true≢false f)
-      at_tests false false true name further more f e = cc
-      at_tests false false false name further more f e = cc
+    subst BeginsUnclosed (sym (ap (marks_at Gap place) split ∙ first_begins place b rest (rw split at ends)))
+    (at_tests (b == opening) (b == closing) (is_leaf_byte b) (name_at b rest) apart) where
+      at_tests : (o c l : Bool) (name : List ℕ) → c ≡ false → (if o then Opens place else if c then Closes else if l then Names place name else Stray) ≡ Closes → ⊥
+      at_tests true c l name f e = cc
+      at_tests false true l name f e = absurd (true≢false f)
+      at_tests false false true name f e = cc
+      at_tests false false false name f e = cc
 
-pub no_tree_begins : (place : Place) (b : ℕ) (before rest : List ℕ) → before ≡ b ∷ rest → EndsGap before → b ≢ 40 → is_leaf_byte b ≡ false → BeginsNoTree (tokens_at Gap place before)
-unfolding name_at
-no_tree_begins place b before rest split ends other leaf =
-    let apart : (b == opening) ≡ false = grind (arith, nat_tests) in
-    subst BeginsNoTree (sym (ap (tokens_at Gap place) split ∙ first_begins place b rest (rw split at ends)))
-    (at_tests (b == opening) (b == closing) (is_leaf_byte b) (name_at b rest) (further_at place b rest) apart leaf) where
-      at_tests : (o c l : Bool) (name : List ℕ) (further : List Token) → o ≡ false → l ≡ false → BeginsNoTree ((if o then Opens place else if c then Closes else if l then Names place name else Stray) ∷ further)
-      at_tests true c l name further o f = absurd (true≢false o)
-      at_tests false true l name further o f = tt
-      at_tests false false true name further o f = absurd (true≢false f)
-      at_tests false false false name further o f = tt
+-- any other byte outside a gap is stray
+pub strays : (old new : Place) (b : ℕ) (before rest now : List ℕ) → before ≡ b ∷ rest → EndsGap before → b ≢ 40 → b ≢ 41 → is_leaf_byte b ≡ false → new ≡ behind_at b old → now ≡ rest →
+    marks_at Gap old before ≡ marked old Stray ∷ marks_at Gap new now
+unfolding marks_at
+strays old new b before rest now split ends no_opening no_closing no_leaf at left =
+    let gap = rw split at ends in
+    let blank : (is_blank b || b == semicolon) ≡ false = ap (λ v. v || b == semicolon) gap.0 ∙ gap.1 in
+    let opens : (b == opening) ≡ false = grind (arith, nat_tests) in
+    let closes : (b == closing) ≡ false = grind (arith, nat_tests) in
+    rw (split, at, left, no_leaf, blank, opens, closes, gap.1) refl
 
 -- the longest run of a leaf's bytes is a leaf, where there is one
 run_is_leaf : (text : List ℕ) → BeginsLeaf text → IsLeaf (take_while is_leaf_byte text)
@@ -230,7 +246,7 @@ run_is_leaf (b ∷ rest) begins = (some, λ k d lt. rw (get_or-take _ (b ∷ res
   within k lt = omega (arith, long)
 
 pub leaf_piece : (place : Place) (text bytes rest : List ℕ) (n : ℕ) → BeginsLeaf text → n ≡ prefix_len is_leaf_byte text → bytes ≡ take n text → rest ≡ drop n text →
-    (tokens_at Gap place text ≡ Names place (map lower bytes) ∷ tokens_at Gap (right place (length bytes)) rest) × IsLeaf bytes
+    (marks_at Gap place text ≡ marked place (Names place (map lower bytes)) ∷ marks_at Gap (right place (length bytes)) rest) × IsLeaf bytes
 leaf_piece place [] bytes rest n begins counted front back = absurd begins
 leaf_piece place (b ∷ more) bytes rest n begins counted front back =
     let text = b ∷ more in
@@ -239,9 +255,28 @@ leaf_piece place (b ∷ more) bytes rest n begins counted front back =
     let long : length bytes ≡ prefix_len is_leaf_byte text = ap length run ∙ length-prefix_len is_leaf_byte text in
     (rw (long, run, left) (leaf_begins place text b more refl begins), subst IsLeaf (sym run) (run_is_leaf text begins))
 
+pub leaf_end : (place : Place) (text bytes rest : List ℕ) (n : ℕ) → n ≡ prefix_len is_leaf_byte text → bytes ≡ take n text → rest ≡ drop n text →
+    end_at (right place (length bytes)) rest ≡ end_at place text
+leaf_end place text bytes rest n counted front back =
+    let run : bytes ≡ take_while is_leaf_byte text = front ∙ ap (λ n. take n text) counted in
+    let left : rest ≡ drop (prefix_len is_leaf_byte text) text = back ∙ ap (λ n. drop n text) counted in
+    let long : length bytes ≡ prefix_len is_leaf_byte text = ap length run ∙ length-prefix_len is_leaf_byte text in
+    rw (long, left) (sym (end_run place text))
+
+-- a step leaves the end where it is
+pub end_step : (old new : Place) (b : ℕ) (before rest now : List ℕ) → before ≡ b ∷ rest → new ≡ behind_at b old → now ≡ rest → end_at new now ≡ end_at old before
+unfolding end_at
+end_step old new b before rest now split at left = rw (split, at, left) refl
+
+-- where nothing is left, the end is here
+pub at_end : (place : Place) (text : List ℕ) → length text ≡ 0 → end_at place text ≡ place
+unfolding end_at
+at_end place [] e = refl
+at_end place (b ∷ rest) e = absurd (omega (arith, e))
+
 -- a step over a byte of a gap or a comment
 pub goes_over : (c r : Bool) (b : ℕ) (old new : Place) (before now rest : List ℕ) → before ≡ b ∷ rest → r ≡ goes_on c b → (r ≡ true) ⊎ (is_blank b ≡ true) →
-    new ≡ behind_at b old → now ≡ rest → tokens_at (gap_or_comment r) new now ≡ tokens_at (gap_or_comment c) old before
+    new ≡ behind_at b old → now ≡ rest → marks_at (gap_or_comment r) new now ≡ marks_at (gap_or_comment c) old before
 goes_over c r b old new before now rest split is gap at left =
     rw (split, is, at, left) (sym (skips c old b rest (rw (← is) (either r (is_blank b) gap)))) where
       either : (x y : Bool) → (x ≡ true) ⊎ (y ≡ true) → (x || y) ≡ true
@@ -250,6 +285,6 @@ goes_over c r b old new before now rest split is gap at left =
       either false y (inr h) = h
 
 -- what is left behind a gap that went to the end
-pub all_over : (c : Bool) (old start : Place) (before text : List ℕ) → length before ≡ 0 → tokens_at (gap_or_comment c) old before ≡ tokens_at Gap start text → tokens_at Gap old before ≡ tokens_at Gap start text
-all_over c old start [] text e same = no_tokens Gap old ∙ sym (no_tokens (gap_or_comment c) old) ∙ same
+pub all_over : (c : Bool) (old start : Place) (before text : List ℕ) → length before ≡ 0 → marks_at (gap_or_comment c) old before ≡ marks_at Gap start text → marks_at Gap old before ≡ marks_at Gap start text
+all_over c old start [] text e same = no_marks Gap old ∙ sym (no_marks (gap_or_comment c) old) ∙ same
 all_over c old start (b ∷ rest) text e same = absurd (omega (arith, e))

@@ -1,8 +1,13 @@
--- Texts whose tokens were worked out by hand, computed from the definitions.
-use Rattle.std.proofs.Common.{◌≡◌, ℕ, [], ◌∷◌, refl}
+-- Texts whose tokens and faults were worked out by hand, computed from the definitions.
+use Rattle.std.proofs.Common.{◌≡◌, ℕ, ◌<◌, true, false, List, [], ◌∷◌, refl, sym, inl, inr, arith}
 use Rattle.std.specs.Prelude.{codes}
+use Rattle.std.proofs.lemmas.Bool.{true≢false}
 use Rattle.fond_text.specs.declared.place.Place.{Place}
+use Rattle.fond_tree.specs.Faults.{AreRight, IsTextFault}
+use Rattle.fond_tree.specs.Marks.{Mark, marks}
+use Rattle.fond_tree.specs.Reading.{tokens_of}
 use Rattle.fond_tree.specs.Tokens.{Opens, Closes, Names, Stray, tokens}
+use Rattle.fond_tree.proofs.Right.{AllMayStand, right_join, right_empty, empty_open}
 
 abbrev at : ℕ → ℕ → Place
 at line column = record { line = line; column = column }
@@ -30,3 +35,59 @@ comment_only = refl
 
 empty : tokens [] ≡ []
 empty = refl
+
+-- a mark has the place of its first byte, in a closing parenthesis and a stray byte too
+marked_text : marks (97 ∷ 10 ∷ 41 ∷ 127 ∷ []) ≡
+    record { at = at 1 1; token = Names (at 1 1) (97 ∷ []) } ∷ record { at = at 2 1; token = Closes } ∷ record { at = at 2 2; token = Stray } ∷ []
+marked_text = refl
+
+right_front : (front : List Mark) → AllMayStand false 0 (tokens_of front) → AreRight front
+right_front front may = right_join [] front false 0 right_empty empty_open may
+
+first : {n : ℕ} → false ≡ true → 0 < n
+first e = absurd (true≢false (sym e))
+
+-- a stray byte inside a leaf is the fault, whatever stands behind it
+stray_byte : IsTextFault (97 ∷ 127 ∷ 41 ∷ []) (at 1 2) 2
+stray_byte = inr (
+  omega arith,
+  inl (record {
+    before = record { at = at 1 1; token = Names (at 1 1) (97 ∷ []) } ∷ [];
+    mark = record { at = at 1 2; token = Stray };
+    after = record { at = at 1 3; token = Closes } ∷ [];
+    split = refl;
+    right = right_front _ (first, tt);
+    faulty = refl;
+    place_is = refl;
+  }),
+)
+
+-- a leaf is a whole tree, and nothing may be opened behind it
+behind_leaf : IsTextFault (codes "a(") (at 1 2) 4
+behind_leaf = inr (
+  omega arith,
+  inl (record {
+    before = record { at = at 1 1; token = Names (at 1 1) (97 ∷ []) } ∷ [];
+    mark = record { at = at 1 2; token = Opens (at 1 2) };
+    after = [];
+    split = refl;
+    right = right_front _ (first, tt);
+    faulty = inl ((λ e. cc, refl), refl);
+    place_is = refl;
+  }),
+)
+
+-- a parenthesis is open at the end, which is behind the line feed
+unclosed : IsTextFault (40 ∷ 97 ∷ 10 ∷ []) (at 2 1) 3
+unclosed = inr (
+  omega arith,
+  inr (record {
+    right = right_front _ ((first, omega arith), ((λ e. omega arith), tt));
+    unfinished = inl (omega arith, refl);
+    place_is = refl;
+  }),
+)
+
+-- a comment is no token
+no_token : IsTextFault (codes "; a") (at 1 4) 6
+no_token = inr (omega arith, inr (record { right = right_empty; unfinished = inr (refl, refl); place_is = refl }))

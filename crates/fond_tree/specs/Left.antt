@@ -1,7 +1,9 @@
--- What is left of a text while it is read: its tokens, by the place where it begins.
+-- What is left of a text while it is read: its tokens where they begin, and its end, by the place where the rest
+-- begins.
 use Rattle.std.specs.Prelude.{◌≡◌, ℕ, ◌+◌, ◌≤◌, ◌==◌, Bool, true, false, not, ◌||◌, List, [], ◌∷◌, ◌++◌, length, map, take_while, if◌then◌else◌}
 use Rattle.fond_text.specs.Bytes.{line_feed, opening, closing, semicolon, is_blank, is_leaf_byte, lower}
 use Rattle.fond_text.specs.declared.place.Place.{Place}
+use Rattle.fond_tree.specs.Marks.{Mark}
 use Rattle.fond_tree.specs.Tokens.{Token, Opens, Closes, Names, Stray, Behind, Gap, Leaf, Comment, behind_byte}
 
 -- the place behind a byte that stands at this place
@@ -24,10 +26,19 @@ begun_in Gap place b rest = begun_at place b rest
 begun_in Leaf place b rest = if is_leaf_byte b then [] else begun_at place b rest
 begun_in Comment place b rest = []
 
--- the tokens of what begins at this place
-unfoldable pub tokens_at : Behind → Place → List ℕ → List Token
-tokens_at behind place [] = []
-tokens_at behind place (b ∷ rest) = begun_in behind place b rest ++ tokens_at (behind_byte behind b) (behind_at b place) rest
+-- a token that begins at this place
+abbrev pub marked : Place → Token → Mark
+marked place token = record { at = place; token = token }
+
+-- the tokens of what begins at this place, each where it begins
+unfoldable pub marks_at : Behind → Place → List ℕ → List Mark
+marks_at behind place [] = []
+marks_at behind place (b ∷ rest) = map (marked place) (begun_in behind place b rest) ++ marks_at (behind_byte behind b) (behind_at b place) rest
+
+-- the place behind bytes of which the first stands at this place
+unfoldable pub end_at : Place → List ℕ → Place
+end_at place [] = place
+end_at place (b ∷ rest) = end_at (behind_at b place) rest
 
 -- whether the byte behind this one is in a comment
 abbrev pub goes_on : Bool → ℕ → Bool
@@ -50,15 +61,12 @@ abbrev pub BeginsLeaf : List ℕ → Type 0
 BeginsLeaf [] = ⊥
 BeginsLeaf (b ∷ rest) = is_leaf_byte b ≡ true
 
--- whether a closing parenthesis was next, and taken
-abbrev pub TakesClosing : Bool → List Token → List Token → Type 0
-TakesClosing true old new = old ≡ Closes ∷ new
-TakesClosing false old new = (old ≡ new) × ((more : List Token) → old ≡ Closes ∷ more → ⊥)
+-- the next token is no closing parenthesis
+abbrev pub BeginsUnclosed : List Mark → Type 0
+BeginsUnclosed [] = Unit {0}
+BeginsUnclosed (mark ∷ more) = mark.token ≡ Closes → ⊥
 
--- no tree begins here
-abbrev pub BeginsNoTree : List Token → Type 0
-BeginsNoTree [] = Unit {0}
-BeginsNoTree (Opens place ∷ more) = ⊥
-BeginsNoTree (Closes ∷ more) = Unit {0}
-BeginsNoTree (Names place bytes ∷ more) = ⊥
-BeginsNoTree (Stray ∷ more) = Unit {0}
+-- whether a closing parenthesis was next, and taken
+abbrev pub TakesClosing : Bool → List Mark → List Mark → Type 0
+TakesClosing true old new = (place : Place) × (old ≡ marked place Closes ∷ new)
+TakesClosing false old new = (old ≡ new) × BeginsUnclosed old

@@ -1,7 +1,10 @@
 pub mod Alike
 pub mod Left
+pub mod Marks
+pub mod Faults
 pub mod Reading
 pub mod Refusal
 pub mod Scanning
 pub mod Spelling
 pub mod Tokens
+pub mod Unique

@@ -28,11 +28,11 @@ depth = fold-Tree ℕ depth_step
 abbrev pub Spells : List ℕ → Tree → Type 0
 Spells text tree = tokens text ≡ spelling tree
 
--- the bytes that a text may have
+-- how many bytes a text may have
 abbrev pub longest_text : ℕ
 longest_text = 16777216
 
--- the parentheses that may be open at once
+-- how many parentheses may be open at once
 abbrev pub deepest : ℕ
 deepest = 128
 

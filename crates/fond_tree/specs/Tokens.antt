@@ -1,4 +1,4 @@
--- The tokens of a text: parentheses, leaves with their letters lowered, and bytes that no text may hold.
+-- The tokens of a text: parentheses, leaves with their letters lowered, and bytes that may stand only in comments.
 use Rattle.std.specs.Prelude.{ℕ, ◌==◌, ◌||◌, List, [], ◌∷◌, ◌++◌, map, take_while, if◌then◌else◌}
 use Rattle.fond_text.specs.declared.place.Place.{Place}
 use Rattle.fond_text.specs.Bytes.{line_feed, opening, closing, semicolon, is_blank, is_leaf_byte, lower}

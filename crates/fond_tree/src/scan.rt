@@ -1,11 +1,13 @@
 //! The text from left to right: what is left of it, and the place where that begins.
 
-ghost use Rattle.std.specs.Prelude.{◌≡◌, ◌≤◌, ◌∷◌, ◌↔◌, [], true, length};
+ghost use Rattle.std.specs.Prelude.{◌≡◌, ◌≤◌, ◌∷◌, length};
 ghost use Rattle.std.specs.List.{prefix_len};
 ghost use Rattle.fond_text.specs.Bytes.{is_blank, is_leaf_byte};
+ghost use Rattle.fond_text.specs.Places.{place_behind};
 ghost use Rattle.fond_tree.specs.Left.{behind_at, goes_on, Fits, EndsGap, BeginsLeaf, TakesClosing};
-ghost use Rattle.fond_tree.specs.Tokens.{tokens};
+ghost use Rattle.fond_tree.specs.Marks.{marks};
 
+use fond_text::bytes::is_blank;
 use fond_text::place::Place;
 
 /// What is left of a text, and its place.
@@ -16,19 +18,15 @@ pub struct Scanner<'a> {
     ghost fits: { Fits place rest.now },
 }
 
-/// What a tree begins with, a leaf by its bytes, or anything else.
+/// A token with its place, a leaf by its bytes, or the end of the text. A byte that may stand only in comments is
+/// stray where it stands outside them.
 #[derive(Clone, Copy)]
 pub enum Piece<'a> {
     Open(Place),
+    Close(Place),
     Leaf(Place, &'a [u8]),
-    Other,
-}
-
-/// Whether the byte is a blank: one of the bytes 9 to 13 and 32.
-fn is_blank(b: u8) -> bool
-    ensures { result ≡ is_blank b }
-{
-    (9..=13).contains(&b) || b == b' '
+    Stray(Place),
+    End(Place),
 }
 
 /// Whether the byte may stand in a leaf: one of the bytes 33 to 126 that is no parenthesis and no semicolon.
@@ -53,12 +51,13 @@ fn leaf_len(b: &[u8]) -> usize
 }
 
 impl<'a> Scanner<'a> {
-    ghost use Rattle.fond_tree.specs.Scanning.{tokens_left, Yields};
+    ghost use Rattle.fond_tree.specs.Scanning.{marks_left, end_left, Yields};
 
     /// All of the text.
     pub fn new(text: &'a [u8]) -> Scanner<'a>
         requires { length text.now ≤ 16777216 }
-        ensures { tokens_left result ≡ tokens text.now }
+        ensures tokens { marks_left result ≡ marks text.now }
+        ensures end { end_left result ≡ place_behind text.now }
     {
         Scanner {
             rest: text,
@@ -89,7 +88,8 @@ impl<'a> Scanner<'a> {
 
     /// Goes over blanks and comments.
     fn skip(&mut self)
-        ensures same { tokens_left self.new ≡ tokens_left self.old }
+        ensures same { marks_left self.new ≡ marks_left self.old }
+        ensures end { end_left self.new ≡ end_left self.old }
         ensures ends { EndsGap self.new.rest.now }
     {
         let mut in_comment = false;
@@ -102,17 +102,10 @@ impl<'a> Scanner<'a> {
         }
     }
 
-    /// Whether nothing but blanks and comments is left.
-    pub fn is_at_end(&mut self) -> bool
-        ensures { result ≡ true ↔ tokens_left self.old ≡ [] }
-    {
-        self.skip();
-        self.rest.is_empty()
-    }
-
     /// Whether a closing parenthesis is the next token, which is then taken.
     pub fn closes(&mut self) -> bool
-        ensures { TakesClosing result (tokens_left self.old) (tokens_left self.new) }
+        ensures taken { TakesClosing result (marks_left self.old) (marks_left self.new) }
+        ensures end { end_left self.new ≡ end_left self.old }
     {
         self.skip();
         let Some((b, rest)) = self.rest.split_first() else {
@@ -125,29 +118,32 @@ impl<'a> Scanner<'a> {
         true
     }
 
-    /// The opening parenthesis or the leaf that is the next token. What else may be next begins no tree.
+    /// The next token, which is taken, or the end.
     pub fn next(&mut self) -> Piece<'a>
-        ensures { Yields result (tokens_left self.old) (tokens_left self.new) }
+        ensures yields { Yields result (marks_left self.old) (end_left self.old) (marks_left self.new) }
+        ensures end { end_left self.new ≡ end_left self.old }
     {
         self.skip();
+        let place = self.place;
         let Some((b, rest)) = self.rest.split_first() else {
-            return Piece::Other;
+            return Piece::End(place);
         };
-        if *b == b'(' {
-            let place = self.place;
-            self.step(*b, rest);
-            return Piece::Open(place);
+        if is_leaf_byte(*b) {
+            return self.leaf();
         }
-        if !is_leaf_byte(*b) {
-            return Piece::Other;
+        self.step(*b, rest);
+        match *b {
+            b'(' => Piece::Open(place),
+            b')' => Piece::Close(place),
+            _ => Piece::Stray(place),
         }
-        self.leaf()
     }
 
     /// The leaf that begins here.
     fn leaf(&mut self) -> Piece<'a>
         requires { BeginsLeaf self.old.rest.now }
-        ensures { Yields result (tokens_left self.old) (tokens_left self.new) }
+        ensures yields { Yields result (marks_left self.old) (end_left self.old) (marks_left self.new) }
+        ensures end { end_left self.new ≡ end_left self.old }
     {
         let place = self.place;
         let (bytes, rest) = self.rest.split_at(leaf_len(self.rest));

@@ -1,8 +1,7 @@
--- Members were read, and whatever trees one reads, the others stand behind them; a node has fewer parentheses
--- left for its members.
-use Rattle.std.proofs.Common.{◌+◌, ◌*◌, length}
-use Rattle.fond_tree.specs.Scanning.{tokens_left}
-use Rattle.fond_tree.proofs.Trees.{Along}
+-- Members were read, and the others stand behind them; a node has fewer parentheses left for its members.
+use Rattle.std.proofs.Common.{◌≡◌, ◌+◌, ◌*◌, length}
+use Rattle.fond_tree.specs.Scanning.{marks_left, end_left}
+use Rattle.fond_tree.proofs.Members.{Along}
 use Rattle.fond_tree.proofs.read.+reading.Given as goal
 
 abbrev pub decreases-read_members : goal.decreases-read_members
@@ -12,7 +11,10 @@ abbrev pub decreases-read_next : goal.decreases-read_next
 decreases-read_next l = 2 * l.left
 
 abbrev pub invariant-read_members-loop-alloc : goal.invariant-read_members-loop-alloc
-invariant-read_members-loop-alloc l = Along l.left (tokens_left l.initial.scanner) l.members.items (tokens_left l.scanner)
+invariant-read_members-loop-alloc l = record {
+  along : Along l.left (marks_left l.initial.scanner) l.members.items (marks_left l.scanner);
+  end : end_left l.scanner ≡ end_left l.initial.scanner;
+}
 
 abbrev pub decreases-read_members-loop-alloc : goal.decreases-read_members-loop-alloc
-decreases-read_members-loop-alloc l = length (tokens_left l.scanner)
+decreases-read_members-loop-alloc l = length (marks_left l.scanner)

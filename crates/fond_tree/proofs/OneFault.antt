@@ -1,0 +1,77 @@
+-- Two faults of one text are the same.
+use Rattle.std.proofs.Common.{◌≡◌, ℕ, ◌+◌, ◌≤◌, ◌<◌, List, [], ◌∷◌, ◌++◌, sym, ◌∙◌, ap, ◌⊎◌, inl, inr, arith, append-nil, subst}
+use Rattle.fond_text.specs.declared.place.Place.{Place}
+use Rattle.fond_text.specs.Places.{place_behind}
+use Rattle.fond_tree.specs.Faults.{opened, closed, IsFaulty, IsWhole, IsTokenFault, IsEndFault, IsTextFault}
+use Rattle.fond_tree.specs.Marks.{Mark, marks}
+use Rattle.fond_tree.specs.Tokens.{Token, Opens, Closes, Names, Stray}
+use Rattle.fond_tree.specs.Unique.{EachTextHasOneFault}
+use Rattle.fond_tree.proofs.Right.{split}
+
+-- behind a whole tree nothing is open, so nothing there is too deep
+whole_shallow : (before : List Mark) → IsWhole before → closed before + 128 ≤ opened before → ⊥
+whole_shallow before whole deep = absurd (omega (arith, whole.1, deep))
+
+-- a token is faulty in one way
+one_code : (before : List Mark) (token : Token) (code number : ℕ) → IsFaulty before token code → IsFaulty before token number → code ≡ number
+one_code before (Opens at) code number (inl f) (inl g) = f.1 ∙ sym g.1
+one_code before (Opens at) code number (inl f) (inr g) = absurd (whole_shallow before f.0 g.0)
+one_code before (Opens at) code number (inr f) (inl g) = absurd (whole_shallow before g.0 f.0)
+one_code before (Opens at) code number (inr f) (inr g) = f.1 ∙ sym g.1
+one_code before Closes code number f g = f.1 ∙ sym g.1
+one_code before (Names at bytes) code number f g = f.1 ∙ sym g.1
+one_code before Stray code number f g = f ∙ sym g
+
+-- of two tokens, each faulty behind tokens that are right, neither stands before the other
+one_token : (tokens : List Mark) (place other : Place) (code number : ℕ) → IsTokenFault tokens place code → IsTokenFault tokens other number → (place ≡ other) × (code ≡ number)
+one_token tokens place other code number f g = at_split (split f.before (f.mark ∷ f.after) g.before g.mark g.after (sym f.split ∙ g.split)) where
+  heads : (x y : Mark) (some more : List Mark) → x ∷ some ≡ y ∷ more → x ≡ y
+  heads x y some more e = cc
+
+  at_rest : (rest : List Mark) → g.before ≡ f.before ++ rest → f.mark ∷ f.after ≡ rest ++ g.mark ∷ g.after → (place ≡ other) × (code ≡ number)
+  at_rest [] front back =
+      let same : f.mark ≡ g.mark = heads f.mark g.mark f.after g.after back in
+      let there : IsFaulty f.before g.mark.token code = subst (λ (m : Mark). IsFaulty f.before m.token code) same f.faulty in
+      let here : IsFaulty f.before g.mark.token number = subst (λ (ms : List Mark). IsFaulty ms g.mark.token number) (front ∙ append-nil f.before) g.faulty in
+      (f.place_is ∙ ap (λ (m : Mark). m.at) same ∙ sym g.place_is, one_code f.before g.mark.token code number there here)
+  at_rest (x ∷ rest) front back =
+      let same : f.mark ≡ x = heads f.mark x f.after (rest ++ g.mark ∷ g.after) back in
+      absurd (g.right f.before f.mark rest code (front ∙ ap (λ (m : Mark). f.before ++ m ∷ rest) (sym same)) f.faulty)
+
+  at_split : ((rest : List Mark) × (f.before ≡ g.before ++ g.mark ∷ rest)) ⊎ ((rest : List Mark) × (g.before ≡ f.before ++ rest) × (f.mark ∷ f.after ≡ rest ++ g.mark ∷ g.after)) →
+      (place ≡ other) × (code ≡ number)
+  at_split (inl h) = absurd (f.right g.before g.mark h.0 number h.1 g.faulty)
+  at_split (inr h) = at_rest h.0 h.1 h.2
+
+-- where no token is, nothing is open
+none_open : (tokens : List Mark) → closed tokens < opened tokens → tokens ≡ [] → ⊥
+none_open [] h e = absurd (omega (arith, h))
+none_open (mark ∷ tokens) h e = absurd cc
+
+-- an end is faulty in one way
+end_code : (tokens : List Mark) (code number : ℕ) → ((closed tokens < opened tokens) × (code ≡ 3)) ⊎ ((tokens ≡ []) × (code ≡ 6)) →
+    ((closed tokens < opened tokens) × (number ≡ 3)) ⊎ ((tokens ≡ []) × (number ≡ 6)) → code ≡ number
+end_code tokens code number (inl f) (inl g) = f.1 ∙ sym g.1
+end_code tokens code number (inl f) (inr g) = absurd (none_open tokens f.0 g.0)
+end_code tokens code number (inr f) (inl g) = absurd (none_open tokens g.0 f.0)
+end_code tokens code number (inr f) (inr g) = f.1 ∙ sym g.1
+
+-- no token is faulty where the end is
+apart : (tokens : List Mark) (end place other : Place) (code number : ℕ) → IsTokenFault tokens place code → IsEndFault tokens end other number → ⊥
+apart tokens end place other code number f g = g.right f.before f.mark f.after code f.split f.faulty
+
+-- a text that is not too long has one fault
+one_within : (tokens : List Mark) (end place other : Place) (code number : ℕ) → IsTokenFault tokens place code ⊎ IsEndFault tokens end place code →
+    IsTokenFault tokens other number ⊎ IsEndFault tokens end other number → (place ≡ other) × (code ≡ number)
+one_within tokens end place other code number (inl f) (inl g) = one_token tokens place other code number f g
+one_within tokens end place other code number (inl f) (inr g) = absurd (apart tokens end place other code number f g)
+one_within tokens end place other code number (inr f) (inl g) = absurd (apart tokens end other place number code g f)
+one_within tokens end place other code number (inr f) (inr g) = (f.place_is ∙ sym g.place_is, end_code tokens code number f.unfinished g.unfinished)
+
+pub one_fault_lem : EachTextHasOneFault
+one_fault_lem text place other code number fault also = both fault also where
+  both : IsTextFault text place code → IsTextFault text other number → (place ≡ other) × (code ≡ number)
+  both (inl f) (inl g) = (f.1 ∙ sym g.1, f.2 ∙ sym g.2)
+  both (inl f) (inr g) = absurd (omega (arith, f.0, g.0))
+  both (inr f) (inl g) = absurd (omega (arith, f.0, g.0))
+  both (inr f) (inr g) = one_within (marks text) (place_behind text) place other code number f.1 g.1

@@ -1,0 +1,5 @@
+use Rattle.fond_tree.proofs.NoTree.{no_tree_has_a_fault_lem}
+use Rattle.fond_tree.proofs.laws.no_tree_has_a_fault.Goals as goal
+
+pub returns : goal.returns
+returns c = no_tree_has_a_fault_lem
