@@ -4,6 +4,8 @@
 #[cfg(test)]
 mod answers;
 #[cfg(test)]
+mod fault_tests;
+#[cfg(test)]
 mod run_tests;
 #[cfg(test)]
 mod tests;

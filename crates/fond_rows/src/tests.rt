@@ -92,7 +92,7 @@ fn worked_examples(rt: HostRuntime) -> Result<(), Fail> {
             "coin.p",
             "(flip)",
             3,
-            "refused domain 1 1 F24\n",
+            "refused domain 1 1 F6\n",
         ),
         (
             "a problem of another domain",

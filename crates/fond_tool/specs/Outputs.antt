@@ -2,6 +2,7 @@
 use Rattle.std.specs.Prelude.{◌≡◌, ◌⊎◌, ℕ, List, [], ◌∷◌, ◌++◌, Contains, codes}
 use Rattle.fond_ast.specs.declared.task.LSchema.{LSchema}
 use Rattle.fond_ast.specs.declared.task.LiftedTask.{LiftedTask}
+use Rattle.fond_text.specs.declared.fault.Fault.{Fault}
 use Rattle.fond_text.specs.declared.place.Place.{Place}
 use Rattle.fond_tree.specs.Tokens.{Token, Opens, Closes, Names, tokens}
 use Rattle.fond_meaning.specs.Effects.{IsApplicable}
@@ -12,7 +13,7 @@ use Rattle.fond_tool.specs.declared.status.Status.TheVariants.{Done, Refused, Re
 use Rattle.fond_tool.specs.Commands.{Command, Succ, Run}
 use Rattle.fond_tool.specs.Lines.{IsLine}
 use Rattle.fond_tool.specs.Runs.{RunOutput}
-use Rattle.fond_tool.specs.Tasks.{IsTaskOf, IsFirstFault}
+use Rattle.fond_tool.specs.Tasks.{IsTaskOf, IsFirstFault, fault_line}
 
 -- the tokens are a name alone between parentheses
 pub record SpellName (pieces : List Token) (name : List ℕ) : Type 0 where
@@ -39,7 +40,7 @@ TaskOutput task action text status =
 -- the successors by an action word from the bytes of domain and problem: a refusal where one of them has a fault
 abbrev pub SuccOutput : List ℕ → List ℕ → List ℕ → List ℕ → Status → Type 0
 SuccOutput domain problem action text status =
-    ((line : List ℕ) × IsFirstFault domain problem line × IsLine text line × (status ≡ Refused))
+    ((fault : Fault) × IsFirstFault domain problem fault × IsLine text (fault_line fault) × (status ≡ Refused))
     ⊎ ((task : LiftedTask) × IsTaskOf domain problem task × TaskOutput task action text status)
 
 -- what a command answers from the contents of its files, in the order of its words

@@ -4,16 +4,19 @@ ghost use Rattle.fond_ast.specs.declared.task.LSchema.{LSchema};
 ghost use Rattle.fond_tool.specs.Commands.{name_alone};
 ghost use Rattle.fond_tool.specs.Lines.{IsLine};
 ghost use Rattle.fond_tool.specs.Outputs.{SchemaOutput, TaskOutput, SuccOutput};
+ghost use Rattle.fond_tool.specs.Tasks.{file_word, fault_line};
 ghost use Rattle.fond_first.specs.Sections.{members_or_none};
 ghost use Rattle.fond_tree.specs.Spelling.{IsReadAs};
-ghost use Rattle.std.specs.Prelude.{◌≡◌, Contains, IfOk};
+ghost use Rattle.std.specs.Prelude.{◌≡◌, ◌++◌, Contains, IfOk};
 
 use crate::action::{find_schema, schema_name};
 use crate::status::Status;
-use crate::task::{TaskFault, read_task};
+use crate::task::read_task;
 use fond_ast::task::{LSchema, LiftedTask};
 use fond_lifted::succ::{is_applicable, put_successors};
-use fond_text::fault::NoMemory;
+use fond_text::fault::{Fault, FrontError, NoMemory};
+use fond_text::number::put_number;
+use fond_text::place::FileKind;
 use fond_text::word::Word;
 use fond_tree::tree::Tree;
 use std::alloc::Global;
@@ -33,6 +36,33 @@ pub fn line(alloc: Global, words: &[u8], status: Status) -> Result<Answer, NoMem
     let mut text = Vec::from_slice(alloc, words)?;
     text.push(b'\n')?;
     Ok(Answer { text, status })
+}
+
+/// The word for a file.
+fn file_word(file: FileKind) -> &'static [u8]
+    ensures { result.now ≡ file_word file }
+{
+    match file {
+        FileKind::Domain => b"domain".as_slice(),
+        FileKind::Problem => b"problem".as_slice(),
+        FileKind::Side => b"side".as_slice(),
+    }
+}
+
+/// The refusal of a file with a fault.
+pub fn refusal(alloc: Global, fault: Fault) -> Result<Answer, NoMemory>
+    ensures text { IfOk result (λ answer. IsLine answer.text.items (fault_line fault)) }
+    ensures status { IfOk result (λ answer. answer.status ≡ Status.Refused) }
+{
+    let mut words = Vec::from_slice(alloc, b"refused ")?;
+    words.extend_from_slice(file_word(fault.file))?;
+    words.extend_from_slice(b" ")?;
+    put_number(&mut words, u64::from(fault.place.line))?;
+    words.extend_from_slice(b" ")?;
+    put_number(&mut words, u64::from(fault.place.column))?;
+    words.extend_from_slice(b" F")?;
+    put_number(&mut words, u64::from(fault.code))?;
+    line(alloc, &words, Status::Refused)
 }
 
 /// The successors by a schema.
@@ -84,8 +114,7 @@ pub fn succ_answer(
 {
     match read_task(alloc, domain, problem) {
         Ok(task) => task_answer(alloc, &task, word, action),
-        Err(TaskFault::Domain) => line(alloc, b"refused domain 1 1 F24", Status::Refused),
-        Err(TaskFault::Problem) => line(alloc, b"refused problem 1 1 F24", Status::Refused),
-        Err(TaskFault::NoMemory) => Err(NoMemory),
+        Err(FrontError::Refused(fault)) => refusal(alloc, fault),
+        Err(FrontError::NoMemory) => Err(NoMemory),
     }
 }

@@ -3,17 +3,16 @@
 
 ghost use Rattle.fond_rules.specs.Belongs.{AreActsThere};
 ghost use Rattle.fond_rules.specs.Select.{AreOver};
-ghost use Rattle.fond_text.specs.Bytes.{is_blank};
 ghost use Rattle.fond_tool.specs.Lines.{IsLine};
 ghost use Rattle.fond_tool.specs.Runs.{is_empty_side, TraceOutput, ScriptOutput, CertOutput, RunOutput};
 ghost use Rattle.fond_tool.specs.Tasks.{IsTaskOf};
 ghost use Rattle.std.specs.Fmt.{decimal};
-ghost use Rattle.std.specs.Prelude.{◌≡◌, ◌++◌, length, codes, IfOk, OnOk, OnErr};
+ghost use Rattle.std.specs.Prelude.{◌≡◌, ◌++◌, length, codes, IfOk};
 
-use crate::answer::{Answer, line};
+use crate::answer::{Answer, line, refusal};
 use crate::fetch::RunTexts;
 use crate::status::Status;
-use crate::task::{TaskFault, read_task};
+use crate::task::{not_built, read_task};
 use fond_ast::task::LiftedTask;
 use fond_cert::error::CertError;
 use fond_cert::policy::read_policy;
@@ -22,29 +21,17 @@ use fond_ground::ground::ground;
 use fond_rules::rules::Rules;
 use fond_script::script::{ScriptError, read_script};
 use fond_task::task::Task;
-use fond_text::fault::NoMemory;
+use fond_text::bytes::is_blank;
+use fond_text::fault::{FrontError, NoMemory};
+use fond_text::number::put_number;
+use fond_text::place::FileKind;
 use std::alloc::Global;
 
-fn is_blank(b: u8) -> bool
-    ensures { result ≡ is_blank b }
-{
-    (9..=13).contains(&b) || b == b' '
-}
-
-/// Whether a side list names no schema.
+/// Whether each byte of a side list is a blank.
 fn is_empty_side(side: &[u8]) -> bool
     ensures { result ≡ is_empty_side side.now }
 {
     side.iter().all(|b| is_blank(*b))
-}
-
-/// Appends the digits of a number.
-fn put_number(alloc: Global, number: u64, out: &mut Vec<u8>) -> Result<(), NoMemory>
-    ensures ok { OnOk result (out.new.items ≡ out.old.items ++ decimal number) }
-    ensures err { OnErr result (out.new.items ≡ out.old.items) }
-{
-    out.extend_from_slice(number.to_string(alloc)?.as_bytes())?;
-    Ok(())
 }
 
 /// The refusal of a certificate.
@@ -53,9 +40,9 @@ fn cert_refusal(alloc: Global, code: u8, byte: u64) -> Result<Answer, NoMemory>
     ensures status { IfOk result (λ answer. answer.status ≡ Status.Rejected) }
 {
     let mut words = Vec::from_slice(alloc, b"rejected C")?;
-    put_number(alloc, u64::from(code), &mut words)?;
+    put_number(&mut words, u64::from(code))?;
     words.extend_from_slice(b" at ")?;
-    put_number(alloc, byte, &mut words)?;
+    put_number(&mut words, byte)?;
     line(alloc, &words, Status::Rejected)
 }
 
@@ -65,7 +52,7 @@ fn script_refusal(alloc: Global, byte: u64) -> Result<Answer, NoMemory>
     ensures status { IfOk result (λ answer. answer.status ≡ Status.Rejected) }
 {
     let mut words = Vec::from_slice(alloc, b"rejected S1 at ")?;
-    put_number(alloc, byte, &mut words)?;
+    put_number(&mut words, byte)?;
     line(alloc, &words, Status::Rejected)
 }
 
@@ -125,7 +112,7 @@ fn ground_answer(alloc: Global, lifted: &LiftedTask, texts: &RunTexts) -> Result
     ensures { IfOk result (λ answer. RunOutput texts.now.domain.items texts.now.problem.items texts.now.side.items texts.now.cert.items texts.now.script.items answer.text.items answer.status) }
 {
     if !is_empty_side(&texts.side) {
-        return line(alloc, b"refused side 1 1 F24", Status::Refused);
+        return refusal(alloc, not_built(FileKind::Side));
     }
     let task = ground(alloc, lifted)?;
     cert_answer(alloc, &task, &texts.cert, &texts.script)
@@ -137,8 +124,7 @@ pub fn run_answer(alloc: Global, texts: &RunTexts) -> Result<Answer, NoMemory>
 {
     match read_task(alloc, &texts.domain, &texts.problem) {
         Ok(lifted) => ground_answer(alloc, &lifted, texts),
-        Err(TaskFault::Domain) => line(alloc, b"refused domain 1 1 F24", Status::Refused),
-        Err(TaskFault::Problem) => line(alloc, b"refused problem 1 1 F24", Status::Refused),
-        Err(TaskFault::NoMemory) => Err(NoMemory),
+        Err(FrontError::Refused(fault)) => refusal(alloc, fault),
+        Err(FrontError::NoMemory) => Err(NoMemory),
     }
 }

@@ -3,58 +3,63 @@
 ghost use Rattle.fond_ast.specs.Within.{is_condition_within, is_schema_within, is_atom_within};
 ghost use Rattle.fond_first.specs.Sections.{names_of, sections_of, is_domain, is_problem};
 ghost use Rattle.fond_first.specs.Reads.{AreDomainOf, AreProblemOf};
-ghost use Rattle.fond_tool.specs.Tasks.{IsDomainText, IsProblemText, IsTaskOf, IsNoDomain, IsNoProblem, IsNoProblemFor};
-ghost use Rattle.fond_tree.specs.declared.tree.Tree.{Tree};
+ghost use Rattle.fond_text.specs.declared.place.FileKind.TheVariants.{Domain, Problem};
+ghost use Rattle.fond_tool.specs.Tasks.{IsTaskOf, IsTaskError, IsFormError, not_built};
 ghost use Rattle.std.specs.List.{list_all};
-ghost use Rattle.std.specs.Prelude.{◌≡◌, ◌<◌, ◌^◌, true, length, IfOk, IsErrOf};
+ghost use Rattle.std.specs.Prelude.{◌≡◌, ◌<◌, ◌^◌, true, false, length, IfOk, IfErr, OnOk};
 
 use fond_ast::task::LiftedTask;
 use fond_first::domain::{ReadDomain, read_domain};
 use fond_first::form::FormError;
 use fond_first::problem::{ReadProblem, read_problem};
-use fond_text::fault::FrontError;
+use fond_text::fault::{Fault, FrontError};
 use fond_text::name::Names;
-use fond_text::place::FileKind;
+use fond_text::place::{FileKind, Place};
 use fond_tree::read::read_tree;
+use fond_tree::tree::Tree;
 use std::alloc::Global;
 
-/// Why two texts are read as no task.
-#[derive(Clone, Copy, Debug, PartialEq, Eq)]
-pub enum TaskFault {
-    /// The first text is no domain.
-    Domain,
-    /// The second text is no problem over the domain's predicates.
-    Problem,
-    NoMemory,
-}
-
-/// The domain that a text is read as.
-fn domain_of(alloc: Global, text: &[u8]) -> Result<ReadDomain, FormError>
-    ensures read { IfOk result (λ domain. (tree : Tree) × IsDomainText text.now tree × AreDomainOf (sections_of tree) domain.predicates domain.schemas × (domain.names ≡ names_of (sections_of tree))) }
-    ensures unfit { IsErrOf result FormError.Unfit → IsNoDomain text.now }
-    ensures few { IfOk result (λ domain. length domain.names < 2 ^ 32) }
-    ensures counted { IfOk result (λ domain. length domain.predicates ≡ length domain.names) }
-    ensures within { IfOk result (λ domain. list_all (is_schema_within (length domain.predicates)) domain.schemas ≡ true) }
+/// The fault of a file of a form that is not built yet.
+pub fn not_built(file: FileKind) -> Fault
+    ensures { result ≡ not_built file }
 {
-    match read_tree(alloc, FileKind::Domain, text) {
-        Ok(tree) => read_domain(alloc, &tree),
-        Err(FrontError::Refused(_)) => Err(FormError::Unfit),
-        Err(FrontError::NoMemory) => Err(FormError::NoMemory),
+    Fault {
+        file,
+        place: Place { line: 1, column: 1 },
+        code: 24,
     }
 }
 
-/// The problem that a text is read as, over these predicates.
-fn problem_of(alloc: Global, names: &Names, text: &[u8]) -> Result<ReadProblem, FormError>
+/// The domain that a tree is read as.
+fn domain_of(alloc: Global, tree: &Tree) -> Result<ReadDomain, FrontError>
+    ensures read { IfOk result (λ domain. AreDomainOf (sections_of tree.now) domain.predicates domain.schemas) }
+    ensures names { IfOk result (λ domain. domain.names ≡ names_of (sections_of tree.now)) }
+    ensures few { IfOk result (λ domain. length domain.names < 2 ^ 32) }
+    ensures counted { IfOk result (λ domain. length domain.predicates ≡ length domain.names) }
+    ensures fits { OnOk result (is_domain tree.now ≡ true) }
+    ensures within { IfOk result (λ domain. list_all (is_schema_within (length domain.predicates)) domain.schemas ≡ true) }
+    ensures unfit { IfErr result (IsFormError (is_domain tree.now ≡ false) Domain) }
+{
+    match read_domain(alloc, tree) {
+        Ok(domain) => Ok(domain),
+        Err(FormError::Unfit) => Err(FrontError::Refused(not_built(FileKind::Domain))),
+        Err(FormError::NoMemory) => Err(FrontError::NoMemory),
+    }
+}
+
+/// The problem that a tree is read as, over these predicates.
+fn problem_of(alloc: Global, names: &Names, tree: &Tree) -> Result<ReadProblem, FrontError>
     requires { length names.now < 2 ^ 32 }
-    ensures read { IfOk result (λ problem. (tree : Tree) × IsProblemText names.now text.now tree × AreProblemOf names.now (sections_of tree) problem.init problem.goal) }
-    ensures unfit { IsErrOf result FormError.Unfit → IsNoProblem names.now text.now }
+    ensures read { IfOk result (λ problem. AreProblemOf names.now (sections_of tree.now) problem.init problem.goal) }
+    ensures fits { OnOk result (is_problem names.now tree.now ≡ true) }
+    ensures unfit { IfErr result (IsFormError (is_problem names.now tree.now ≡ false) Problem) }
     ensures init_within { IfOk result (λ problem. list_all (is_atom_within (length names.now)) problem.init ≡ true) }
     ensures goal_within { IfOk result (λ problem. is_condition_within (length names.now) problem.goal ≡ true) }
 {
-    match read_tree(alloc, FileKind::Problem, text) {
-        Ok(tree) => read_problem(alloc, names, &tree),
-        Err(FrontError::Refused(_)) => Err(FormError::Unfit),
-        Err(FrontError::NoMemory) => Err(FormError::NoMemory),
+    match read_problem(alloc, names, tree) {
+        Ok(problem) => Ok(problem),
+        Err(FormError::Unfit) => Err(FrontError::Refused(not_built(FileKind::Problem))),
+        Err(FormError::NoMemory) => Err(FrontError::NoMemory),
     }
 }
 
@@ -78,20 +83,25 @@ fn join(domain: ReadDomain, problem: ReadProblem) -> LiftedTask
     }
 }
 
-/// The task that the two texts are read as.
-pub fn read_task(alloc: Global, domain: &[u8], problem: &[u8]) -> Result<LiftedTask, TaskFault>
+/// The task that the two texts are read as, or their first fault.
+pub fn read_task(alloc: Global, domain: &[u8], problem: &[u8]) -> Result<LiftedTask, FrontError>
     ensures read { IfOk result (IsTaskOf domain.now problem.now) }
-    ensures domain { IsErrOf result TaskFault.Domain → IsNoDomain domain.now }
-    ensures problem { IsErrOf result TaskFault.Problem → IsNoProblemFor domain.now problem.now }
+    ensures error { IfErr result (IsTaskError domain.now problem.now) }
 {
-    let declared = match domain_of(alloc, domain) {
-        Ok(declared) => declared,
-        Err(FormError::Unfit) => return Err(TaskFault::Domain),
-        Err(FormError::NoMemory) => return Err(TaskFault::NoMemory),
+    let domain_tree = match read_tree(alloc, FileKind::Domain, domain) {
+        Ok(tree) => tree,
+        Err(error) => return Err(error),
     };
-    match problem_of(alloc, &declared.names, problem) {
+    let problem_tree = match read_tree(alloc, FileKind::Problem, problem) {
+        Ok(tree) => tree,
+        Err(error) => return Err(error),
+    };
+    let declared = match domain_of(alloc, &domain_tree) {
+        Ok(declared) => declared,
+        Err(error) => return Err(error),
+    };
+    match problem_of(alloc, &declared.names, &problem_tree) {
         Ok(said) => Ok(join(declared, said)),
-        Err(FormError::Unfit) => Err(TaskFault::Problem),
-        Err(FormError::NoMemory) => Err(TaskFault::NoMemory),
+        Err(error) => Err(error),
     }
 }
