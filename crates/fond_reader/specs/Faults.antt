@@ -1,0 +1,87 @@
+-- The faults of a tree that is no domain or no problem, F7 to F12. The members of a node that is itself refused are not
+-- looked at.
+use Rattle.std.specs.Prelude.{◌≡◌, ◌⊎◌, ℕ, false, List, [], ◌∷◌, ◌++◌, Contains, Option, Some, None, codes, if◌then◌else◌}
+use Rattle.std.specs.List.{filter_map}
+use Rattle.fond_text.specs.declared.place.Place.{Place}
+use Rattle.fond_tree.specs.declared.tree.Tree.{Tree}
+use Rattle.fond_reader.specs.Words.{is_one_of, place_of, leaf_of, members_of, head_of}
+use Rattle.fond_reader.specs.Roles.{Role, DomainFile, ProblemFile, DomainSection, Shape, Expected, Members, Refused, node_expected, leaf_code, passed_over}
+use Rattle.fond_reader.specs.Parts.{Part, part, part_at, is_counted}
+
+-- the code with which a node is refused, if it is: 7 where a leaf is expected, or where a member is missing or one is
+-- too many, and else that of its form
+abbrev pub node_code : Option Expected → List Tree → Option ℕ
+node_code None members = Some 7
+node_code (Some (Members shape)) members = if is_counted shape.first shape.rest members then None else Some 7
+node_code (Some (Refused code)) members = Some code
+
+-- the code with which a tree of a role is refused, if it is
+abbrev pub tree_code : Role → Option (List ℕ) → Option (List Tree) → Option ℕ
+tree_code role (Some leaf) members = leaf_code role leaf
+tree_code role None (Some members) = node_code (node_expected role members) members
+tree_code role None None = None
+
+-- a tree is refused at its place
+abbrev pub Misfits : Part → Place → ℕ → Type 0
+Misfits at place code = (place ≡ place_of at.tree) × (tree_code at.role (leaf_of at.tree) (members_of at.tree) ≡ Some code)
+
+-- the members of a file behind its header, and those of an action behind its name
+abbrev pub behind_header : List Tree → List Tree
+behind_header [] = []
+behind_header (first ∷ []) = []
+behind_header (first ∷ second ∷ behind) = behind
+
+-- trees in which one stands a second time, at its own place: its head is that of an earlier one, and is not among
+-- those that may repeat
+pub record Repeats (heads : Tree → Option (List ℕ)) (free : List (List ℕ)) (trees : List Tree) (place : Place) : Type 0 where
+  pub before : List Tree
+  pub tree : Tree
+  pub after : List Tree
+  pub split : trees ≡ before ++ tree ∷ after
+  pub head : List ℕ
+  pub headed : heads tree ≡ Some head
+  pub counts : is_one_of free head ≡ false
+  pub earlier : Contains (filter_map heads before) head
+  pub place_is : place ≡ place_of tree
+
+-- every second tree of a list, from the first on
+abbrev pub keys : List Tree → List Tree
+keys [] = []
+keys (key ∷ []) = key ∷ []
+keys (key ∷ tree ∷ trees) = key ∷ keys trees
+
+-- a section of a file, or a key of an action, stands a second time
+abbrev pub IsRepeated : Role → Tree → Place → Type 0
+IsRepeated DomainFile tree place = (members : List Tree) × (members_of tree ≡ Some members) × Repeats head_of (codes ":action" ∷ []) (behind_header members) place
+IsRepeated ProblemFile tree place = (members : List Tree) × (members_of tree ≡ Some members) × Repeats head_of passed_over (behind_header members) place
+IsRepeated DomainSection tree place =
+    (members : List Tree) × (members_of tree ≡ Some members) × (head_of tree ≡ Some (codes ":action")) × Repeats leaf_of [] (keys (behind_header members)) place
+IsRepeated role tree place = ⊥
+
+-- a problem has no section of this head
+abbrev pub Lacks : List ℕ → List Tree → Type 0
+Lacks head sections = Contains (filter_map head_of sections) head → ⊥
+
+-- a problem has no domain or no goal
+abbrev pub IsIncomplete : Role → Tree → Place → Type 0
+IsIncomplete ProblemFile tree place =
+    (members : List Tree) × (members_of tree ≡ Some members) × (place ≡ place_of tree) × (Lacks (codes ":domain") (behind_header members) ⊎ Lacks (codes ":goal") (behind_header members))
+IsIncomplete role tree place = ⊥
+
+-- a fault of a part itself, or of its members side by side
+abbrev pub IsOwnFault : Part → Place → ℕ → Type 0
+IsOwnFault at place code = Misfits at place code ⊎ (IsRepeated at.role at.tree place × (code ≡ 9)) ⊎ (IsIncomplete at.role at.tree place × (code ≡ 10))
+
+-- a fault stands in a tree of a role: some part of it has that fault
+pub record Stands (role : Role) (tree : Tree) (place : Place) (code : ℕ) : Type 0 where
+  pub path : List ℕ
+  pub at : Part
+  pub reached : part_at (part role tree) path ≡ Some at
+  pub own : IsOwnFault at place code
+
+-- a fault stands in a domain, and in a problem
+abbrev pub StandsInDomain : Tree → Place → ℕ → Type 0
+StandsInDomain tree place code = Stands DomainFile tree place code
+
+abbrev pub StandsInProblem : Tree → Place → ℕ → Type 0
+StandsInProblem tree place code = Stands ProblemFile tree place code

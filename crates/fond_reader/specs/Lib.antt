@@ -1,0 +1,4 @@
+pub mod Words
+pub mod Roles
+pub mod Parts
+pub mod Faults
