@@ -6,4 +6,3 @@ pub mod find;
 pub mod task_index;
 #[cfg(test)]
 mod tests;
-pub mod text_index;

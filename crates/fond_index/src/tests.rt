@@ -1,5 +1,4 @@
 use crate::task_index::TaskIndex;
-use crate::text_index::TextIndex;
 use fond_state::state::State;
 use fond_task::form::Form;
 use fond_task::task::{Act, Acts, Labels, Outcome, Outcomes, Task};
@@ -105,28 +104,6 @@ fn actions_and_atoms_are_found_by_their_texts(rt: HostRuntime) -> Result<(), Fai
     ] {
         assert_eq!(rt; index.act(text), act);
         assert_eq!(rt; index.atom(text), atom);
-    }
-    Ok(())
-}
-
-#[test]
-fn a_text_keeps_its_first_number(rt: HostRuntime) -> Result<(), Fail> {
-    let mut index = TextIndex::new(rt.alloc());
-    for (text, number) in [
-        (b"a".as_slice(), 7),
-        (b"ab".as_slice(), 8),
-        (b"a".as_slice(), 9),
-        (b"".as_slice(), 10),
-    ] {
-        index.insert(Vec::from_slice(rt.alloc(), text)?, number)?;
-    }
-    for (text, number) in [
-        (b"a".as_slice(), Some(7)),
-        (b"ab".as_slice(), Some(8)),
-        (b"".as_slice(), Some(10)),
-        (b"b".as_slice(), None),
-    ] {
-        assert_eq!(rt; index.find(text), number);
     }
     Ok(())
 }

@@ -7,9 +7,15 @@ use Rattle.std.specs.Str.{bytes_eq}
 use Rattle.std.specs.Cmp.Lexicographic.{bytes_decides}
 use Rattle.std.proofs.lemmas.Iterator.Adapters.{position_from-zero}
 use Rattle.std.proofs.lemmas.Grind.{common_steps}
-use Rattle.fond_task.proofs.Found.{drop_at}
-use Rattle.fond_index.specs.Texts.{number_beside, with_text}
-use Rattle.fond_index.proofs.Entries.{kept_last, passed_over}
+use Rattle.std.proofs.lemmas.List.{at_drop_more}
+use Rattle.std.proofs.lemmas.Option.{slice_get_within, get_or_from_slice_get}
+use Rattle.fond_names.specs.Texts.{number_beside, with_text}
+use Rattle.fond_names.proofs.Entries.{kept_last, passed_over}
+
+-- what is left from an index on is the element there and what is left behind it
+drop_at : {X : Type 0} (xs : List X) (i : ℕ) (x : X) → slice_get xs i ≡ Some x → drop i xs ≡ x ∷ drop (i + 1) xs
+drop_at xs i x at =
+    at_drop_more (λ rest. rest) xs i x (slice_get_within xs i x at) ∙ ap (λ y. y ∷ drop (i + 1) xs) (get_or_from_slice_get xs i x x at)
 
 -- nothing is added where there is no second number
 or_none : (first : Option ℕ) → option_or first None ≡ first

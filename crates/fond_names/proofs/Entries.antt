@@ -4,7 +4,7 @@ use Rattle.std.specs.Prelude.{if◌then◌else◌}
 use Rattle.std.specs.Str.{bytes_eq}
 use Rattle.std.specs.Cmp.Lexicographic.{nat_list_eq_equiv}
 use Rattle.std.specs.Map.{lookup}
-use Rattle.fond_index.specs.Texts.{number_beside, with_text}
+use Rattle.fond_names.specs.Texts.{number_beside, with_text}
 
 -- what the entries show
 abbrev pub shown : List (Vec ℕ Global × ℕ) → List (List ℕ × ℕ)

@@ -1,6 +1,6 @@
 //! Texts with numbers.
 
-ghost use Rattle.fond_index.specs.Texts.{number_beside, with_text};
+ghost use Rattle.fond_names.specs.Texts.{number_beside, with_text};
 ghost use Rattle.std.specs.Prelude.{◌≡◌, [], OnOk, OnErr};
 
 use fond_text::fault::NoMemory;
