@@ -14,6 +14,9 @@ abbrev pub condition_within_step : ℕ → condition.LCond-F Bool → Bool
 condition_within_step count condition.Truth = true
 condition_within_step count (condition.Holds atom) = nat_lt atom.predicate count
 condition_within_step count (condition.And parts) = list_all (λ part. part) parts.items
+condition_within_step count (condition.Or parts) = list_all (λ part. part) parts.items
+condition_within_step count (condition.Not part) = part.value
+condition_within_step count (condition.Imply part other) = part.value && other.value
 
 -- whether each atom of a condition is of one of this many predicates
 abbrev pub is_condition_within : ℕ → LCond → Bool

@@ -210,7 +210,7 @@ pub struct Problem {
     pub goal: Cond,
 }
 
-/// A side list: the names of the schemas that are unfair.
+/// A side list: its leaves, which are to name the schemas that are unfair.
 #[derive(Drop)]
 pub struct Side {
     pub names: Kinds,

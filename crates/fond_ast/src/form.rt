@@ -12,6 +12,9 @@ pub enum LCond {
     Truth,
     Holds(LAtom),
     And(Vec<LCond>),
+    Or(Vec<LCond>),
+    Not(Box<LCond>),
+    Imply(Box<LCond>, Box<LCond>),
 }
 
 /// An effect. Of the members of a `OneOf`, at least one, exactly one takes place.

@@ -2,7 +2,7 @@
 
 use crate::names::{ReadAtom, Term, TypedNames};
 
-/// A condition. `Truth` is the one without members.
+/// A condition. `Truth` is `()`.
 #[derive(Drop)]
 pub enum Cond {
     Truth,

@@ -68,12 +68,13 @@ impl LPredicates {
     }
 }
 
-/// An action schema.
+/// An action schema, which is unfair where the side list names it.
 #[derive(Drop)]
 pub struct LSchema {
     pub name: Name,
     pub pre: LCond,
     pub effect: LEffect,
+    pub unfair: bool,
 }
 
 /// Action schemas, in the order of their declarations.

@@ -23,6 +23,7 @@ fn lists_keep_their_order(rt: HostRuntime) -> Result<(), Fail> {
         name: Name::lower(alloc, b"flip")?,
         pre: LCond::Truth,
         effect: LEffect::Add(LAtom { predicate: 0 }),
+        unfair: true,
     })?;
     assert_eq!(rt; schemas.len(), 1);
     assert_eq!(rt; schemas.get(0).name.bytes(), b"flip".as_slice());

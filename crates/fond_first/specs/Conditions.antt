@@ -1,5 +1,5 @@
 -- Which trees are conditions of the first form, and which condition a tree is.
-use Rattle.std.specs.Prelude.{◌≡◌, ℕ, ◌==◌, ◌&&◌, Bool, true, false, List, [], ◌∷◌, length, Option, Some, None, codes, slice_index_or, if◌then◌else◌}
+use Rattle.std.specs.Prelude.{◌≡◌, ℕ, ◌==◌, ◌&&◌, Bool, true, false, List, [], ◌∷◌, ◌++◌, length, Option, Some, None, codes, slice_index_or, if◌then◌else◌}
 use Rattle.std.specs.List.{flat_map, list_all, list_any}
 use Rattle.std.specs.Str.{bytes_eq}
 use Rattle.fond_tree.specs.declared.tree.Tree.{Tree}
@@ -7,7 +7,7 @@ use Rattle.fond_tree.specs.declared.tree.Tree.TheOpen.{Tree-F, Leaf, Node}
 use Rattle.fond_tree.specs.declared.tree.Tree.TheFolds.{fold-Tree}
 use Rattle.fond_ast.specs.declared.form.LAtom.{LAtom}
 use Rattle.fond_ast.specs.declared.form.LCond.{LCond}
-use Rattle.fond_ast.specs.declared.form.LCond.TheOpen.{LCond-F, Truth, Holds, And}
+use Rattle.fond_ast.specs.declared.form.LCond.TheOpen.{LCond-F, Truth, Holds, And, Or, Not, Imply}
 use Rattle.fond_ast.specs.declared.form.LCond.TheFolds.{fold-LCond}
 use Rattle.fond_first.specs.Words.{is_plain, enclosed, words}
 
@@ -52,6 +52,9 @@ abbrev pub condition_words_step : List (List ℕ) → LCond-F (List (List ℕ)) 
 condition_words_step names Truth = enclosed []
 condition_words_step names (Holds atom) = atom_words names atom
 condition_words_step names (And parts) = enclosed (codes "and" ∷ flat_map (λ part. part) parts.items)
+condition_words_step names (Or parts) = enclosed (codes "or" ∷ flat_map (λ part. part) parts.items)
+condition_words_step names (Not part) = enclosed (codes "not" ∷ part.value)
+condition_words_step names (Imply part other) = enclosed (codes "imply" ∷ (part.value ++ other.value))
 
 -- the words that spell a condition
 abbrev pub condition_words : List (List ℕ) → LCond → List (List ℕ)

@@ -99,5 +99,6 @@ pub fn read_action(alloc: Global, names: &Names, section: &Tree) -> Result<LSche
         name: name.copy(alloc)?,
         pre,
         effect,
+        unfair: false,
     })
 }

@@ -52,6 +52,7 @@ fn draw_condition(condition: &LCond, out: &mut String) -> Result<(), Fail> {
             }
             out.push(')')?;
         }
+        LCond::Or(_) | LCond::Not(_) | LCond::Imply(..) => out.push_str("other")?,
     }
     Ok(())
 }

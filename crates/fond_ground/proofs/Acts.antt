@@ -5,7 +5,7 @@ use Rattle.std.proofs.lemmas.List.{append_assoc, append-nil}
 use Rattle.fond_task.specs.declared.form.Kleene.{Kleene}
 use Rattle.fond_task.specs.declared.task.Act.{Act}
 use Rattle.fond_ast.specs.declared.form.LCond.{LCond}
-use Rattle.fond_ast.specs.declared.form.LCond.TheOpen.{LCond-F, Truth, Holds, And}
+use Rattle.fond_ast.specs.declared.form.LCond.TheOpen.{LCond-F, Truth, Holds, And, Or, Not, Imply}
 use Rattle.fond_ast.specs.declared.form.LCond.TheFolds.{fold-LCond}
 use Rattle.fond_ast.specs.declared.task.LSchema.{LSchema}
 use Rattle.fond_ast.specs.declared.task.LiftedTask.{LiftedTask}
@@ -20,6 +20,9 @@ step_same : (task : LiftedTask) (numbers : List (Option ℕ)) (start : List Bool
 step_same task numbers start table cube Truth = refl
 step_same task numbers start table cube (Holds atom) = λ i. known_value (table.numbered atom.predicate i) (table.initial atom.predicate i) cube
 step_same task numbers start table cube (And parts) = refl
+step_same task numbers start table cube (Or parts) = refl
+step_same task numbers start table cube (Not part) = refl
+step_same task numbers start table cube (Imply part other) = refl
 
 -- a table gives the values that its task gives
 pub value_same : (task : LiftedTask) (numbers : List (Option ℕ)) (start : List Bool) → IsTableOf task numbers start → (cube : List (Option Bool)) (condition : LCond) → table_value numbers start cube condition ≡ condition_value task cube condition

@@ -1,4 +1,4 @@
--- The ground task of a task without objects whose actions are all fair.
+-- The ground task of a task without objects.
 use Rattle.std.specs.Prelude.{◌≡◌, ℕ, Bool, true, false, not, List, [], ◌∷◌, None, map, filter, length, replicate}
 use Rattle.std.specs.List.{enumerate_from}
 use Rattle.fond_task.specs.declared.form.Kleene.{Kleene}
@@ -21,11 +21,11 @@ is_no Yes = false
 abbrev pub is_kept : LiftedTask → LSchema → Bool
 is_kept task schema = not (is_no (condition_value task (replicate (length (fluent_numbers task)) None) schema.pre))
 
--- a ground action is that of the schema of this number: its condition, its outcomes, and fair
+-- a ground action is that of the schema of this number: its condition, its outcomes, and whether it is unfair
 pub record IsActOf (task : LiftedTask) (number : ℕ) (schema : LSchema) (act : Act) : Type 0 where
   pub named : act.ground ≡ record { schema = number; objects = [] }
   pub pre : StandsFor task schema.pre act.pre
-  pub fair : act.unfair ≡ false
+  pub unfair : act.unfair ≡ schema.unfair
   pub outcomes : AreOutcomesOf task (outcome_lists schema.effect) act.outcomes
 
 -- ground actions are those of numbered schemas, in order

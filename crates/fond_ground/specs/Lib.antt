@@ -4,3 +4,4 @@ pub mod Outcomes
 pub mod Grounds
 pub mod Tables
 pub mod Puts
+pub mod Signs

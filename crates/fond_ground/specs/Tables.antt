@@ -2,14 +2,14 @@
 use Rattle.std.specs.Prelude.{◌≡◌, ℕ, ◌+◌, Bool, true, false, List, [], ◌∷◌, Option, Some, None, slice_index_or}
 use Rattle.fond_task.specs.declared.form.Kleene.{Kleene}
 use Rattle.fond_task.specs.declared.form.Kleene.TheVariants.{Yes}
-use Rattle.fond_task.specs.Values.{least}
+use Rattle.fond_task.specs.Values.{greater, least, greatest}
 use Rattle.fond_ast.specs.declared.form.LCond.{LCond}
-use Rattle.fond_ast.specs.declared.form.LCond.TheOpen.{LCond-F, Truth, Holds, And}
+use Rattle.fond_ast.specs.declared.form.LCond.TheOpen.{LCond-F, Truth, Holds, And, Or, Not, Imply}
 use Rattle.fond_ast.specs.declared.form.LCond.TheFolds.{fold-LCond}
 use Rattle.fond_ast.specs.declared.task.LPredicate.{LPredicate}
 use Rattle.fond_ast.specs.declared.task.LiftedTask.{LiftedTask}
 use Rattle.fond_ground.specs.Numbers.{atom_number, is_initial}
-use Rattle.fond_ground.specs.Values.{known_value}
+use Rattle.fond_ground.specs.Values.{known_value, opposite}
 
 -- the number of the next atom before its predicate's, and none before another
 abbrev pub numbered : Bool → ℕ → Option ℕ
@@ -30,6 +30,9 @@ abbrev pub table_step : List (Option ℕ) → List Bool → List (Option Bool) �
 table_step numbers initial cube Truth = Yes
 table_step numbers initial cube (Holds atom) = known_value (slice_index_or numbers atom.predicate None) (slice_index_or initial atom.predicate false) cube
 table_step numbers initial cube (And parts) = least parts.items
+table_step numbers initial cube (Or parts) = greatest parts.items
+table_step numbers initial cube (Not part) = opposite part.value
+table_step numbers initial cube (Imply part other) = greater (opposite part.value) other.value
 
 -- the value of a condition on a cube, by tables
 abbrev pub table_value : List (Option ℕ) → List Bool → List (Option Bool) → LCond → Kleene

@@ -3,10 +3,10 @@ use Rattle.std.specs.Prelude.{◌≡◌, ℕ, Bool, true, List, Option, Some, No
 use Rattle.fond_state.specs.Cubes.{literal_at}
 use Rattle.fond_task.specs.declared.form.Form.{Form}
 use Rattle.fond_task.specs.declared.form.Kleene.{Kleene}
-use Rattle.fond_task.specs.declared.form.Kleene.TheVariants.{No, Yes}
-use Rattle.fond_task.specs.Values.{least, literal_value, value}
+use Rattle.fond_task.specs.declared.form.Kleene.TheVariants.{No, Unknown, Yes}
+use Rattle.fond_task.specs.Values.{greater, least, greatest, literal_value, value}
 use Rattle.fond_ast.specs.declared.form.LCond.{LCond}
-use Rattle.fond_ast.specs.declared.form.LCond.TheOpen.{LCond-F, Truth, Holds, And}
+use Rattle.fond_ast.specs.declared.form.LCond.TheOpen.{LCond-F, Truth, Holds, And, Or, Not, Imply}
 use Rattle.fond_ast.specs.declared.form.LCond.TheFolds.{fold-LCond}
 use Rattle.fond_ast.specs.declared.task.LiftedTask.{LiftedTask}
 use Rattle.fond_ground.specs.Numbers.{atom_number, is_initial}
@@ -16,12 +16,22 @@ abbrev pub known_value : Option ℕ → Bool → List (Option Bool) → Kleene
 known_value None initial cube = if initial then Yes else No
 known_value (Some number) initial cube = literal_value (literal_at cube number) true
 
+-- the opposite of a value
+abbrev pub opposite : Kleene → Kleene
+opposite No = Yes
+opposite Unknown = Unknown
+opposite Yes = No
+
 abbrev pub condition_value_step : LiftedTask → List (Option Bool) → LCond-F Kleene → Kleene
 condition_value_step task cube Truth = Yes
 condition_value_step task cube (Holds atom) = known_value (atom_number task atom.predicate) (is_initial task atom.predicate) cube
 condition_value_step task cube (And parts) = least parts.items
+condition_value_step task cube (Or parts) = greatest parts.items
+condition_value_step task cube (Not part) = opposite part.value
+condition_value_step task cube (Imply part other) = greater (opposite part.value) other.value
 
--- the value of a written condition on a cube: a conjunction is the least of its parts
+-- the value of a written condition on a cube: a conjunction is the least of its parts, a disjunction the greatest, a
+-- negation the opposite of its part, and an implication the greater of the opposite of its first part and its second
 abbrev pub condition_value : LiftedTask → List (Option Bool) → LCond → Kleene
 condition_value task cube = fold-LCond Kleene (condition_value_step task cube)
 

@@ -79,7 +79,7 @@ fn act_of(
             objects: Objects::new(alloc),
         },
         pre,
-        unfair: false,
+        unfair: schema.unfair,
         outcomes,
     })
 }

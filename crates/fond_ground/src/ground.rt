@@ -76,9 +76,9 @@ fn ground_by(
     }
 }
 
-/// The ground task of a task, all of whose actions are fair. Takes time and memory by the sizes of the task
-/// and of the outcomes of its effects. Where there are 2^32 atoms or schemas, or an effect holds a literal of
-/// a predicate that is not fluent, which no task that was read does, the answer is a refusal.
+/// The ground task of a task. Takes time and memory by the sizes of the task and of the outcomes of its
+/// effects. Where there are 2^32 atoms or schemas, or an effect holds a literal of a predicate that is not
+/// fluent, which no task that was read does, the answer is a refusal.
 pub fn ground(alloc: Global, task: &LiftedTask) -> Result<Task, NoMemory>
     ensures { IfOk result (IsGroundOf task.now) }
 {

@@ -1,4 +1,4 @@
-//! From a task to its ground task. So far tasks without objects whose actions are all fair are grounded.
+//! From a task to its ground task. So far tasks without objects are grounded.
 #![tactic(auto)]
 
 mod act;

@@ -1,6 +1,6 @@
-ghost use Rattle.fond_ast.specs.Within.{is_effect_within, is_atom_within};
+ghost use Rattle.fond_ast.specs.Within.{is_condition_within, is_effect_within, is_atom_within};
 ghost use Rattle.std.specs.List.{list_all};
-ghost use Rattle.std.specs.Prelude.{◌≡◌, [], length, IfOk, IfSome, IsTrue};
+ghost use Rattle.std.specs.Prelude.{◌≡◌, [], true, length, IfOk, IfSome, IsTrue};
 
 use crate::succ::{is_applicable, put_successors};
 use fond_ast::form::{LAtom, LCond, LEffect};
@@ -12,6 +12,8 @@ use std::alloc::Global;
 use std::test::Fail;
 
 const HEADS: LAtom = LAtom { predicate: 0 };
+
+const ROUND: LAtom = LAtom { predicate: 1 };
 
 /// Whether the numbers of an effect are all below `count`, and its choices have members.
 fn fits(effect: &LEffect, count: usize) -> bool
@@ -86,8 +88,33 @@ fn effect(alloc: Global, is_choice: bool) -> Result<LEffect, NoMemory> {
     Ok(LEffect::And(parts))
 }
 
-/// A task with the one action `flip`, which is applicable at heads.
-fn task(alloc: Global, is_heads: bool, is_choice: bool) -> Result<Option<LiftedTask>, NoMemory>
+/// `(not (round))`.
+fn is_not_round(alloc: Global) -> Result<LCond, NoMemory>
+    ensures { IfOk result (λ c. is_condition_within 2 c ≡ true) }
+{
+    Ok(LCond::Not(Box::new(alloc, LCond::Holds(ROUND))?))
+}
+
+/// `(or (not (round)) (imply (heads) (not (round))))`, which does not hold where both predicates do.
+fn nested(alloc: Global) -> Result<LCond, NoMemory>
+    ensures { IfOk result (λ c. is_condition_within 2 c ≡ true) }
+{
+    let heads = Box::new(alloc, LCond::Holds(HEADS))?;
+    let other = Box::new(alloc, is_not_round(alloc)?)?;
+    let mut parts = Vec::new(alloc);
+    parts.push(is_not_round(alloc)?)?;
+    parts.push(LCond::Imply(heads, other))?;
+    Ok(LCond::Or(parts))
+}
+
+/// A task with the one action `flip` of this precondition.
+fn task(
+    alloc: Global,
+    pre: LCond,
+    is_heads: bool,
+    is_choice: bool,
+) -> Result<Option<LiftedTask>, NoMemory>
+    requires { is_condition_within 2 pre ≡ true }
     ensures { IfOk result (λ o. IfSome o (λ t. length t.schemas ≡ 1)) }
 {
     let effect = effect(alloc, is_choice)?;
@@ -97,8 +124,9 @@ fn task(alloc: Global, is_heads: bool, is_choice: bool) -> Result<Option<LiftedT
     let mut schemas = LSchemas::new(alloc);
     schemas.push(LSchema {
         name: Name::lower(alloc, b"flip")?,
-        pre: LCond::Holds(HEADS),
+        pre,
         effect,
+        unfair: false,
     })?;
     Ok(Some(LiftedTask {
         predicates: predicates(alloc)?,
@@ -117,7 +145,7 @@ fn distinct_successors_are_told(rt: HostRuntime) -> Result<(), Fail> {
         (false, false, b"state\n(heads)\n"),
     ];
     for (is_heads, is_choice, text) in rows {
-        let built = task(alloc, is_heads, is_choice)?;
+        let built = task(alloc, LCond::Holds(HEADS), is_heads, is_choice)?;
         assert!(rt; built.is_some());
         if let Some(task) = built {
             let flip = task.schemas.get(0);
@@ -125,6 +153,22 @@ fn distinct_successors_are_told(rt: HostRuntime) -> Result<(), Fail> {
             let mut out = Vec::new(alloc);
             put_successors(alloc, &task, flip, &mut out)?;
             assert_eq!(rt; out.as_slice(), text);
+        }
+    }
+    Ok(())
+}
+
+#[test]
+fn a_nested_condition_is_looked_at(rt: HostRuntime) -> Result<(), Fail> {
+    let alloc = rt.alloc();
+    for is_heads in [false, true] {
+        let built = task(alloc, nested(alloc)?, is_heads, true)?;
+        assert!(rt; built.is_some());
+        if let Some(task) = built {
+            assert_eq!(rt;
+                is_applicable(alloc, &task, task.schemas.get(0))?,
+                !is_heads
+            );
         }
     }
     Ok(())

@@ -5,7 +5,8 @@ ghost use Rattle.fond_lifted.specs.Values.{state_of, values_of};
 ghost use Rattle.fond_meaning.specs.Conditions.{holds};
 ghost use Rattle.fond_meaning.specs.Effects.{after};
 ghost use Rattle.fond_meaning.specs.Successors.{initial, atom_of_number};
-ghost use Rattle.std.specs.Prelude.{◌≡◌, ◌<◌, ℕ, false, length, slice_index_or, IfOk, if◌then◌else◌};
+ghost use Rattle.std.specs.List.{list_all, list_any};
+ghost use Rattle.std.specs.Prelude.{◌≡◌, ◌<◌, ℕ, false, map, length, slice_index_or, IfOk, if◌then◌else◌};
 
 use crate::outcome::{Literal, Outcome};
 use fond_ast::form::LCond;
@@ -33,20 +34,42 @@ pub(crate) fn value(values: &[bool], number: usize) -> bool
 }
 
 /// Whether a condition holds.
+#[cycle(truth)]
 pub(crate) fn is_true(values: &[bool], condition: &LCond) -> bool
     ensures { result ≡ holds (state_of values.now) condition.now }
 {
     match condition {
         LCond::Truth => true,
         LCond::Holds(atom) => value(values, atom.predicate as usize),
-        LCond::And(parts) => {
-            let mut all = true;
-            for part in parts {
-                all = all && is_true(values, part);
-            }
-            all
-        }
+        LCond::And(parts) => are_all_true(values, parts),
+        LCond::Or(parts) => is_any_true(values, parts),
+        LCond::Not(part) => !is_true(values, part),
+        LCond::Imply(part, other) => !is_true(values, part) || is_true(values, other),
     }
+}
+
+/// Whether each of the conditions holds.
+#[cycle(truth)]
+fn are_all_true(values: &[bool], parts: &[LCond]) -> bool
+    ensures { result ≡ list_all (λ part. part) (map (holds (state_of values.now)) parts.now) }
+{
+    let mut all = true;
+    for part in parts {
+        all = all && is_true(values, part);
+    }
+    all
+}
+
+/// Whether some one of the conditions holds.
+#[cycle(truth)]
+fn is_any_true(values: &[bool], parts: &[LCond]) -> bool
+    ensures { result ≡ list_any (λ part. part) (map (holds (state_of values.now)) parts.now) }
+{
+    let mut any = false;
+    for part in parts {
+        any = any || is_true(values, part);
+    }
+    any
 }
 
 /// Makes the literals of this sign true: their atoms get the sign as their value.

@@ -1,10 +1,10 @@
 -- Which conditions hold in a state.
-use Rattle.std.specs.Prelude.{Bool, true, []}
-use Rattle.std.specs.List.{list_all}
+use Rattle.std.specs.Prelude.{◌||◌, Bool, true, not, []}
+use Rattle.std.specs.List.{list_all, list_any}
 use Rattle.fond_text.specs.declared.ground.Atom.{Atom}
 use Rattle.fond_ast.specs.declared.form.LAtom.{LAtom}
 use Rattle.fond_ast.specs.declared.form.LCond.{LCond}
-use Rattle.fond_ast.specs.declared.form.LCond.TheOpen.{LCond-F, Truth, Holds, And}
+use Rattle.fond_ast.specs.declared.form.LCond.TheOpen.{LCond-F, Truth, Holds, And, Or, Not, Imply}
 use Rattle.fond_ast.specs.declared.form.LCond.TheFolds.{fold-LCond}
 use Rattle.fond_meaning.specs.States.{State}
 
@@ -16,7 +16,12 @@ abbrev pub holds_step : State → LCond-F Bool → Bool
 holds_step state Truth = true
 holds_step state (Holds atom) = state (ground_atom atom)
 holds_step state (And parts) = list_all (λ part. part) parts.items
+holds_step state (Or parts) = list_any (λ part. part) parts.items
+holds_step state (Not part) = not part.value
+holds_step state (Imply part other) = not part.value || other.value
 
--- whether a condition holds in a state: an atom where it is in the state, a conjunction where each part holds
+-- whether a condition holds in a state: an atom where it is in the state, a conjunction where each part holds, a
+-- disjunction where some part does, a negation where its part does not, and an implication where its first part
+-- does not or its second one does
 abbrev pub holds : State → LCond → Bool
 holds state = fold-LCond Bool (holds_step state)

@@ -6,6 +6,6 @@ pub returns : goal.returns
 returns c = λ task table. record {
   named = λ i. record { schema = c.args.number; objects = c.new.ensures i };
   pre = λ cube. c.in_ok-pre.ensures cube ∙ value_same task c.args.numbers.now c.args.start.now table cube c.args.schema.now.pre;
-  fair = refl;
+  unfair = refl;
   outcomes = c.in_ok-outcomes.ensures task c.args.start.now table;
 }
