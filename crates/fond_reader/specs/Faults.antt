@@ -1,11 +1,13 @@
--- The faults of a tree that is no domain or no problem, F7 to F12. The members of a node that is itself refused are not
--- looked at.
-use Rattle.std.specs.Prelude.{◌≡◌, ◌⊎◌, ℕ, false, List, [], ◌∷◌, ◌++◌, Contains, Option, Some, None, codes, if◌then◌else◌}
+-- The faults of a tree that is no domain or no problem, F7 to F12, and F24 for what is not built yet. The members of a
+-- node that is itself refused with F8, F11 or F12 are not looked at.
+use Rattle.std.specs.Prelude.{◌≡◌, ◌⊎◌, ℕ, true, List, [], ◌∷◌, ◌++◌, Contains, Option, Some, None, codes, if◌then◌else◌}
 use Rattle.std.specs.List.{filter_map}
 use Rattle.fond_text.specs.declared.place.Place.{Place}
 use Rattle.fond_tree.specs.declared.tree.Tree.{Tree}
 use Rattle.fond_reader.specs.Words.{is_one_of, place_of, leaf_of, members_of, head_of}
-use Rattle.fond_reader.specs.Roles.{Role, DomainFile, ProblemFile, DomainSection, Shape, Expected, Members, Refused, node_expected, leaf_code, passed_over}
+use Rattle.fond_reader.specs.declared.role.Role.{Role}
+use Rattle.fond_reader.specs.declared.role.Role.TheVariants.{DomainFile, ProblemFile, DomainSection}
+use Rattle.fond_reader.specs.Roles.{Expected, Members, Refused, node_expected, leaf_code, action_keys, is_unbuilt}
 use Rattle.fond_reader.specs.Parts.{Part, part, part_at, is_counted}
 
 -- the code with which a node is refused, if it is: 7 where a leaf is expected, or where a member is missing or one is
@@ -31,16 +33,23 @@ behind_header [] = []
 behind_header (first ∷ []) = []
 behind_header (first ∷ second ∷ behind) = behind
 
--- trees in which one stands a second time, at its own place: its head is that of an earlier one, and is not among
--- those that may repeat
-pub record Repeats (heads : Tree → Option (List ℕ)) (free : List (List ℕ)) (trees : List Tree) (place : Place) : Type 0 where
+-- the sections of a domain that stand at most once
+abbrev pub single_in_domain : List (List ℕ)
+single_in_domain = codes ":requirements" ∷ codes ":types" ∷ codes ":constants" ∷ codes ":predicates" ∷ []
+
+-- the sections of a problem that stand at most once
+abbrev pub single_in_problem : List (List ℕ)
+single_in_problem = codes ":requirements" ∷ codes ":domain" ∷ codes ":objects" ∷ codes ":init" ∷ codes ":goal" ∷ []
+
+-- a tree whose head is one of those that stand at most once stands behind another one of that head, at its own place
+pub record Repeats (heads : Tree → Option (List ℕ)) (single : List (List ℕ)) (trees : List Tree) (place : Place) : Type 0 where
   pub before : List Tree
   pub tree : Tree
   pub after : List Tree
   pub split : trees ≡ before ++ tree ∷ after
   pub head : List ℕ
   pub headed : heads tree ≡ Some head
-  pub counts : is_one_of free head ≡ false
+  pub counts : is_one_of single head ≡ true
   pub earlier : Contains (filter_map heads before) head
   pub place_is : place ≡ place_of tree
 
@@ -52,10 +61,10 @@ keys (key ∷ tree ∷ trees) = key ∷ keys trees
 
 -- a section of a file, or a key of an action, stands a second time
 abbrev pub IsRepeated : Role → Tree → Place → Type 0
-IsRepeated DomainFile tree place = (members : List Tree) × (members_of tree ≡ Some members) × Repeats head_of (codes ":action" ∷ []) (behind_header members) place
-IsRepeated ProblemFile tree place = (members : List Tree) × (members_of tree ≡ Some members) × Repeats head_of passed_over (behind_header members) place
+IsRepeated DomainFile tree place = (members : List Tree) × (members_of tree ≡ Some members) × Repeats head_of single_in_domain (behind_header members) place
+IsRepeated ProblemFile tree place = (members : List Tree) × (members_of tree ≡ Some members) × Repeats head_of single_in_problem (behind_header members) place
 IsRepeated DomainSection tree place =
-    (members : List Tree) × (members_of tree ≡ Some members) × (head_of tree ≡ Some (codes ":action")) × Repeats leaf_of [] (keys (behind_header members)) place
+    (members : List Tree) × (members_of tree ≡ Some members) × (head_of tree ≡ Some (codes ":action")) × Repeats leaf_of action_keys (keys (behind_header members)) place
 IsRepeated role tree place = ⊥
 
 -- a problem has no section of this head
@@ -68,9 +77,17 @@ IsIncomplete ProblemFile tree place =
     (members : List Tree) × (members_of tree ≡ Some members) × (place ≡ place_of tree) × (Lacks (codes ":domain") (behind_header members) ⊎ Lacks (codes ":goal") (behind_header members))
 IsIncomplete role tree place = ⊥
 
+-- a node is of a form that is not built yet
+abbrev pub IsUnbuilt : Part → Place → Type 0
+IsUnbuilt at place = (members : List Tree) × (members_of at.tree ≡ Some members) × (is_unbuilt at.role members ≡ true) × (place ≡ place_of at.tree)
+
 -- a fault of a part itself, or of its members side by side
 abbrev pub IsOwnFault : Part → Place → ℕ → Type 0
-IsOwnFault at place code = Misfits at place code ⊎ (IsRepeated at.role at.tree place × (code ≡ 9)) ⊎ (IsIncomplete at.role at.tree place × (code ≡ 10))
+IsOwnFault at place code =
+    Misfits at place code
+    ⊎ (IsRepeated at.role at.tree place × (code ≡ 9))
+    ⊎ (IsIncomplete at.role at.tree place × (code ≡ 10))
+    ⊎ (IsUnbuilt at place × (code ≡ 24))
 
 -- a fault stands in a tree of a role: some part of it has that fault
 pub record Stands (role : Role) (tree : Tree) (place : Place) (code : ℕ) : Type 0 where

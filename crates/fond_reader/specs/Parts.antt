@@ -1,9 +1,13 @@
 -- The members of a node, each with what is expected of it.
-use Rattle.std.specs.Prelude.{ℕ, ◌&&◌, Bool, true, false, not, List, [], ◌∷◌, ◌++◌, Option, Some, None, map, codes, slice_get, option_and_then, if◌then◌else◌}
+use Rattle.std.specs.Prelude.{ℕ, ◌&&◌, Bool, true, false, not, List, [], ◌∷◌, ◌++◌, Option, Some, None, map, codes, slice_get, option_and_then, option_map, option_to_list, if◌then◌else◌}
 use Rattle.std.specs.Str.{bytes_eq}
 use Rattle.fond_tree.specs.declared.tree.Tree.{Tree}
 use Rattle.fond_reader.specs.Words.{leaf_of, members_of}
-use Rattle.fond_reader.specs.Roles.{Role, Key, Variables, Condition, Effect, Rest, NoMore, Each, Typed, Pairs, Unread, Shape, Expected, Members, Refused, node_expected}
+use Rattle.fond_reader.specs.declared.role.Role.{Role}
+use Rattle.fond_reader.specs.declared.role.Role.TheVariants.{Key, Parameters, Condition, WholeEffect}
+use Rattle.fond_reader.specs.declared.role.Rest.{Rest}
+use Rattle.fond_reader.specs.declared.role.Rest.TheVariants.{NoMore, Each, Typed, Pairs, Unread}
+use Rattle.fond_reader.specs.Roles.{Expected, Members, Refused, node_expected}
 
 -- a tree, and what is expected of it
 pub record Part : Type 0 where
@@ -21,22 +25,25 @@ is_dash tree = equals (leaf_of tree)
     equals None = false
     equals (Some leaf) = bytes_eq leaf (codes "-")
 
--- a typed list: leaves, and behind one or more of them a `-` and their type. A `-` behind a leaf that has no type yet
--- gives it the tree behind it; each other `-` is a leaf that does not fit
+-- a typed list: leaves, and behind one or more of them a `-` and their type. A `-` behind a tree that has no type
+-- yet gives it the tree behind it; each other `-` is a leaf that does not fit
 abbrev pub typed : Role → Role → Bool → List Tree → List Part
 typed leaf type untyped [] = []
 typed leaf type untyped (tree ∷ []) = part leaf tree ∷ []
 typed leaf type untyped (tree ∷ next ∷ trees) =
     if untyped && is_dash tree then part type next ∷ typed leaf type false trees else part leaf tree ∷ typed leaf type (not (is_dash tree)) (next ∷ trees)
 
--- the value of a key, which is not looked at behind another leaf or a node
+-- what is expected of the value of a key; behind another leaf it is not looked at
+abbrev pub value_role : List ℕ → Option Role
+value_role key =
+    if bytes_eq key (codes ":parameters") then Some Parameters
+    else if bytes_eq key (codes ":precondition") then Some Condition
+    else if bytes_eq key (codes ":effect") then Some WholeEffect
+    else None
+
+-- the value of a key as a part, where it is looked at
 abbrev pub value : Option (List ℕ) → Tree → List Part
-value None tree = []
-value (Some key) tree =
-    if bytes_eq key (codes ":parameters") then part Variables tree ∷ []
-    else if bytes_eq key (codes ":precondition") then part Condition tree ∷ []
-    else if bytes_eq key (codes ":effect") then part Effect tree ∷ []
-    else []
+value key tree = option_to_list (option_map (λ role. part role tree) (option_and_then value_role key))
 
 -- keys and their values
 abbrev pub pairs : List Tree → List Part

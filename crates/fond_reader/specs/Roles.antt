@@ -1,38 +1,15 @@
 -- What is expected at the places of a domain and of a problem.
-use Rattle.std.specs.Prelude.{ℕ, ◌&&◌, ◌||◌, List, [], ◌∷◌, Option, Some, None, codes, if◌then◌else◌}
+use Rattle.std.specs.Prelude.{ℕ, ◌&&◌, ◌||◌, nat_lt, Bool, true, false, not, List, [], ◌∷◌, length, Option, Some, None, codes, if◌then◌else◌}
 use Rattle.std.specs.Str.{bytes_eq}
 use Rattle.std.specs.List.{list_any}
 use Rattle.fond_tree.specs.declared.tree.Tree.{Tree}
+use Rattle.fond_reader.specs.declared.role.Keyword.{Keyword}
+use Rattle.fond_reader.specs.declared.role.Keyword.TheVariants as keyword
+use Rattle.fond_reader.specs.declared.role.Role.{Role}
+use Rattle.fond_reader.specs.declared.role.Role.TheVariants.{DomainFile, ProblemFile, Word, Header, Head, Name, Variable, Term, DomainSection, ProblemSection, Predicate, Key, Parameters, Variables, VariableType, Condition, WholeEffect, Effect, Initial, Atom}
+use Rattle.fond_reader.specs.declared.role.Rest.{Rest}
+use Rattle.fond_reader.specs.declared.role.Rest.TheVariants.{NoMore, Each, Typed, Pairs, Unread}
 use Rattle.fond_reader.specs.Words.{reserved, is_one_of, is_name, is_variable, leaf_of, front, is_node}
-
--- what is expected of a tree at its place
-pub data Role : Type 0 where
-  DomainFile : Role
-  ProblemFile : Role
-  Word : (bytes : List ℕ) → Role
-  Name : Role
-  Variable : Role
-  Term : Role
-  Header : (word : List ℕ) → Role
-  DomainSection : Role
-  ProblemSection : Role
-  Predicate : Role
-  Key : Role
-  Variables : Role
-  VariableType : Role
-  Condition : Role
-  Effect : Role
-  Initial : Role
-  Atom : Role
-
--- what is expected behind the first members of a node: nothing; any number of trees of one role; a typed list of
--- these leaves with these types; pairs of a key and a value; or trees that are not looked at
-pub data Rest : Type 0 where
-  NoMore : Rest
-  Each : (role : Role) → Rest
-  Typed : (leaf type : Role) → Rest
-  Pairs : Rest
-  Unread : Rest
 
 -- the members that are expected of a node: the first of them one by one, and the rest
 pub record Shape : Type 0 where
@@ -47,14 +24,21 @@ pub data Expected : Type 0 where
   Members : (members : Shape) → Expected
   Refused : (code : ℕ) → Expected
 
+-- the bytes of a leaf that has to stand
+abbrev pub word : Keyword → List ℕ
+word keyword.Define = codes "define"
+word keyword.Domain = codes "domain"
+word keyword.Problem = codes "problem"
+word keyword.Either = codes "either"
+
 -- a section of a domain, by its head
 abbrev pub domain_section : List ℕ → Expected
 domain_section head =
-    if bytes_eq head (codes ":requirements") then Members (shape (Word head ∷ []) Unread)
-    else if bytes_eq head (codes ":types") then Members (shape (Word head ∷ []) (Typed Name Name))
-    else if bytes_eq head (codes ":constants") then Members (shape (Word head ∷ []) (Typed Name Name))
-    else if bytes_eq head (codes ":predicates") then Members (shape (Word head ∷ []) (Each Predicate))
-    else if bytes_eq head (codes ":action") then Members (shape (Word head ∷ Name ∷ []) Pairs)
+    if bytes_eq head (codes ":requirements") then Members (shape (Head ∷ []) Unread)
+    else if bytes_eq head (codes ":types") then Members (shape (Head ∷ []) (Typed Name Name))
+    else if bytes_eq head (codes ":constants") then Members (shape (Head ∷ []) (Typed Name Name))
+    else if bytes_eq head (codes ":predicates") then Members (shape (Head ∷ []) (Each Predicate))
+    else if bytes_eq head (codes ":action") then Members (shape (Head ∷ Name ∷ []) Pairs)
     else Refused 8
 
 -- the sections of a problem that are passed over
@@ -64,12 +48,12 @@ passed_over = codes ":metric" ∷ codes ":goal-reward" ∷ codes ":length" ∷ [
 -- a section of a problem, by its head
 abbrev pub problem_section : List ℕ → Expected
 problem_section head =
-    if bytes_eq head (codes ":requirements") then Members (shape (Word head ∷ []) Unread)
-    else if bytes_eq head (codes ":domain") then Members (shape (Word head ∷ Name ∷ []) NoMore)
-    else if bytes_eq head (codes ":objects") then Members (shape (Word head ∷ []) (Typed Name Name))
-    else if bytes_eq head (codes ":init") then Members (shape (Word head ∷ []) (Each Initial))
-    else if bytes_eq head (codes ":goal") then Members (shape (Word head ∷ Condition ∷ []) NoMore)
-    else if is_one_of passed_over head then Members (shape (Word head ∷ []) Unread)
+    if bytes_eq head (codes ":requirements") then Members (shape (Head ∷ []) Unread)
+    else if bytes_eq head (codes ":domain") then Members (shape (Head ∷ Name ∷ []) NoMore)
+    else if bytes_eq head (codes ":objects") then Members (shape (Head ∷ []) (Typed Name Name))
+    else if bytes_eq head (codes ":init") then Members (shape (Head ∷ []) (Each Initial))
+    else if bytes_eq head (codes ":goal") then Members (shape (Head ∷ Condition ∷ []) NoMore)
+    else if is_one_of passed_over head then Members (shape (Head ∷ []) Unread)
     else Refused 8
 
 -- an atom: a name and terms
@@ -84,31 +68,31 @@ atom_or_refused head behind = if is_one_of reserved head || (is_name head && lis
 -- a condition, by its head
 abbrev pub condition : List ℕ → List Tree → Expected
 condition head behind =
-    if is_one_of (codes "and" ∷ codes "or" ∷ []) head then Members (shape (Word head ∷ []) (Each Condition))
-    else if bytes_eq head (codes "not") then Members (shape (Word head ∷ Condition ∷ []) NoMore)
-    else if bytes_eq head (codes "imply") then Members (shape (Word head ∷ Condition ∷ Condition ∷ []) NoMore)
-    else if is_one_of (codes "forall" ∷ codes "exists" ∷ []) head then Members (shape (Word head ∷ Variables ∷ Condition ∷ []) NoMore)
-    else if bytes_eq head (codes "=") then Members (shape (Word head ∷ Term ∷ Term ∷ []) NoMore)
+    if is_one_of (codes "and" ∷ codes "or" ∷ []) head then Members (shape (Head ∷ []) (Each Condition))
+    else if bytes_eq head (codes "not") then Members (shape (Head ∷ Condition ∷ []) NoMore)
+    else if bytes_eq head (codes "imply") then Members (shape (Head ∷ Condition ∷ Condition ∷ []) NoMore)
+    else if is_one_of (codes "forall" ∷ codes "exists" ∷ []) head then Members (shape (Head ∷ Variables ∷ Condition ∷ []) NoMore)
+    else if bytes_eq head (codes "=") then Members (shape (Head ∷ Term ∷ Term ∷ []) NoMore)
     else atom_or_refused head behind
 
 -- a choice has at least one member
-abbrev pub choice : List ℕ → List Tree → Expected
-choice head [] = Refused 12
-choice head (tree ∷ trees) = Members (shape (Word head ∷ []) (Each Effect))
+abbrev pub choice : List Tree → Expected
+choice [] = Refused 12
+choice (tree ∷ trees) = Members (shape (Head ∷ []) (Each Effect))
 
 -- an effect, by its head
 abbrev pub effect : List ℕ → List Tree → Expected
 effect head behind =
-    if bytes_eq head (codes "and") then Members (shape (Word head ∷ []) (Each Effect))
-    else if bytes_eq head (codes "not") then Members (shape (Word head ∷ Atom ∷ []) NoMore)
-    else if bytes_eq head (codes "forall") then Members (shape (Word head ∷ Variables ∷ Effect ∷ []) NoMore)
-    else if bytes_eq head (codes "when") then Members (shape (Word head ∷ Condition ∷ Effect ∷ []) NoMore)
-    else if bytes_eq head (codes "oneof") then choice head behind
+    if bytes_eq head (codes "and") then Members (shape (Head ∷ []) (Each Effect))
+    else if bytes_eq head (codes "not") then Members (shape (Head ∷ Atom ∷ []) NoMore)
+    else if bytes_eq head (codes "forall") then Members (shape (Head ∷ Variables ∷ Effect ∷ []) NoMore)
+    else if bytes_eq head (codes "when") then Members (shape (Head ∷ Condition ∷ Effect ∷ []) NoMore)
+    else if bytes_eq head (codes "oneof") then choice behind
     else atom_or_refused head behind
 
 -- an initial atom, by its head
 abbrev pub initial : List ℕ → List Tree → Expected
-initial head behind = if bytes_eq head (codes "not") then Members (shape (Word head ∷ Atom ∷ []) NoMore) else atom_or_refused head behind
+initial head behind = if bytes_eq head (codes "not") then Members (shape (Head ∷ Atom ∷ []) NoMore) else atom_or_refused head behind
 
 -- a section by its head; where that is missing or no leaf, a leaf is expected there
 abbrev pub section : (List ℕ → Expected) → Option (List ℕ) → Expected
@@ -131,40 +115,141 @@ none = shape [] NoMore
 
 -- what is expected of the node of these members, where one may stand: none where a leaf is expected
 abbrev pub node_expected : Role → List Tree → Option Expected
-node_expected DomainFile members = Some (Members (shape (Word (codes "define") ∷ Header (codes "domain") ∷ []) (Each DomainSection)))
-node_expected ProblemFile members = Some (Members (shape (Word (codes "define") ∷ Header (codes "problem") ∷ []) (Each ProblemSection)))
-node_expected (Word bytes) members = None
+node_expected DomainFile members = Some (Members (shape (Word keyword.Define ∷ Header keyword.Domain ∷ []) (Each DomainSection)))
+node_expected ProblemFile members = Some (Members (shape (Word keyword.Define ∷ Header keyword.Problem ∷ []) (Each ProblemSection)))
+node_expected (Word keyword) members = None
+node_expected (Header keyword) members = Some (Members (shape (Word keyword ∷ Name ∷ []) NoMore))
+node_expected Head members = None
 node_expected Name members = None
 node_expected Variable members = None
 node_expected Term members = None
-node_expected (Header word) members = Some (Members (shape (Word word ∷ Name ∷ []) NoMore))
 node_expected DomainSection members = Some (section domain_section (front members))
 node_expected ProblemSection members = Some (section problem_section (front members))
 node_expected Predicate members = Some (Members (shape (Name ∷ []) (Typed Variable VariableType)))
 node_expected Key members = None
+node_expected Parameters members = Some (Members (shape [] (Typed Variable VariableType)))
 node_expected Variables members = Some (Members (shape [] (Typed Variable VariableType)))
-node_expected VariableType members = Some (Members (shape (Word (codes "either") ∷ Name ∷ []) (Each Name)))
+node_expected VariableType members = Some (Members (shape (Word keyword.Either ∷ Name ∷ []) (Each Name)))
 node_expected Condition members = Some (form_of none condition members)
+node_expected WholeEffect members = Some (form_of none effect members)
 node_expected Effect members = Some (form_of none effect members)
 node_expected Initial members = Some (form_of atom initial members)
 node_expected Atom members = Some (Members atom)
 
+-- the keys of an action
+abbrev pub action_keys : List (List ℕ)
+action_keys = codes ":parameters" ∷ codes ":precondition" ∷ codes ":effect" ∷ []
+
+-- whether a leaf is a term: a name or a variable
+abbrev pub is_term : List ℕ → Bool
+is_term leaf = is_name leaf || is_variable leaf
+
 -- the code with which a leaf is refused, if it is: 8 for an unknown key of an action, and else 7
 abbrev pub leaf_code : Role → List ℕ → Option ℕ
-leaf_code (Word bytes) leaf = if bytes_eq leaf bytes then None else Some 7
-leaf_code Name leaf = if is_name leaf then None else Some 7
-leaf_code Variable leaf = if is_variable leaf then None else Some 7
-leaf_code Term leaf = if is_name leaf then None else if is_variable leaf then None else Some 7
-leaf_code Key leaf = if is_one_of (codes ":parameters" ∷ codes ":precondition" ∷ codes ":effect" ∷ []) leaf then None else Some 8
-leaf_code VariableType leaf = if is_name leaf then None else Some 7
 leaf_code DomainFile leaf = Some 7
 leaf_code ProblemFile leaf = Some 7
-leaf_code (Header word) leaf = Some 7
+leaf_code (Word keyword) leaf = if bytes_eq leaf (word keyword) then None else Some 7
+leaf_code (Header keyword) leaf = Some 7
+leaf_code Head leaf = None
+leaf_code Name leaf = if is_name leaf then None else Some 7
+leaf_code Variable leaf = if is_variable leaf then None else Some 7
+leaf_code Term leaf = if is_term leaf then None else Some 7
 leaf_code DomainSection leaf = Some 7
 leaf_code ProblemSection leaf = Some 7
 leaf_code Predicate leaf = Some 7
+leaf_code Key leaf = if is_one_of action_keys leaf then None else Some 8
+leaf_code Parameters leaf = Some 7
 leaf_code Variables leaf = Some 7
+leaf_code VariableType leaf = if is_name leaf then None else Some 7
 leaf_code Condition leaf = Some 7
+leaf_code WholeEffect leaf = Some 7
 leaf_code Effect leaf = Some 7
 leaf_code Initial leaf = Some 7
 leaf_code Atom leaf = Some 7
+
+-- whether a node has more members than one
+abbrev pub has_more : List Tree → Bool
+has_more members = nat_lt 1 (length members)
+
+-- whether a tree is a leaf of this sort
+abbrev pub is_leaf_of : (List ℕ → Bool) → Tree → Bool
+is_leaf_of sort tree = from (leaf_of tree)
+  where
+    from : Option (List ℕ) → Bool
+    from None = false
+    from (Some leaf) = sort leaf
+
+-- whether members are a name and, behind it, some leaf of this sort
+abbrev pub names_with : (List ℕ → Bool) → List Tree → Bool
+names_with sort [] = false
+names_with sort (head ∷ behind) = is_leaf_of is_name head && list_any (is_leaf_of sort) behind
+
+-- whether the node of these members is an atom with a term
+abbrev pub has_term : List Tree → Bool
+has_term members = names_with is_term members
+
+-- whether it is a predicate with a parameter
+abbrev pub has_parameter : List Tree → Bool
+has_parameter members = names_with is_variable members
+
+-- whether the node of these members is of a form that is not built yet, where operators may stand: an operator that
+-- is not built, or an atom with a term
+abbrev pub is_unbuilt_form : (List ℕ → Option Bool) → List Tree → Bool
+is_unbuilt_form operator members = decide (front members)
+  where
+    known : Option Bool → Bool
+    known None = has_term members
+    known (Some unbuilt) = unbuilt
+
+    decide : Option (List ℕ) → Bool
+    decide None = false
+    decide (Some head) = known (operator head)
+
+-- whether an operator of a condition is not built yet, if it is one
+abbrev pub condition_operator : List ℕ → Option Bool
+condition_operator head =
+    if is_one_of (codes "and" ∷ codes "or" ∷ codes "not" ∷ codes "imply" ∷ []) head then Some false
+    else if is_one_of (codes "forall" ∷ codes "exists" ∷ codes "=" ∷ []) head then Some true
+    else None
+
+-- whether an operator of an effect is not built yet, if it is one; a choice is built where it is the whole effect
+abbrev pub effect_operator : Bool → List ℕ → Option Bool
+effect_operator is_whole head =
+    if is_one_of (codes "and" ∷ codes "not" ∷ []) head then Some false
+    else if is_one_of (codes "forall" ∷ codes "when" ∷ []) head then Some true
+    else if bytes_eq head (codes "oneof") then Some (not is_whole)
+    else None
+
+-- the only operator of an initial atom is built
+abbrev pub initial_operator : List ℕ → Option Bool
+initial_operator head = if bytes_eq head (codes "not") then Some false else None
+
+-- whether a section has one of these heads
+abbrev pub is_headed_by : List (List ℕ) → Option (List ℕ) → Bool
+is_headed_by heads None = false
+is_headed_by heads (Some head) = is_one_of heads head
+
+-- whether the node of these members is of a form that is not built yet: a section of types, constants or objects
+-- with a member; a predicate with a parameter; parameters of an action with a member; an atom with a term; a condition that is an
+-- equality or quantified; an effect that is conditional or quantified, or a choice that is not the whole effect
+abbrev pub is_unbuilt : Role → List Tree → Bool
+is_unbuilt DomainFile members = false
+is_unbuilt ProblemFile members = false
+is_unbuilt (Word keyword) members = false
+is_unbuilt (Header keyword) members = false
+is_unbuilt Head members = false
+is_unbuilt Name members = false
+is_unbuilt Variable members = false
+is_unbuilt Term members = false
+is_unbuilt DomainSection members = is_headed_by (codes ":types" ∷ codes ":constants" ∷ []) (front members) && has_more members
+is_unbuilt ProblemSection members = is_headed_by (codes ":objects" ∷ []) (front members) && has_more members
+is_unbuilt Predicate members = has_parameter members
+is_unbuilt Key members = false
+is_unbuilt Parameters members = nat_lt 0 (length members)
+is_unbuilt Variables members = false
+is_unbuilt VariableType members = false
+is_unbuilt Condition members = is_unbuilt_form condition_operator members
+is_unbuilt WholeEffect members = is_unbuilt_form (effect_operator true) members
+is_unbuilt Effect members = is_unbuilt_form (effect_operator false) members
+is_unbuilt Initial members = is_unbuilt_form initial_operator members
+is_unbuilt Atom members = has_term members

@@ -1,2 +1,25 @@
-//! Reading trees as domains and problems. So far the faults of a tree that is none are defined, and no call reads one.
+//! From trees to declarations: the domain or the problem that a tree is read as, or its first fault; and the side list
+//! that a text is read as. The crates above learn what was read, or exactly which fault stands first. What names
+//! mean is left to them.
 #![tactic(auto)]
+
+mod action;
+mod atom;
+mod condition;
+pub mod domain;
+mod earlier;
+mod effect;
+mod expected;
+pub mod fault;
+#[cfg(test)]
+mod fault_tests;
+mod initial;
+pub mod laws;
+mod leaves;
+pub mod problem;
+mod repeats;
+pub mod role;
+mod section;
+pub mod side;
+mod unbuilt;
+mod walk;

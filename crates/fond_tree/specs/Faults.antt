@@ -62,7 +62,7 @@ pub record IsEndFault (tokens : List Mark) (end place : Place) (code : ℕ) : Ty
   pub unfinished : ((closed tokens < opened tokens) × (code ≡ 3)) ⊎ ((tokens ≡ []) × (code ≡ 6))
   pub place_is : place ≡ end
 
--- a text has a fault of its form: it is too long (1), or, where it is not, one of its tokens or its end is faulty
+-- a text has a fault: it is too long (1), or, where it is not, one of its tokens or its end is faulty
 abbrev pub IsTextFault : List ℕ → Place → ℕ → Type 0
 IsTextFault text place code =
     ((longest_text < length text) × (place ≡ record { line = 1; column = 1 }) × (code ≡ 1))

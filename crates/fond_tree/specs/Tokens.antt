@@ -11,7 +11,7 @@ pub data Token : Type 0 where
   Names : (at : Place) (bytes : List ℕ) → Token
   Stray : Token
 
--- a byte stands behind a gap between tokens, behind a byte of a leaf, or in a comment
+-- a byte stands in a gap between leaves and comments, behind a byte of a leaf, or in a comment
 pub data Behind : Type 0 where
   Gap : Behind
   Leaf : Behind

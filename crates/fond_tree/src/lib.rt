@@ -5,5 +5,5 @@
 
 pub mod laws;
 pub mod read;
-mod scan;
+pub mod scan;
 pub mod tree;

@@ -14,7 +14,7 @@ use crate::tree::{Forest, Tree};
 use fond_text::fault::{Fault, FrontError, NoMemory};
 use fond_text::name::Name;
 use fond_text::place::{FileKind, Place};
-use std::alloc::{AllocFailed, Global};
+use std::alloc::{AllocError, AllocFailed, Global};
 
 /// The most bytes that a text may have.
 const LONGEST: usize = 16_777_216;
@@ -51,6 +51,14 @@ impl From<NoMemory> for Stop {
     ghost from_gives = { λ _ e. e ≡ OutOfMemory };
 
     fn from(_e: NoMemory) -> Stop {
+        Stop::NoMemory
+    }
+}
+
+impl From<AllocError> for Stop {
+    ghost from_gives = { λ _ e. e ≡ OutOfMemory };
+
+    fn from(_e: AllocError) -> Stop {
         Stop::NoMemory
     }
 }
@@ -136,7 +144,8 @@ fn read_members(alloc: Global, scanner: &mut Scanner<'_>, left: u8) -> Result<Fo
     ensures err { IfErr result (Stops left (marks_left scanner.old) (end_left scanner.old)) }
     ensures end { end_left scanner.new ≡ end_left scanner.old }
 {
-    let mut members = Vec::new(alloc);
+    // Most nodes of a task are short, so room is taken one by one at first.
+    let mut members = Vec::with_capacity(alloc, 1)?;
     while !scanner.closes() {
         members.push(read_next(alloc, scanner, left)?)?;
     }

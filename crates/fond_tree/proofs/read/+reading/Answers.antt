@@ -13,7 +13,7 @@ pub read_members-returns-in_err-read_next-clause-err :
 read_members-returns-in_err-read_next-clause-err t c =
     let unclosed = subst (λ v. TakesClosing v (marks_left c.loop-alloc.scanner) (marks_left c.closes.new.self)) c.loop-alloc-test.true c.closes.ensures.taken in
     let along = subst (Along c.args.left (marks_left c.args.scanner.now) c.loop-alloc.members.items) unclosed.0 c.loop-alloc.invariant.along in
-    handed_on _ _ _ c.from_residual.ensures.1
+    handed_on _ _ _ c.from_residual-in_err-read_next.ensures.1
     (along_stops _ _ _ _ _ _ _ c.requires along (c.closes.ensures.end ∙ c.loop-alloc.invariant.end) c.in_err-read_next.ensures.err)
 
 pub read_members-loop-alloc-smaller : goal.read_members-loop-alloc-smaller

@@ -1,0 +1,146 @@
+-- Which domain and which problem a tree is read as.
+use Rattle.std.specs.Prelude.{◌≡◌, ℕ, ◌==◌, ◌&&◌, ◌≤◌, Bool, true, false, List, [], ◌∷◌, map, filter, length, Contains, Option, Some, None, codes, if◌then◌else◌}
+use Rattle.std.specs.List.{list_all, flat_map}
+use Rattle.fond_tree.specs.declared.tree.Tree.{Tree}
+use Rattle.fond_ast.specs.declared.files.Declared.{Declared}
+use Rattle.fond_ast.specs.declared.files.Domain.{Domain}
+use Rattle.fond_ast.specs.declared.files.Problem.{Problem}
+use Rattle.fond_ast.specs.declared.files.Schema.{Schema}
+use Rattle.fond_ast.specs.declared.syntax.Cond.{Cond, Truth}
+use Rattle.fond_ast.specs.declared.syntax.Effect.{Effect, Nothing}
+use Rattle.fond_reader.specs.Words.{is_name, place_of, leaf_of, members_of, head_of}
+use Rattle.fond_reader.specs.Roles.{passed_over, action_keys, is_headed_by}
+use Rattle.fond_reader.specs.Parts.{are_pairs}
+use Rattle.fond_reader.specs.Faults.{keys, single_in_domain, single_in_problem}
+use Rattle.fond_reader.specs.Forms.{is_word, is_named, is_only, is_unit, are_read, is_condition, is_effect, is_initial}
+
+-- whether a tree is a leaf that is a name
+abbrev pub is_name_leaf : Tree → Bool
+is_name_leaf tree = from (leaf_of tree)
+  where
+    from : Option (List ℕ) → Bool
+    from None = false
+    from (Some leaf) = is_name leaf
+
+-- whether members are this word and a name
+abbrev pub are_header : List ℕ → Option (List Tree) → Bool
+are_header kind None = false
+are_header kind (Some []) = false
+are_header kind (Some (word ∷ behind)) = is_word kind (leaf_of word) && is_only is_name_leaf (Some behind)
+
+-- a tree is a file of this kind with these sections: `define`, then a node of the kind and a name, then the sections
+pub record IsFile (kind : List ℕ) (tree : Tree) (sections : List Tree) : Type 0 where
+  pub define : Tree
+  pub header : Tree
+  pub whole : members_of tree ≡ Some (define ∷ header ∷ sections)
+  pub defined : is_word (codes "define") (leaf_of define) ≡ true
+  pub headed : are_header kind (members_of header) ≡ true
+
+-- whether a tree is a node with this head
+abbrev pub has_head : List ℕ → Tree → Bool
+has_head word tree = is_word word (head_of tree)
+
+-- the sections with this head
+abbrev pub headed : List ℕ → List Tree → List Tree
+headed word sections = filter (has_head word) sections
+
+-- trees without the first one
+abbrev pub but_first : Option (List Tree) → List Tree
+but_first None = []
+but_first (Some []) = []
+but_first (Some (tree ∷ trees)) = trees
+
+-- the members of a node behind its head
+abbrev pub content : Tree → List Tree
+content tree = but_first (members_of tree)
+
+-- what stands in the sections with this head, in order
+abbrev pub contents : List ℕ → List Tree → List Tree
+contents word sections = flat_map content (headed word sections)
+
+-- each of these heads stands at most once
+abbrev pub AreSingle : List (List ℕ) → List Tree → Type 0
+AreSingle single sections = (word : List ℕ) → Contains single word → length (headed word sections) ≤ 1
+
+-- whether a tree is a section of a domain
+abbrev pub is_domain_section : Tree → Bool
+is_domain_section tree =
+    is_headed_by (codes ":requirements" ∷ codes ":types" ∷ codes ":constants" ∷ codes ":predicates" ∷ codes ":action" ∷ []) (head_of tree)
+
+-- whether a tree is a section of a problem; some are passed over
+abbrev pub is_problem_section : Tree → Bool
+is_problem_section tree =
+    is_headed_by (codes ":requirements" ∷ codes ":domain" ∷ codes ":objects" ∷ codes ":init" ∷ codes ":goal" ∷ passed_over) (head_of tree)
+
+-- whether a tree is read as a declared predicate: a node of its name alone
+abbrev pub is_declared : Declared → Tree → Bool
+is_declared declared tree = is_only (is_named declared.place declared.name) (members_of tree) && length declared.parameters == 0
+
+-- the values behind this key, among pairs of a key and a value
+abbrev pub values : List ℕ → List Tree → List Tree
+values word [] = []
+values word (key ∷ []) = []
+values word (key ∷ value ∷ pairs) = if is_word word (leaf_of key) then value ∷ values word pairs else values word pairs
+
+-- the value of a precondition is read as a condition; without one it is the true condition
+abbrev pub IsPrecondition : List Tree → Cond → Type 0
+IsPrecondition [] pre = pre ≡ Truth
+IsPrecondition (tree ∷ trees) pre = (is_condition pre tree ≡ true) × (trees ≡ [])
+
+-- the value of an effect is read as a whole effect; without one it is the empty effect
+abbrev pub IsWholeEffect : List Tree → Effect → Type 0
+IsWholeEffect [] effect = effect ≡ Nothing
+IsWholeEffect (tree ∷ trees) effect = (is_effect effect true tree ≡ true) × (trees ≡ [])
+
+-- whether there is no value, or one that is `()`
+abbrev pub are_no_parameters : List Tree → Bool
+are_no_parameters [] = true
+are_no_parameters (tree ∷ trees) = is_unit tree && length trees == 0
+
+-- a node is read as a schema, behind its head: its name, and pairs of a key and a value, each key at most once
+pub record IsSchemaOf (tree : Tree) (schema : Schema) : Type 0 where
+  pub head : Tree
+  pub name : Tree
+  pub pairs : List Tree
+  pub whole : members_of tree ≡ Some (head ∷ name ∷ pairs)
+  pub named : is_named schema.place schema.name name ≡ true
+  pub paired : are_pairs pairs ≡ true
+  pub known : list_all (λ key. is_headed_by action_keys (leaf_of key)) (keys pairs) ≡ true
+  pub parameters : are_no_parameters (values (codes ":parameters") pairs) ≡ true
+  pub no_parameters : schema.parameters ≡ []
+  pub pre : IsPrecondition (values (codes ":precondition") pairs) schema.pre
+  pub effect : IsWholeEffect (values (codes ":effect") pairs) schema.effect
+
+-- trees are read as schemas, one by one
+abbrev pub AreSchemasOf : List Tree → List Schema → Type 0
+AreSchemasOf [] [] = Unit {0}
+AreSchemasOf [] (schema ∷ schemas) = ⊥
+AreSchemasOf (tree ∷ trees) [] = ⊥
+AreSchemasOf (tree ∷ trees) (schema ∷ schemas) = IsSchemaOf tree schema × AreSchemasOf trees schemas
+
+-- a tree is read as a domain. So far it has no types and no constants
+pub record IsDomainOf (tree : Tree) (domain : Domain) : Type 0 where
+  pub sections : List Tree
+  pub file : IsFile (codes "domain") tree sections
+  pub place : domain.place ≡ place_of tree
+  pub known : list_all is_domain_section sections ≡ true
+  pub single : AreSingle single_in_domain sections
+  pub types : contents (codes ":types") sections ≡ []
+  pub no_types : domain.kinds ≡ []
+  pub constants : contents (codes ":constants") sections ≡ []
+  pub no_constants : domain.constants ≡ []
+  pub predicates : are_read (map is_declared domain.predicates) (contents (codes ":predicates") sections) ≡ true
+  pub schemas : AreSchemasOf (headed (codes ":action") sections) domain.schemas
+
+-- a tree is read as a problem. So far it has no objects
+pub record IsProblemOf (tree : Tree) (problem : Problem) : Type 0 where
+  pub sections : List Tree
+  pub file : IsFile (codes "problem") tree sections
+  pub place : problem.place ≡ place_of tree
+  pub known : list_all is_problem_section sections ≡ true
+  pub single : AreSingle single_in_problem sections
+  pub domain : is_only is_name_leaf (Some (contents (codes ":domain") sections)) ≡ true
+  pub objects : contents (codes ":objects") sections ≡ []
+  pub no_objects : problem.objects ≡ []
+  pub init : are_read (map is_initial problem.init) (contents (codes ":init") sections) ≡ true
+  pub goal : are_read (is_condition problem.goal ∷ []) (contents (codes ":goal") sections) ≡ true

@@ -1,0 +1,16 @@
+-- What holds of all trees and their declarations.
+use Rattle.std.specs.Prelude.{◌↔◌}
+use Rattle.fond_ast.specs.declared.files.Domain.{Domain}
+use Rattle.fond_ast.specs.declared.files.Problem.{Problem}
+use Rattle.fond_tree.specs.declared.tree.Tree.{Tree}
+use Rattle.fond_reader.specs.Faults.{StandsInDomain, StandsInProblem}
+use Rattle.fond_reader.specs.Files.{IsDomainOf, IsProblemOf}
+use Rattle.fond_reader.specs.Least.{IsClean}
+
+-- no fault stands in a tree as a domain exactly where some domain is read from it
+abbrev pub CleanDomainsAreRead : Type 0
+CleanDomainsAreRead = (tree : Tree) → IsClean (StandsInDomain tree) ↔ ((domain : Domain) × IsDomainOf tree domain)
+
+-- no fault stands in a tree as a problem exactly where some problem is read from it
+abbrev pub CleanProblemsAreRead : Type 0
+CleanProblemsAreRead = (tree : Tree) → IsClean (StandsInProblem tree) ↔ ((problem : Problem) × IsProblemOf tree problem)

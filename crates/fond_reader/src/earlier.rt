@@ -1,0 +1,60 @@
+//! The earlier of two faults that were found.
+
+ghost use Rattle.fond_reader.specs.Firsts.{IsFirst, IsEarlier};
+ghost use Rattle.fond_reader.specs.Least.{IsNoLater};
+ghost use Rattle.std.specs.Prelude.{◌≡◌, true, false, Some};
+
+use crate::fault::Found;
+use fond_text::place::Place;
+
+/// Whether one fault is no later than another one.
+fn is_no_later(one: Found, other: Found) -> bool
+    ensures no_later { result ≡ true → IsNoLater one.place one.code other.place other.code }
+    ensures later { result ≡ false → IsNoLater other.place other.code one.place one.code }
+{
+    if one.place.line != other.place.line {
+        one.place.line < other.place.line
+    } else if one.place.column != other.place.column {
+        one.place.column < other.place.column
+    } else {
+        one.code <= other.code
+    }
+}
+
+/// The earlier of two faults, or the one that was found where the other was not.
+pub fn earlier(one: Option<Found>, other: Option<Found>) -> Option<Found>
+    ensures { IsEarlier one other result }
+{
+    match (one, other) {
+        (Some(first), Some(second)) => {
+            if is_no_later(first, second) {
+                one
+            } else {
+                other
+            }
+        }
+        (Some(_), None) => one,
+        (None, _) => other,
+    }
+}
+
+/// A fault of this code at a place, where it stands.
+pub fn found_if(stands: bool, place: Place, code: u8) -> Option<Found>
+    ensures { IsFirst (λ at number. (stands ≡ true) × (at ≡ place) × (number ≡ code)) result }
+{
+    if stands {
+        Some(Found { place, code })
+    } else {
+        None
+    }
+}
+
+/// A fault at a place, where its code is there.
+pub fn found_at(place: Place, code: Option<u8>) -> Option<Found>
+    ensures { IsFirst (λ at number. (at ≡ place) × (code ≡ Some number)) result }
+{
+    match code {
+        None => None,
+        Some(code) => Some(Found { place, code }),
+    }
+}

@@ -1,0 +1,46 @@
+//! What is expected of the trees of a domain and of a problem.
+
+/// A leaf that has to stand at its place.
+#[derive(Clone, Copy, Debug, PartialEq, Eq)]
+pub enum Keyword {
+    Define,
+    Domain,
+    Problem,
+    Either,
+}
+
+/// What is expected of a tree at its place. `Head` is the head of a node by which that was told from others.
+#[derive(Clone, Copy, Debug, PartialEq, Eq)]
+pub enum Role {
+    DomainFile,
+    ProblemFile,
+    Word(Keyword),
+    Header(Keyword),
+    Head,
+    Name,
+    Variable,
+    Term,
+    DomainSection,
+    ProblemSection,
+    Predicate,
+    Key,
+    Parameters,
+    Variables,
+    VariableType,
+    Condition,
+    WholeEffect,
+    Effect,
+    Initial,
+    Atom,
+}
+
+/// What is expected behind the first members of a node: nothing; any number of trees of one role; a typed list of
+/// these leaves with these types; pairs of a key and a value; or trees that are not looked at.
+#[derive(Clone, Copy, Debug, PartialEq, Eq)]
+pub enum Rest {
+    NoMore,
+    Each(Role),
+    Typed(Role, Role),
+    Pairs,
+    Unread,
+}

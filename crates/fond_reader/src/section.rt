@@ -1,0 +1,72 @@
+//! The sections of a file in which no fault stands, by the words that they begin with.
+
+ghost use Rattle.fond_reader.specs.CleanFiles.{sections_of as sections_of_file};
+ghost use Rattle.fond_reader.specs.Files.{has_head, headed, content, contents};
+ghost use Rattle.fond_reader.specs.Forms.{is_word as is_word_leaf};
+ghost use Rattle.fond_reader.specs.Words.{leaf_of};
+ghost use Rattle.std.specs.Prelude.{◌≡◌, ◌≤◌, length};
+
+use crate::leaves::is_word;
+use fond_tree::tree::Tree;
+
+/// Whether a tree is this leaf.
+pub(crate) fn is_leaf(tree: &Tree, word: &[u8]) -> bool
+    ensures { result ≡ is_word_leaf word.now (leaf_of tree.now) }
+{
+    match tree {
+        Tree::Leaf(_, name) => is_word(name.bytes(), word),
+        Tree::Node(_, _) => false,
+    }
+}
+
+/// Whether a tree is a node that begins with this word.
+pub(crate) fn begins(tree: &Tree, word: &[u8]) -> bool
+    ensures { result ≡ has_head word.now tree.now }
+{
+    match tree {
+        Tree::Leaf(_, _) => false,
+        Tree::Node(_, members) => match members.as_slice() {
+            [] => false,
+            [head, ..] => is_leaf(head, word),
+        },
+    }
+}
+
+/// The members of a node behind its head.
+pub(crate) fn behind(tree: &Tree) -> &[Tree]
+    ensures { result.now ≡ content tree.now }
+{
+    match tree {
+        Tree::Leaf(_, _) => &[],
+        Tree::Node(_, members) => match members.as_slice() {
+            [] => &[],
+            [_, rest @ ..] => rest,
+        },
+    }
+}
+
+/// What stands behind the header of a file.
+pub(crate) fn sections_of(tree: &Tree) -> &[Tree]
+    ensures { result.now ≡ sections_of_file tree.now }
+{
+    match tree {
+        Tree::Leaf(_, _) => &[],
+        Tree::Node(_, members) => match members.as_slice() {
+            [_, _, rest @ ..] => rest,
+            _ => &[],
+        },
+    }
+}
+
+/// What stands behind this head in the section that has it, or nothing where none has it.
+pub(crate) fn contents_of<'a>(sections: &'a [Tree], word: &[u8]) -> &'a [Tree]
+    requires { length (headed word.now sections.now) ≤ 1 }
+    ensures { result.now ≡ contents word.now sections.now }
+{
+    for section in sections {
+        if begins(section, word) {
+            return behind(section);
+        }
+    }
+    &[]
+}
