@@ -1,0 +1,10 @@
+pub mod Earliest
+pub mod Heads
+pub mod Lists
+pub mod Missing
+pub mod Numbering
+pub mod Order
+pub mod Positions
+pub mod Predicates
+pub mod Repeats
+pub mod Replaced

@@ -1,0 +1,10 @@
+use Rattle.std.proofs.Common.{◌≡◌, ◌<◌, ◌^◌, drop, fold, length, map}
+use Rattle.fond_types.specs.Indexes.{numbered_from}
+use Rattle.fond_types.specs.Names.{declared_also, predicate_names}
+use Rattle.fond_types.proofs.index.declared_predicates.Given as goal
+
+-- the names so far have their numbers, and declaring those that are left gives all
+abbrev pub invariant-loop-i : goal.invariant-loop-i
+invariant-loop-i l =
+    (length l.predicates.names < 2 ^ 32) × (l.predicates.numbers ≡ numbered_from 0 l.predicates.names)
+    × (fold declared_also l.predicates.names (map (λ declared. declared.name) (drop l.i l.d.predicates)) ≡ predicate_names l.d)

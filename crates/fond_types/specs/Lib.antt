@@ -1,0 +1,7 @@
+pub mod Names
+pub mod Atoms
+pub mod Faults
+pub mod Resolves
+pub mod Indexes
+pub mod Walks
+pub mod FirstFaults
