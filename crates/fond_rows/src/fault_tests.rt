@@ -115,9 +115,9 @@ fn the_first_file_decides(rt: HostRuntime) -> Result<(), Fail> {
     for (domain, problem, text) in [
         (COIN, "", "refused problem 1 1 F6\n"),
         ("a", "(", "refused problem 1 2 F3\n"),
-        ("a", COIN_P, "refused domain 1 1 F24\n"),
-        (COIN, "a", "refused problem 1 1 F24\n"),
-        ("a", "a", "refused domain 1 1 F24\n"),
+        ("a", COIN_P, "refused domain 1 1 F7\n"),
+        (COIN, "a", "refused problem 1 1 F7\n"),
+        ("a", "a", "refused domain 1 1 F7\n"),
     ] {
         let told = succ(rt.alloc(), domain, problem)?;
         assert_eq!(rt; told.status, 3, "at {domain} {problem}");

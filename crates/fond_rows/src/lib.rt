@@ -4,8 +4,18 @@
 #[cfg(test)]
 mod answers;
 #[cfg(test)]
+mod domain_tests;
+#[cfg(test)]
 mod fault_tests;
 #[cfg(test)]
+mod name_tests;
+#[cfg(test)]
+mod problem_tests;
+#[cfg(test)]
+mod read_tests;
+#[cfg(test)]
 mod run_tests;
+#[cfg(test)]
+mod side_tests;
 #[cfg(test)]
 mod tests;

@@ -104,14 +104,14 @@ fn rejections(rt: HostRuntime) -> Result<(), Fail> {
 }
 
 #[test]
-fn faults_before_the_certificate(rt: HostRuntime) -> Result<(), Fail> {
+fn the_files_of_a_run(rt: HostRuntime) -> Result<(), Fail> {
     let table = [
         (
             "a side list that names a schema",
             "unfair",
             "cert",
-            3,
-            "refused side 1 1 F24\n",
+            0,
+            "rule 0 (flip) outcome 0\ngoal left 0\nstate\n(heads)\n",
         ),
         ("an empty file name", "", "cert", 4, "bad words\n"),
         ("a file that is not held", "none", "gone", 5, "read fault\n"),

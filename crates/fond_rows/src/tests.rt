@@ -11,6 +11,11 @@ const IDLE: &str =
 
 const IDLE_P: &str = "(define (problem i) (:domain idle) (:goal (g)))\n";
 
+const PIT: &str =
+    "(define (domain pit) (:predicates (g) (pit))\n(:action jump :precondition (not (pit)) :effect (oneof (g) (pit))))\n";
+
+const PIT_P: &str = "(define (problem p) (:domain pit) (:goal (g)))\n";
+
 const BOTH: &str =
     "(define (domain both) (:predicates (p))\n(:action a :effect (and (p) (not (p)))))\n";
 
@@ -25,6 +30,8 @@ fn shelf(alloc: Global, failing: Option<u64>) -> Result<MemoryShelf, Fail> {
     put(alloc, &mut files, "idle.p", IDLE_P)?;
     put(alloc, &mut files, "both.d", BOTH)?;
     put(alloc, &mut files, "both.p", BOTH_P)?;
+    put(alloc, &mut files, "pit.d", PIT)?;
+    put(alloc, &mut files, "pit.p", PIT_P)?;
     put(alloc, &mut files, "empty.d", "")?;
     let mut calls = Calls::new(alloc);
     if let Some(call) = failing {
@@ -71,6 +78,14 @@ fn worked_examples(rt: HostRuntime) -> Result<(), Fail> {
             "applicable yes\nstate\n(p)\n",
         ),
         (
+            "a negated precondition",
+            "pit.d",
+            "pit.p",
+            "(jump)",
+            0,
+            "applicable yes\nstate\n(g)\nstate\n(pit)\n",
+        ),
+        (
             "a false precondition",
             "idle.d",
             "idle.p",
@@ -100,7 +115,7 @@ fn worked_examples(rt: HostRuntime) -> Result<(), Fail> {
             "coin.p",
             "(go)",
             3,
-            "refused problem 1 1 F24\n",
+            "refused problem 1 44 F15\n",
         ),
         (
             "a file that is not held",

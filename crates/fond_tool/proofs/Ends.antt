@@ -12,6 +12,7 @@ use Rattle.fond_tool.specs.declared.status.Status.TheVariants.{Done, Unsolvable,
 use Rattle.fond_tool.specs.Commands.{Command, Succ, Run}
 use Rattle.fond_tool.specs.Outputs.{SuccOutput, TaskOutput, Output}
 use Rattle.fond_tool.specs.Runs.{IsEndStatus, TraceOutput, ScriptOutput, CertOutput, RunOutput}
+use Rattle.fond_tool.specs.Tasks.{Texts}
 use Rattle.fond_tool.specs.Answers.{CannotRead, CommandAnswer, Answer, Ends}
 
 -- a status that an answer may have: neither a write fault nor want of memory
@@ -44,9 +45,9 @@ task_told : (task : LiftedTask) (action text : List ℕ) (status : Status) → T
 task_told task action text status (inl h) = told status Rejected told_rejected h.2
 task_told task action text status (inr h) = told status Done told_done h.4
 
-succ_told : (domain problem action text : List ℕ) (status : Status) → SuccOutput domain problem action text status → IsTold status
-succ_told domain problem action text status (inl h) = told status Refused told_refused h.3
-succ_told domain problem action text status (inr h) = task_told h.0 action text status h.2
+succ_told : (texts : Texts) (action text : List ℕ) (status : Status) → SuccOutput texts action text status → IsTold status
+succ_told texts action text status (inl h) = told status Refused told_refused h.3
+succ_told texts action text status (inr h) = task_told h.0 action text status h.2
 
 end_told : (task : Task) (last : List Bool) (status : Status) → IsEndStatus task last status → IsTold status
 end_told task last status (inl h) = told status Done told_done h.1
@@ -60,13 +61,13 @@ cert_told : (task : Task) (cert script text : List ℕ) (status : Status) → Ce
 cert_told task cert script text status (inl h) = told status Rejected told_rejected h.4
 cert_told task cert script text status (inr h) = script_told task h.0 script text status h.3
 
-run_told : (domain problem side cert script text : List ℕ) (status : Status) → RunOutput domain problem side cert script text status → IsTold status
-run_told domain problem side cert script text status (inl h) = told status Refused told_refused h.3
-run_told domain problem side cert script text status (inr h) = cert_told h.1 cert script text status h.5
+run_told : (texts : Texts) (cert script text : List ℕ) (status : Status) → RunOutput texts cert script text status → IsTold status
+run_told texts cert script text status (inl h) = told status Refused told_refused h.3
+run_told texts cert script text status (inr h) = cert_told h.1 cert script text status h.4
 
 output_told : (command : Command) (contents : List (List ℕ)) (text : List ℕ) (status : Status) → Output command contents text status → IsTold status
-output_told (Succ d p action) contents text status h = succ_told h.0 h.1 action text status h.3
-output_told (Run d p u c s) contents text status h = run_told h.0 h.1 h.2 h.3 h.4 text status h.6
+output_told (Succ d p action) contents text status h = succ_told (record { domain = h.0; problem = h.1; side = [] }) action text status h.3
+output_told (Run d p u c s) contents text status h = run_told (record { domain = h.0; problem = h.1; side = h.2 }) h.3 h.4 text status h.6
 
 command_told : (command : Command) (held : Option (List ShelfFile)) (rose : Type 0) (text : List ℕ) (status : Status) → CommandAnswer command held rose text status → IsTold status
 command_told command held rose text status (inl h) = told status ReadFault told_read_fault h.2

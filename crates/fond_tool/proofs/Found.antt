@@ -8,8 +8,7 @@ use Rattle.fond_ast.specs.declared.task.LiftedTask.{LiftedTask}
 use Rattle.fond_tree.specs.declared.tree.Tree.{Tree}
 use Rattle.fond_tree.specs.Tokens.{Token, Opens, Closes, Names}
 use Rattle.fond_tree.specs.Spelling.{IsReadAs, spelling}
-use Rattle.fond_first.specs.Sections.{members_or_none}
-use Rattle.fond_tool.specs.Commands.{name_alone}
+use Rattle.fond_tool.specs.Commands.{members_or_none, name_alone}
 use Rattle.fond_tool.specs.Outputs.{SpellName, NamesSchema}
 use Rattle.fond_tool.proofs.ActionTrees.{IsLeafTree, IsNodeTree, cases_of}
 

@@ -1,9 +1,9 @@
 -- The words of the command line.
-use Rattle.std.specs.Prelude.{◌≡◌, ◌≢◌, ℕ, ◌==◌, ◌&&◌, not, Bool, true, false, is_some, List, [], ◌∷◌, length, Option, Some, None, codes}
+use Rattle.std.specs.Prelude.{◌≡◌, ◌≢◌, ℕ, ◌==◌, ◌&&◌, not, Bool, true, false, is_some, unwrap_or, List, [], ◌∷◌, length, Option, Some, None, codes}
 use Rattle.std.specs.List.{list_all}
 use Rattle.fond_tree.specs.declared.tree.Tree.{Tree}
 use Rattle.fond_tree.specs.Spelling.{IsReadAs}
-use Rattle.fond_first.specs.Words.{leaf_of, members_of}
+use Rattle.fond_reader.specs.Words.{leaf_of, members_of}
 
 -- a command: `succ` with the names of a domain and of a problem, and an action; `run` with the names of a domain, of
 -- a problem, of a side list, of a certificate and of a script
@@ -19,6 +19,10 @@ are_leaves (Some members) = not (length members == 0) && list_all (λ tree. is_s
 -- whether a tree is a node of leaves with at least one leaf
 abbrev pub is_leaf_node : Tree → Bool
 is_leaf_node tree = are_leaves (members_of tree)
+
+-- the members of a node, none of a leaf
+abbrev pub members_or_none : Tree → List Tree
+members_or_none tree = unwrap_or (members_of tree) []
 
 -- the name of the one tree of a list, where that is a leaf
 abbrev pub name_alone : List Tree → Option (List ℕ)

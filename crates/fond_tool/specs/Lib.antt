@@ -2,6 +2,7 @@ pub mod Commands
 pub mod Given
 pub mod Lines
 pub mod Tasks
+pub mod Phases
 pub mod Runs
 pub mod Outputs
 pub mod Answers

@@ -13,7 +13,7 @@ use Rattle.fond_tool.specs.declared.status.Status.TheVariants.{Done, Refused, Re
 use Rattle.fond_tool.specs.Commands.{Command, Succ, Run}
 use Rattle.fond_tool.specs.Lines.{IsLine}
 use Rattle.fond_tool.specs.Runs.{RunOutput}
-use Rattle.fond_tool.specs.Tasks.{IsTaskOf, IsFirstFault, fault_line}
+use Rattle.fond_tool.specs.Tasks.{Texts, IsTaskOf, IsFirstFault, fault_line}
 
 -- the tokens are a name alone between parentheses
 pub record SpellName (pieces : List Token) (name : List ℕ) : Type 0 where
@@ -37,16 +37,16 @@ TaskOutput task action text status =
     (((schema : LSchema) → Contains task.schemas schema → NamesSchema action schema → ⊥) × IsLine text (codes "rejected C3 at 0") × (status ≡ Rejected))
     ⊎ ((schema : LSchema) × Contains task.schemas schema × NamesSchema action schema × SchemaOutput task schema text × (status ≡ Done))
 
--- the successors by an action word from the bytes of domain and problem: a refusal where one of them has a fault
-abbrev pub SuccOutput : List ℕ → List ℕ → List ℕ → List ℕ → Status → Type 0
-SuccOutput domain problem action text status =
-    ((fault : Fault) × IsFirstFault domain problem fault × IsLine text (fault_line fault) × (status ≡ Refused))
-    ⊎ ((task : LiftedTask) × IsTaskOf domain problem task × TaskOutput task action text status)
+-- the successors by an action word from the bytes of the files: a refusal where one of them has a fault
+abbrev pub SuccOutput : Texts → List ℕ → List ℕ → Status → Type 0
+SuccOutput texts action text status =
+    ((fault : Fault) × IsFirstFault texts fault × IsLine text (fault_line fault) × (status ≡ Refused))
+    ⊎ ((task : LiftedTask) × IsTaskOf texts task × TaskOutput task action text status)
 
--- what a command answers from the contents of its files, in the order of its words
+-- what a command answers from the contents of its files, in the order of its words; the side list of `succ` is empty
 abbrev pub Output : Command → List (List ℕ) → List ℕ → Status → Type 0
 Output (Succ d p action) contents text status =
-    (domain : List ℕ) × (problem : List ℕ) × (contents ≡ domain ∷ problem ∷ []) × SuccOutput domain problem action text status
+    (domain : List ℕ) × (problem : List ℕ) × (contents ≡ domain ∷ problem ∷ []) × SuccOutput (record { domain = domain; problem = problem; side = [] }) action text status
 Output (Run d p u c s) contents text status =
     (domain : List ℕ) × (problem : List ℕ) × (side : List ℕ) × (cert : List ℕ) × (script : List ℕ) × (contents ≡ domain ∷ problem ∷ side ∷ cert ∷ script ∷ [])
-    × RunOutput domain problem side cert script text status
+    × RunOutput (record { domain = domain; problem = problem; side = side }) cert script text status

@@ -1,10 +1,7 @@
 -- What `run` answers from the bytes of its files.
-use Rattle.std.specs.Prelude.{◌≡◌, ◌⊎◌, ℕ, Bool, true, false, List, ◌++◌, codes}
-use Rattle.std.specs.List.{list_all}
+use Rattle.std.specs.Prelude.{◌≡◌, ◌⊎◌, ℕ, Bool, List, ◌++◌, codes}
 use Rattle.std.specs.Fmt.{decimal}
-use Rattle.fond_text.specs.Bytes.{is_blank}
 use Rattle.fond_text.specs.declared.fault.Fault.{Fault}
-use Rattle.fond_text.specs.declared.place.FileKind.TheVariants.{Side}
 use Rattle.fond_ast.specs.declared.task.LiftedTask.{LiftedTask}
 use Rattle.fond_task.specs.declared.task.Task.{Task}
 use Rattle.fond_task.specs.Texts.{state_text}
@@ -18,7 +15,7 @@ use Rattle.fond_ground.specs.Grounds.{IsGroundOf}
 use Rattle.fond_tool.specs.declared.status.Status.{Status}
 use Rattle.fond_tool.specs.declared.status.Status.TheVariants.{Done, Refused, Rejected, Stopped}
 use Rattle.fond_tool.specs.Lines.{IsLine}
-use Rattle.fond_tool.specs.Tasks.{IsTaskOf, IsFirstFault, not_built, fault_line}
+use Rattle.fond_tool.specs.Tasks.{Texts, IsTaskOf, IsFirstFault, fault_line}
 
 -- the status behind a last state: done at a goal, and else stopped
 abbrev pub IsEndStatus : Task → List Bool → Status → Type 0
@@ -41,18 +38,8 @@ CertOutput task cert script text status =
     ((code : ℕ) × (byte : ℕ) × IsPolicyFault task cert code byte × IsLine text (codes "rejected C" ++ decimal code ++ codes " at " ++ decimal byte) × (status ≡ Rejected))
     ⊎ ((rules : List Rule) × (reach : ℕ) × IsPolicyText task rules reach cert × ScriptOutput task rules script text status)
 
--- whether each byte of a side list is a blank
-abbrev pub is_empty_side : List ℕ → Bool
-is_empty_side side = list_all is_blank side
-
--- the first fault of domain, problem and side list: until side lists are read, one with a byte that is no blank is
--- refused
-abbrev pub IsFirstFaultOf : List ℕ → List ℕ → List ℕ → Fault → Type 0
-IsFirstFaultOf domain problem side fault =
-    IsFirstFault domain problem fault ⊎ ((task : LiftedTask) × IsTaskOf domain problem task × (is_empty_side side ≡ false) × (fault ≡ not_built Side))
-
 -- a refusal where a file has a fault, or what comes of the certificate and the script over the ground task
-abbrev pub RunOutput : List ℕ → List ℕ → List ℕ → List ℕ → List ℕ → List ℕ → Status → Type 0
-RunOutput domain problem side cert script text status =
-    ((fault : Fault) × IsFirstFaultOf domain problem side fault × IsLine text (fault_line fault) × (status ≡ Refused))
-    ⊎ ((lifted : LiftedTask) × (task : Task) × IsTaskOf domain problem lifted × (is_empty_side side ≡ true) × IsGroundOf lifted task × CertOutput task cert script text status)
+abbrev pub RunOutput : Texts → List ℕ → List ℕ → List ℕ → Status → Type 0
+RunOutput texts cert script text status =
+    ((fault : Fault) × IsFirstFault texts fault × IsLine text (fault_line fault) × (status ≡ Refused))
+    ⊎ ((lifted : LiftedTask) × (task : Task) × IsTaskOf texts lifted × IsGroundOf lifted task × CertOutput task cert script text status)

@@ -1,69 +1,74 @@
--- From the bytes of a domain and a problem to their task, or to their first fault.
-use Rattle.std.specs.Prelude.{◌≡◌, ◌⊎◌, ℕ, true, false, List, ◌++◌, codes}
+-- From the bytes of a domain, a problem and a side list to their task, or to their first fault.
+use Rattle.std.specs.Prelude.{◌⊎◌, ℕ, List, ◌++◌, codes}
 use Rattle.std.specs.Fmt.{decimal}
 use Rattle.fond_text.specs.declared.fault.Fault.{Fault}
 use Rattle.fond_text.specs.declared.fault.FrontError.{FrontError}
 use Rattle.fond_text.specs.declared.fault.FrontError.TheVariants.{Refused, NoMemory}
 use Rattle.fond_text.specs.declared.place.FileKind.{FileKind}
 use Rattle.fond_text.specs.declared.place.FileKind.TheVariants.{Domain, Problem, Side}
+use Rattle.fond_text.specs.declared.place.Place.{Place}
 use Rattle.fond_ast.specs.declared.task.LiftedTask.{LiftedTask}
 use Rattle.fond_tree.specs.declared.tree.Tree.{Tree}
 use Rattle.fond_tree.specs.Faults.{IsTextFault}
 use Rattle.fond_tree.specs.Spelling.{IsReadAs}
-use Rattle.fond_first.specs.Reads.{AreDomainOf, AreProblemOf}
-use Rattle.fond_first.specs.Sections.{names_of, sections_of, is_domain, is_problem}
+use Rattle.fond_reader.specs.Faults.{StandsInDomain, StandsInProblem}
+use Rattle.fond_reader.specs.Files.{IsDomainOf, IsProblemOf}
+use Rattle.fond_reader.specs.Least.{IsClean, NoneStands, IsFirstAmong}
+use Rattle.fond_reader.specs.Sides.{IsSideOf, IsSideTextFault, IsSideTreeFault}
+use Rattle.fond_types.specs.Faults.{Declarations, StandsInNames}
+use Rattle.fond_types.specs.Resolves.{IsResolved}
 
--- a text is read as a tree that is a domain
-pub record IsDomainText (text : List ℕ) (tree : Tree) : Type 0 where
-  pub read : IsReadAs text tree
-  pub fits : is_domain tree ≡ true
+-- the bytes of a domain, of a problem and of a side list
+pub record Texts : Type 0 where
+  pub domain : List ℕ
+  pub problem : List ℕ
+  pub side : List ℕ
 
--- a text is read as a tree that is a problem over these predicates
-pub record IsProblemText (names : List (List ℕ)) (text : List ℕ) (tree : Tree) : Type 0 where
-  pub read : IsReadAs text tree
-  pub fits : is_problem names tree ≡ true
+-- the trees of a domain and of a problem; a side list has none
+pub record Trees : Type 0 where
+  pub domain : Tree
+  pub problem : Tree
 
--- the two texts are read as this task
-pub record IsTaskOf (domain problem : List ℕ) (task : LiftedTask) : Type 0 where
-  pub domain_tree : Tree
-  pub is_domain : IsDomainText domain domain_tree
-  pub problem_tree : Tree
-  pub is_problem : IsProblemText (names_of (sections_of domain_tree)) problem problem_tree
-  pub declared : AreDomainOf (sections_of domain_tree) task.predicates task.schemas
-  pub said : AreProblemOf (names_of (sections_of domain_tree)) (sections_of problem_tree) task.init task.goal
+-- a fault of its text stands in a file: F1 to F6
+abbrev pub StandsInTexts : Texts → FileKind → Place → ℕ → Type 0
+StandsInTexts texts Domain place code = IsTextFault texts.domain place code
+StandsInTexts texts Problem place code = IsTextFault texts.problem place code
+StandsInTexts texts Side place code = IsSideTextFault texts.side place code
 
--- a text is read as a tree that is no domain
-abbrev pub IsNoDomain : List ℕ → Type 0
-IsNoDomain text = (tree : Tree) × IsReadAs text tree × (is_domain tree ≡ false)
+-- texts in which no such fault stands are read as trees
+pub record AreTreesOf (texts : Texts) (trees : Trees) : Type 0 where
+  pub domain : IsReadAs texts.domain trees.domain
+  pub problem : IsReadAs texts.problem trees.problem
+  pub side : IsClean (IsSideTextFault texts.side)
 
--- a text is read as a tree that is no problem over these predicates
-abbrev pub IsNoProblem : List (List ℕ) → List ℕ → Type 0
-IsNoProblem names text = (tree : Tree) × IsReadAs text tree × (is_problem names tree ≡ false)
+-- a fault of its form stands in a file: F7 to F12, and F24 for what is not built yet
+abbrev pub StandsInTrees : Texts → Trees → FileKind → Place → ℕ → Type 0
+StandsInTrees texts trees Domain place code = StandsInDomain trees.domain place code
+StandsInTrees texts trees Problem place code = StandsInProblem trees.problem place code
+StandsInTrees texts trees Side place code = IsSideTreeFault texts.side place code
 
--- the first text is a domain, and the second is no problem over its predicates
-abbrev pub IsNoProblemFor : List ℕ → List ℕ → Type 0
-IsNoProblemFor domain problem = (tree : Tree) × IsDomainText domain tree × IsNoProblem (names_of (sections_of tree)) problem
+-- trees in which no such fault stands are read as declarations
+pub record AreFilesOf (texts : Texts) (files : Declarations) : Type 0 where
+  pub trees : Trees
+  pub read : AreTreesOf texts trees
+  pub domain : IsDomainOf trees.domain files.domain
+  pub problem : IsProblemOf trees.problem files.problem
+  pub side : IsSideOf texts.side files.side
 
--- a text is read as a tree
-abbrev pub IsTreeText : List ℕ → Type 0
-IsTreeText text = (tree : Tree) × IsReadAs text tree
+-- declarations in which no fault of names stands are those of a task
+pub record IsTaskOf (texts : Texts) (task : LiftedTask) : Type 0 where
+  pub files : Declarations
+  pub read : AreFilesOf texts files
+  pub clean : NoneStands (StandsInNames files)
+  pub resolved : IsResolved files task
 
--- the fault of a file of a form that is not built yet, whose place is its first line and column
-abbrev pub not_built : FileKind → Fault
-not_built file = record { file = file; place = record { line = 1; column = 1 }; code = 24 }
-
--- a fault is that of a file's text
-abbrev pub IsFileFault : FileKind → List ℕ → Fault → Type 0
-IsFileFault file text fault = (fault.file ≡ file) × IsTextFault text fault.place fault.code
-
--- the first fault of a domain and a problem: that of the domain's text, and else of the problem's; and where both
--- are trees, that the domain is none of the first form, and else that the problem is none
-abbrev pub IsFirstFault : List ℕ → List ℕ → Fault → Type 0
-IsFirstFault domain problem fault =
-    IsFileFault Domain domain fault
-    ⊎ (IsTreeText domain × IsFileFault Problem problem fault)
-    ⊎ (IsTreeText problem × IsNoDomain domain × (fault ≡ not_built Domain))
-    ⊎ (IsNoProblemFor domain problem × (fault ≡ not_built Problem))
+-- the first fault of three files: of their texts, else of their forms, else of their names; and among those of one
+-- of these phases by file, place and code
+abbrev pub IsFirstFault : Texts → Fault → Type 0
+IsFirstFault texts fault =
+    IsFirstAmong (StandsInTexts texts) fault
+    ⊎ ((trees : Trees) × AreTreesOf texts trees × IsFirstAmong (StandsInTrees texts trees) fault)
+    ⊎ ((files : Declarations) × AreFilesOf texts files × IsFirstAmong (StandsInNames files) fault)
 
 -- the word for a file
 abbrev pub file_word : FileKind → List ℕ
@@ -76,12 +81,7 @@ abbrev pub fault_line : Fault → List ℕ
 fault_line fault =
     codes "refused " ++ file_word fault.file ++ codes " " ++ decimal fault.place.line ++ codes " " ++ decimal fault.place.column ++ codes " F" ++ decimal fault.code
 
--- what reading a domain and a problem answers where it answers no task
-abbrev pub IsTaskError : List ℕ → List ℕ → FrontError → Type 0
-IsTaskError domain problem (Refused fault) = IsFirstFault domain problem fault
-IsTaskError domain problem NoMemory = Unit {0}
-
--- what reading a tree answers where it answers nothing: that it is not of the form
-abbrev pub IsFormError : Type 0 → FileKind → FrontError → Type 0
-IsFormError unfit file (Refused fault) = unfit × (fault ≡ not_built file)
-IsFormError unfit file NoMemory = Unit {0}
+-- what reading three texts answers where it answers no task
+abbrev pub IsTaskError : Texts → FrontError → Type 0
+IsTaskError texts (Refused fault) = IsFirstFault texts fault
+IsTaskError texts NoMemory = Unit {0}

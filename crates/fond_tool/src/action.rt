@@ -1,17 +1,15 @@
 //! The action word of the command line.
 
-ghost use Rattle.fond_first.specs.Sections.{members_or_none};
-ghost use Rattle.fond_first.specs.Words.{leaf_of};
-ghost use Rattle.fond_tool.specs.Commands.{IsAction, is_leaf_node, name_alone};
+ghost use Rattle.fond_reader.specs.Words.{leaf_of};
+ghost use Rattle.fond_tool.specs.Commands.{IsAction, is_leaf_node, name_alone, members_or_none};
 ghost use Rattle.fond_ast.specs.declared.task.LSchema.{LSchema};
 ghost use Rattle.fond_tree.specs.Spelling.{IsReadAs};
 ghost use Rattle.std.specs.List.{list_all};
 ghost use Rattle.std.specs.Option.{option_copied};
 ghost use Rattle.std.specs.Prelude.{◌≡◌, ℕ, List, true, is_some, Some, slice_get, IfOk, IfSome, IfNone, MatchOption};
 
+use crate::words::is_same;
 use fond_ast::task::LSchemas;
-use fond_first::form::is_same;
-use fond_first::section::members;
 use fond_text::fault::{FrontError, NoMemory};
 use fond_text::place::FileKind;
 use fond_text::word::Word;
@@ -65,6 +63,16 @@ fn leaf_name(tree: &Tree) -> Option<&[u8]>
     match tree {
         Tree::Leaf(_, name) => Some(name.bytes()),
         Tree::Node(_, _) => None,
+    }
+}
+
+/// The members of a node, none of a leaf.
+fn members(tree: &Tree) -> &[Tree]
+    ensures { result.now ≡ members_or_none tree.now }
+{
+    match tree {
+        Tree::Leaf(_, _) => &[],
+        Tree::Node(_, members) => members.as_slice(),
     }
 }
 

@@ -1,13 +1,11 @@
 //! What the tool answers: a text and a status.
 
 ghost use Rattle.fond_ast.specs.declared.task.LSchema.{LSchema};
-ghost use Rattle.fond_tool.specs.Commands.{name_alone};
 ghost use Rattle.fond_tool.specs.Lines.{IsLine};
 ghost use Rattle.fond_tool.specs.Outputs.{SchemaOutput, TaskOutput, SuccOutput};
 ghost use Rattle.fond_tool.specs.Tasks.{file_word, fault_line};
-ghost use Rattle.fond_first.specs.Sections.{members_or_none};
 ghost use Rattle.fond_tree.specs.Spelling.{IsReadAs};
-ghost use Rattle.std.specs.Prelude.{◌≡◌, ◌++◌, Contains, IfOk};
+ghost use Rattle.std.specs.Prelude.{◌≡◌, ◌++◌, [], Contains, IfOk};
 
 use crate::action::{find_schema, schema_name};
 use crate::status::Status;
@@ -101,7 +99,7 @@ fn task_answer(
     schema_answer(alloc, task, task.schemas.get(number))
 }
 
-/// The successors by an action, from the bytes of a domain and a problem.
+/// The successors by an action, from the bytes of a domain and a problem, with an empty side list.
 pub fn succ_answer(
     alloc: Global,
     domain: &[u8],
@@ -110,9 +108,9 @@ pub fn succ_answer(
     action: &Tree,
 ) -> Result<Answer, NoMemory>
     requires { IsReadAs word.now action.now }
-    ensures { IfOk result (λ answer. SuccOutput domain.now problem.now word.now answer.text.items answer.status) }
+    ensures { IfOk result (λ answer. SuccOutput (record { domain = domain.now; problem = problem.now; side = [] }) word.now answer.text.items answer.status) }
 {
-    match read_task(alloc, domain, problem) {
+    match read_task(alloc, domain, problem, &[]) {
         Ok(task) => task_answer(alloc, &task, word, action),
         Err(FrontError::Refused(fault)) => refusal(alloc, fault),
         Err(FrontError::NoMemory) => Err(NoMemory),

@@ -4,7 +4,9 @@
 
 pub mod action;
 pub mod answer;
+pub mod declare;
 pub mod fetch;
+pub mod parse;
 pub mod run;
 pub mod status;
 pub mod task;

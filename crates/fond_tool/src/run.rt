@@ -4,7 +4,7 @@
 ghost use Rattle.fond_rules.specs.Belongs.{AreActsThere};
 ghost use Rattle.fond_rules.specs.Select.{AreOver};
 ghost use Rattle.fond_tool.specs.Lines.{IsLine};
-ghost use Rattle.fond_tool.specs.Runs.{is_empty_side, TraceOutput, ScriptOutput, CertOutput, RunOutput};
+ghost use Rattle.fond_tool.specs.Runs.{TraceOutput, ScriptOutput, CertOutput, RunOutput};
 ghost use Rattle.fond_tool.specs.Tasks.{IsTaskOf};
 ghost use Rattle.std.specs.Fmt.{decimal};
 ghost use Rattle.std.specs.Prelude.{◌≡◌, ◌++◌, length, codes, IfOk};
@@ -12,7 +12,7 @@ ghost use Rattle.std.specs.Prelude.{◌≡◌, ◌++◌, length, codes, IfOk};
 use crate::answer::{Answer, line, refusal};
 use crate::fetch::RunTexts;
 use crate::status::Status;
-use crate::task::{not_built, read_task};
+use crate::task::read_task;
 use fond_ast::task::LiftedTask;
 use fond_cert::error::CertError;
 use fond_cert::policy::read_policy;
@@ -21,18 +21,9 @@ use fond_ground::ground::ground;
 use fond_rules::rules::Rules;
 use fond_script::script::{ScriptError, read_script};
 use fond_task::task::Task;
-use fond_text::bytes::is_blank;
 use fond_text::fault::{FrontError, NoMemory};
 use fond_text::number::put_number;
-use fond_text::place::FileKind;
 use std::alloc::Global;
-
-/// Whether each byte of a side list is a blank.
-fn is_empty_side(side: &[u8]) -> bool
-    ensures { result ≡ is_empty_side side.now }
-{
-    side.iter().all(|b| is_blank(*b))
-}
 
 /// The refusal of a certificate.
 fn cert_refusal(alloc: Global, code: u8, byte: u64) -> Result<Answer, NoMemory>
@@ -105,24 +96,20 @@ fn cert_answer(alloc: Global, task: &Task, cert: &[u8], script: &[u8]) -> Result
     }
 }
 
-/// What comes of the certificate and the script over the ground task, or the refusal of a side list that names a
-/// schema.
+/// What comes of the certificate and the script over the ground task of this task.
 fn ground_answer(alloc: Global, lifted: &LiftedTask, texts: &RunTexts) -> Result<Answer, NoMemory>
-    requires { IsTaskOf texts.now.domain.items texts.now.problem.items lifted.now }
-    ensures { IfOk result (λ answer. RunOutput texts.now.domain.items texts.now.problem.items texts.now.side.items texts.now.cert.items texts.now.script.items answer.text.items answer.status) }
+    requires { IsTaskOf (record { domain = texts.now.domain.items; problem = texts.now.problem.items; side = texts.now.side.items }) lifted.now }
+    ensures { IfOk result (λ answer. RunOutput (record { domain = texts.now.domain.items; problem = texts.now.problem.items; side = texts.now.side.items }) texts.now.cert.items texts.now.script.items answer.text.items answer.status) }
 {
-    if !is_empty_side(&texts.side) {
-        return refusal(alloc, not_built(FileKind::Side));
-    }
     let task = ground(alloc, lifted)?;
     cert_answer(alloc, &task, &texts.cert, &texts.script)
 }
 
 /// The answer to `run`, from the bytes of its files.
 pub fn run_answer(alloc: Global, texts: &RunTexts) -> Result<Answer, NoMemory>
-    ensures { IfOk result (λ answer. RunOutput texts.now.domain.items texts.now.problem.items texts.now.side.items texts.now.cert.items texts.now.script.items answer.text.items answer.status) }
+    ensures { IfOk result (λ answer. RunOutput (record { domain = texts.now.domain.items; problem = texts.now.problem.items; side = texts.now.side.items }) texts.now.cert.items texts.now.script.items answer.text.items answer.status) }
 {
-    match read_task(alloc, &texts.domain, &texts.problem) {
+    match read_task(alloc, &texts.domain, &texts.problem, &texts.side) {
         Ok(lifted) => ground_answer(alloc, &lifted, texts),
         Err(FrontError::Refused(fault)) => refusal(alloc, fault),
         Err(FrontError::NoMemory) => Err(NoMemory),

@@ -2,10 +2,17 @@
 
 ghost use Rattle.fond_tool.specs.Commands.{Command, Succ, Run, Fits};
 ghost use Rattle.fond_tool.specs.Given.{AreGiven};
+ghost use Rattle.std.specs.Str.{bytes_eq};
 ghost use Rattle.std.specs.Prelude.{◌≡◌, ◌≢◌, ℕ, true, false, List, [], ◌∷◌, codes, IfSome, IfNone};
 
-use fond_first::form::is_same;
 use fond_text::word::Word;
+
+/// Whether two texts have the same bytes.
+pub fn is_same(text: &[u8], other: &[u8]) -> bool
+    ensures { result ≡ bytes_eq text.now other.now }
+{
+    text == other
+}
 
 /// The words of `succ`.
 #[derive(Clone, Copy)]

@@ -1,5 +1,0 @@
-mod Lists
-mod Names
-mod Predicates
-mod Progress
-mod Repeats

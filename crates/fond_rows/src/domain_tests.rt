@@ -1,0 +1,344 @@
+use crate::answers::{answer_to, put};
+use fond_edge::lists::{Calls, ShelfFiles};
+use fond_edge::memory_shelf::MemoryShelf;
+use std::alloc::Global;
+use std::process::Abort;
+use std::test::Fail;
+
+/// A problem that has a fault of its form as well.
+const OTHER: &str = "(define (problem y))";
+
+/// A tree that does not fit, or a node with a member missing or one too many.
+const FORMS: [(&str, &str); 34] = [
+    ("x", "refused domain 1 1 F7\n"),
+    ("()", "refused domain 1 1 F7\n"),
+    ("(defin (domain x))", "refused domain 1 2 F7\n"),
+    ("(define (domaim x))", "refused domain 1 10 F7\n"),
+    ("(define (domain ?x))", "refused domain 1 17 F7\n"),
+    ("(define (domain and))", "refused domain 1 17 F7\n"),
+    ("(define (domain x) y)", "refused domain 1 20 F7\n"),
+    ("(define (domain x) ())", "refused domain 1 20 F7\n"),
+    ("(define (domain x) ((a) b))", "refused domain 1 21 F7\n"),
+    ("(define (domain x) (:action))", "refused domain 1 20 F7\n"),
+    (
+        "(define (domain x) (:action :effect))",
+        "refused domain 1 29 F7\n",
+    ),
+    (
+        "(define (domain x) (:action :effect (p)))",
+        "refused domain 1 20 F7\n",
+    ),
+    (
+        "(define (domain x) (:action a :effect))",
+        "refused domain 1 20 F7\n",
+    ),
+    (
+        "(define (domain x) (:action a :other))",
+        "refused domain 1 20 F7\n",
+    ),
+    (
+        "(define (domain x) (:action a (b) c))",
+        "refused domain 1 31 F7\n",
+    ),
+    (
+        "(define (domain x) (:predicates p))",
+        "refused domain 1 33 F7\n",
+    ),
+    (
+        "(define (domain x) (:predicates ()))",
+        "refused domain 1 33 F7\n",
+    ),
+    (
+        "(define (domain x) (:predicates ((p))))",
+        "refused domain 1 34 F7\n",
+    ),
+    (
+        "(define (domain x) (:predicates (p x)))",
+        "refused domain 1 36 F7\n",
+    ),
+    (
+        "(define (domain x) (:predicates (p -)))",
+        "refused domain 1 36 F7\n",
+    ),
+    (
+        "(define (domain x) (:action a :effect p))",
+        "refused domain 1 39 F7\n",
+    ),
+    (
+        "(define (domain x) (:action a :effect (?x)))",
+        "refused domain 1 40 F7\n",
+    ),
+    (
+        "(define (domain x) (:action a :effect (p :k)))",
+        "refused domain 1 42 F7\n",
+    ),
+    (
+        "(define (domain x) (:action a :effect (not)))",
+        "refused domain 1 39 F7\n",
+    ),
+    (
+        "(define (domain x) (:action a :effect (not ())))",
+        "refused domain 1 44 F7\n",
+    ),
+    (
+        "(define (domain x) (:action a :effect (not (and (p)))))",
+        "refused domain 1 45 F7\n",
+    ),
+    (
+        "(define (domain x) (:action a :effect (not (not (p)))))",
+        "refused domain 1 45 F7\n",
+    ),
+    (
+        "(define (domain x) (:action a :effect (not (p (q)))))",
+        "refused domain 1 47 F7\n",
+    ),
+    (
+        "(define (domain x) (:action a :precondition ((p) (q))))",
+        "refused domain 1 46 F7\n",
+    ),
+    (
+        "(define (domain x) (:action a :precondition (not (p) (q))))",
+        "refused domain 1 45 F7\n",
+    ),
+    (
+        "(define (domain x) (:action a :precondition (imply (p))))",
+        "refused domain 1 45 F7\n",
+    ),
+    (
+        "(define (domain x) (:action a :precondition (and (p) q)))",
+        "refused domain 1 54 F7\n",
+    ),
+    (
+        "(define (domain x) (:action a :parameters x))",
+        "refused domain 1 43 F7\n",
+    ),
+    ("(define)", "refused domain 1 1 F7\n"),
+];
+
+/// An unknown section or key.
+const UNKNOWN: [(&str, &str); 8] = [
+    (
+        "(define (domain x) (:functions))",
+        "refused domain 1 20 F8\n",
+    ),
+    ("(define (domain x) (foo))", "refused domain 1 20 F8\n"),
+    ("(define (domain x) (and))", "refused domain 1 20 F8\n"),
+    ("(define (domain x) (?x a))", "refused domain 1 20 F8\n"),
+    ("(define (domain x) (:goal ()))", "refused domain 1 20 F8\n"),
+    (
+        "(define (domain x) (:action a :observe (p)))",
+        "refused domain 1 31 F8\n",
+    ),
+    (
+        "(define (domain x) (:action a ?x (p)))",
+        "refused domain 1 31 F8\n",
+    ),
+    (
+        "(define (domain x) (:action a :effect () and (p)))",
+        "refused domain 1 42 F8\n",
+    ),
+];
+
+/// A section or a key that stands a second time.
+const REPEATED: [(&str, &str); 7] = [
+    (
+        "(define (domain x) (:predicates) (:predicates))",
+        "refused domain 1 34 F9\n",
+    ),
+    (
+        "(define (domain x) (:requirements) (:requirements))",
+        "refused domain 1 36 F9\n",
+    ),
+    (
+        "(define (domain x) (:types) (:types) (:types))",
+        "refused domain 1 29 F9\n",
+    ),
+    (
+        "(define (domain x) (:constants)\n(:action a)\n (:constants))",
+        "refused domain 3 2 F9\n",
+    ),
+    (
+        "(define (domain x) (:action a :effect () :effect ()))",
+        "refused domain 1 42 F9\n",
+    ),
+    (
+        "(define (domain x) (:action a :precondition () :effect () :precondition ()))",
+        "refused domain 1 59 F9\n",
+    ),
+    (
+        "(define (domain x) (:action a :parameters () :parameters ()))",
+        "refused domain 1 46 F9\n",
+    ),
+];
+
+/// A head that is no operator there.
+const OPERATORS: [(&str, &str); 9] = [
+    (
+        "(define (domain x) (:action a :effect (increase (c) 1)))",
+        "refused domain 1 39 F11\n",
+    ),
+    (
+        "(define (domain x) (:action a :effect (or)))",
+        "refused domain 1 39 F11\n",
+    ),
+    (
+        "(define (domain x) (:action a :effect (= a b)))",
+        "refused domain 1 39 F11\n",
+    ),
+    (
+        "(define (domain x) (:action a :precondition (when (p) (q))))",
+        "refused domain 1 45 F11\n",
+    ),
+    (
+        "(define (domain x) (:action a :precondition (oneof (p))))",
+        "refused domain 1 45 F11\n",
+    ),
+    (
+        "(define (domain x) (:action a :precondition (-)))",
+        "refused domain 1 45 F11\n",
+    ),
+    (
+        "(define (domain x) (:action a :effect (and (p)\n (probabilistic (p)))))",
+        "refused domain 2 2 F11\n",
+    ),
+    (
+        "(define (domain x) (:action a :precondition (not (p (q)))))",
+        "refused domain 1 50 F11\n",
+    ),
+    (
+        "(define (domain x) (:action a :effect (p (q) :x)))",
+        "refused domain 1 39 F11\n",
+    ),
+];
+
+/// A choice without members.
+const EMPTY_CHOICES: [(&str, &str); 5] = [
+    (
+        "(define (domain x) (:action a :effect (oneof)))",
+        "refused domain 1 39 F12\n",
+    ),
+    (
+        "(define (domain x) (:action a :effect (and (oneof))))",
+        "refused domain 1 44 F12\n",
+    ),
+    (
+        "(define (domain x) (:action a :effect (oneof (p) (oneof))))",
+        "refused domain 1 50 F12\n",
+    ),
+    (
+        "(define (domain x) (:action a :effect (and (and)\n(oneof))))",
+        "refused domain 2 1 F12\n",
+    ),
+    (
+        "(define (domain x) (:action a) (:action b :effect (ONEOF)))",
+        "refused domain 1 51 F12\n",
+    ),
+];
+
+/// A form that is not built yet.
+const UNBUILT: [(&str, &str); 15] = [
+    (
+        "(define (domain x) (:types t))",
+        "refused domain 1 20 F24\n",
+    ),
+    (
+        "(define (domain x) (:constants c))",
+        "refused domain 1 20 F24\n",
+    ),
+    (
+        "(define (domain x) (:types -))",
+        "refused domain 1 20 F24\n",
+    ),
+    (
+        "(define (domain x) (:predicates (p ?x)))",
+        "refused domain 1 33 F24\n",
+    ),
+    (
+        "(define (domain x) (:action a :parameters (?x)))",
+        "refused domain 1 43 F24\n",
+    ),
+    (
+        "(define (domain x) (:action a :effect (p ?x)))",
+        "refused domain 1 39 F24\n",
+    ),
+    (
+        "(define (domain x) (:action a :effect (p :x ?y)))",
+        "refused domain 1 39 F24\n",
+    ),
+    (
+        "(define (domain x) (:action a :effect (not (p c))))",
+        "refused domain 1 44 F24\n",
+    ),
+    (
+        "(define (domain x) (:action a :precondition (= c c)))",
+        "refused domain 1 45 F24\n",
+    ),
+    (
+        "(define (domain x) (:action a :precondition (forall () (p))))",
+        "refused domain 1 45 F24\n",
+    ),
+    (
+        "(define (domain x) (:action a :precondition (or (p) (exists () (p)))))",
+        "refused domain 1 53 F24\n",
+    ),
+    (
+        "(define (domain x) (:action a :effect (when (p) (p))))",
+        "refused domain 1 39 F24\n",
+    ),
+    (
+        "(define (domain x) (:action a :effect (forall () (p))))",
+        "refused domain 1 39 F24\n",
+    ),
+    (
+        "(define (domain x) (:action a :effect (and (oneof (p)))))",
+        "refused domain 1 44 F24\n",
+    ),
+    (
+        "(define (domain x) (:action a :effect (oneof (oneof (p)))))",
+        "refused domain 1 46 F24\n",
+    ),
+];
+
+/// `succ` over each of these domains, beside a problem that has a fault of its form as well, is refused with this line.
+fn refuse(rt: &impl Abort, alloc: Global, table: &[(&str, &str)]) -> Result<(), Fail> {
+    for (text, line) in table {
+        let mut files = ShelfFiles::new(alloc);
+        put(alloc, &mut files, "domain", text)?;
+        put(alloc, &mut files, "problem", OTHER)?;
+        let shelf = MemoryShelf::new(files, Calls::new(alloc));
+        let told = answer_to(alloc, &["succ", "domain", "problem", "(a)"], shelf, None)?;
+        assert_eq!(rt; told.status, 3, "at {text}");
+        assert_eq!(rt; told.text.as_slice(), line.as_bytes(), "at {text}");
+    }
+    Ok(())
+}
+
+#[test]
+fn trees_that_do_not_fit(rt: HostRuntime) -> Result<(), Fail> {
+    refuse(&rt, rt.alloc(), &FORMS)
+}
+
+#[test]
+fn unknown_sections_and_keys(rt: HostRuntime) -> Result<(), Fail> {
+    refuse(&rt, rt.alloc(), &UNKNOWN)
+}
+
+#[test]
+fn repeated_sections_and_keys(rt: HostRuntime) -> Result<(), Fail> {
+    refuse(&rt, rt.alloc(), &REPEATED)
+}
+
+#[test]
+fn heads_that_are_no_operators(rt: HostRuntime) -> Result<(), Fail> {
+    refuse(&rt, rt.alloc(), &OPERATORS)
+}
+
+#[test]
+fn choices_without_members(rt: HostRuntime) -> Result<(), Fail> {
+    refuse(&rt, rt.alloc(), &EMPTY_CHOICES)
+}
+
+#[test]
+fn forms_that_are_not_built(rt: HostRuntime) -> Result<(), Fail> {
+    refuse(&rt, rt.alloc(), &UNBUILT)
+}
