@@ -1,6 +1,8 @@
 //! Domains, problems and side lists as they are read.
 
-ghost use Rattle.std.specs.Prelude.{◌≡◌, ◌<◌, [], ◌∷◌, ◌++◌, length, slice_get, Some, OnOk, OnErr};
+ghost use Rattle.fond_ast.specs.Read.{has_one_kind, is_schema_with_choices};
+ghost use Rattle.std.specs.List.{list_all};
+ghost use Rattle.std.specs.Prelude.{◌≡◌, ◌<◌, IsTrue, [], ◌∷◌, ◌++◌, length, slice_get, Some, OnOk, OnErr};
 
 use crate::names::{Kinds, ReadAtom, TypedNames};
 use crate::syntax::{Cond, Effect};
@@ -134,7 +136,8 @@ impl DeclaredList {
     }
 }
 
-/// A domain: its types, constants, predicates and schemas, each in the order of the text.
+/// A domain: its types, constants, predicates and schemas, each in the order of the text. Each type and each constant
+/// has exactly one type, and each choice in an effect has a member.
 #[derive(Drop)]
 pub struct Domain {
     pub place: Place,
@@ -142,6 +145,9 @@ pub struct Domain {
     pub constants: TypedNames,
     pub predicates: DeclaredList,
     pub schemas: Schemas,
+    pub ghost one_parent: { IsTrue (list_all has_one_kind kinds) },
+    pub ghost one_kind: { IsTrue (list_all has_one_kind constants) },
+    pub ghost choices: { IsTrue (list_all is_schema_with_choices schemas) },
 }
 
 /// An atom of `:init`, or one that is negated there.
@@ -201,13 +207,14 @@ impl InitAtoms {
     }
 }
 
-/// A problem: its objects, its initial atoms and its goal.
+/// A problem: its objects, each of exactly one type, its initial atoms and its goal.
 #[derive(Drop)]
 pub struct Problem {
     pub place: Place,
     pub objects: TypedNames,
     pub init: InitAtoms,
     pub goal: Cond,
+    pub ghost one_kind: { IsTrue (list_all has_one_kind objects) },
 }
 
 /// A side list: its leaves, which are to name the schemas that are unfair.

@@ -1,3 +1,7 @@
+ghost use Rattle.fond_ast.specs.Read.{has_one_kind};
+ghost use Rattle.std.specs.List.{list_all};
+ghost use Rattle.std.specs.Prelude.{◌≡◌, true, length, IfOk};
+
 use crate::files::{
     Declared, DeclaredList, Domain, InitAtom, InitAtoms, Problem, Schema, Schemas, Side,
 };
@@ -13,14 +17,18 @@ fn at(column: u32) -> Place {
     Place { line: 1, column }
 }
 
-fn kinds(alloc: Global, name: Name) -> Result<Kinds, NoMemory> {
+fn kinds(alloc: Global, name: Name) -> Result<Kinds, NoMemory>
+    ensures { IfOk result (λ kinds. length kinds ≡ 1) }
+{
     let mut kinds = Kinds::new(alloc);
     kinds.push(Kind { place: at(5), name })?;
     Ok(kinds)
 }
 
 /// The list of one name of type `object`.
-fn typed(alloc: Global, name: Name) -> Result<TypedNames, NoMemory> {
+fn typed(alloc: Global, name: Name) -> Result<TypedNames, NoMemory>
+    ensures { IfOk result (λ names. list_all has_one_kind names ≡ true) }
+{
     let kinds = kinds(alloc, Name::lower(alloc, b"object")?)?;
     let mut names = TypedNames::new(alloc);
     names.push(TypedName {

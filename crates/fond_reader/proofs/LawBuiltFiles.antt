@@ -17,6 +17,7 @@ use Rattle.fond_reader.specs.Least.{IsClean}
 use Rattle.fond_reader.proofs.Clean.{true_is_false}
 use Rattle.fond_reader.proofs.CleanFiles.{clean_domain, clean_problem}
 use Rattle.fond_reader.proofs.LawBuilt.{predicate_built, condition_built}
+use Rattle.fond_reader.proofs.LawChoices.{schemas_choose}
 use Rattle.fond_reader.proofs.LawEffects.{whole_effect_built, initial_built}
 use Rattle.fond_reader.proofs.LawForms.{Only, only, name_there}
 use Rattle.fond_reader.proofs.LawParts.{IsSomeCondition, IsSomeEffect}
@@ -70,7 +71,16 @@ domain_built : (tree : Tree) (sections : List Tree) → IsCleanDomain tree secti
 domain_built tree sections clean =
     let predicates = all_built is_declared fits_atom predicate_built (contents (codes ":predicates") sections) clean.predicates in
     let schemas : (schemas : List Schema) × AreSchemasOf (headed (codes ":action") sections) schemas = schemas_built (headed (codes ":action") sections) clean.actions in (
-      record { place = place_of tree; kinds = []; constants = []; predicates = predicates.0; schemas = schemas.0 },
+      record {
+        place = place_of tree;
+        kinds = [];
+        constants = [];
+        predicates = predicates.0;
+        schemas = schemas.0;
+        one_parent = refl;
+        one_kind = refl;
+        choices = schemas_choose (headed (codes ":action") sections) schemas.0 schemas.1;
+      },
       record {
         sections = sections;
         file = clean.file;
@@ -92,7 +102,7 @@ problem_built tree sections clean =
     let one : Only fits_condition (Some (contents (codes ":goal") sections)) = only fits_condition (Some (contents (codes ":goal") sections)) clean.goal in
     let goal : IsSomeCondition one.tree = condition_built one.tree one.passes in
     let alone : contents (codes ":goal") sections ≡ one.tree ∷ [] = let both : Some (contents (codes ":goal") sections) ≡ Some (one.tree ∷ []) = one.alone in cc in (
-      record { place = place_of tree; objects = []; init = init.0; goal = goal.0 },
+      record { place = place_of tree; objects = []; init = init.0; goal = goal.0; one_kind = refl },
       record {
         sections = sections;
         file = clean.file;

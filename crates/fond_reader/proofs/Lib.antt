@@ -12,6 +12,7 @@ pub mod Incomplete
 pub mod LawActions
 pub mod LawBuilt
 pub mod LawBuiltFiles
+pub mod LawChoices
 pub mod LawEffects
 pub mod LawFiles
 pub mod LawForms

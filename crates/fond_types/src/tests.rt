@@ -1,3 +1,6 @@
+ghost use Rattle.fond_ast.specs.Read.{has_choices, is_schema_with_choices};
+ghost use Rattle.std.specs.Prelude.{◌≡◌, ◌∷◌, [], true, IfOk};
+
 use crate::resolve::resolve;
 use fond_ast::files::{
     Declared, DeclaredList, Domain, InitAtom, InitAtoms, Problem, Schema, Schemas, Side,
@@ -56,7 +59,9 @@ fn predicates(alloc: Global) -> Result<DeclaredList, NoMemory> {
     Ok(predicates)
 }
 
-fn schema(alloc: Global, place: Place, name: Name, pre: Cond, effect: Effect) -> Schema {
+fn schema(alloc: Global, place: Place, name: Name, pre: Cond, effect: Effect) -> Schema
+    ensures { result.effect ≡ effect }
+{
     Schema {
         place,
         name,
@@ -66,7 +71,10 @@ fn schema(alloc: Global, place: Place, name: Name, pre: Cond, effect: Effect) ->
     }
 }
 
-fn domain(alloc: Global, first: Schema, second: Schema) -> Result<Domain, NoMemory> {
+fn domain(alloc: Global, first: Schema, second: Schema) -> Result<Domain, NoMemory>
+    requires first { is_schema_with_choices first ≡ true }
+    requires second { is_schema_with_choices second ≡ true }
+{
     let mut schemas = Schemas::new(alloc);
     schemas.push(first)?;
     schemas.push(second)?;
@@ -86,7 +94,9 @@ fn two_conditions(alloc: Global, first: Cond, second: Cond) -> Result<Vec<Cond>,
     Ok(parts)
 }
 
-fn two_effects(alloc: Global, first: Effect, second: Effect) -> Result<Vec<Effect>, NoMemory> {
+fn two_effects(alloc: Global, first: Effect, second: Effect) -> Result<Vec<Effect>, NoMemory>
+    ensures { IfOk result (λ parts. parts.items ≡ first ∷ second ∷ []) }
+{
     let mut parts = Vec::new(alloc);
     parts.push(first)?;
     parts.push(second)?;
@@ -112,20 +122,26 @@ fn nested(alloc: Global) -> Result<Cond, NoMemory> {
 }
 
 /// `(oneof (heads) (and (not (heads)) ()))`.
-fn choice(alloc: Global) -> Result<Effect, NoMemory> {
+fn choice(alloc: Global) -> Result<Effect, NoMemory>
+    ensures { IfOk result (λ effect. has_choices effect ≡ true) }
+{
     let both = two_effects(alloc, Effect::Delete(heads(alloc)?), Effect::Nothing)?;
     let members = two_effects(alloc, Effect::Add(heads(alloc)?), Effect::And(both))?;
     Ok(Effect::OneOf(members))
 }
 
 /// `flip`, at column 30, with this condition.
-fn flip(alloc: Global, pre: Cond) -> Result<Schema, NoMemory> {
+fn flip(alloc: Global, pre: Cond) -> Result<Schema, NoMemory>
+    ensures { IfOk result (λ schema. is_schema_with_choices schema ≡ true) }
+{
     let name = Name::lower(alloc, b"flip")?;
     Ok(schema(alloc, at(30), name, pre, choice(alloc)?))
 }
 
 /// `wait`, at column 50, without a precondition or an effect.
-fn wait(alloc: Global) -> Result<Schema, NoMemory> {
+fn wait(alloc: Global) -> Result<Schema, NoMemory>
+    ensures { IfOk result (λ schema. is_schema_with_choices schema ≡ true) }
+{
     let name = Name::lower(alloc, b"wait")?;
     Ok(schema(alloc, at(50), name, Cond::Truth, Effect::Nothing))
 }
