@@ -1,7 +1,7 @@
 -- Conditions and effects whose numbers all name predicates, and whose choices have members.
 use Rattle.std.specs.Prelude.{ℕ, ◌==◌, ◌&&◌, nat_lt, Bool, true, not, length}
 use Rattle.std.specs.List.{list_all}
-use Rattle.fond_text.specs.declared.ground.Atom.{Atom}
+use Rattle.fond_text.specs.declared.atom.Atom.{Atom}
 use Rattle.fond_ast.specs.declared.form.LCond.{LCond}
 use Rattle.fond_ast.specs.declared.form.LCond.TheOpen as condition
 use Rattle.fond_ast.specs.declared.form.LCond.TheFolds.{fold-LCond}

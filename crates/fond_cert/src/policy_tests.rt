@@ -7,7 +7,7 @@ use fond_state::state::State;
 use fond_task::form::Form;
 use fond_task::task::{Act, Acts, Labels, Outcome, Outcomes, Task};
 use fond_text::fault::NoMemory;
-use fond_text::ground::{Atom, Atoms, GroundAction, Objects};
+use fond_text::atom::{Atom, Atoms, GroundAction, Objects};
 use fond_text::name::{Name, Names};
 use std::alloc::Global;
 use std::test::Fail;

@@ -6,7 +6,7 @@ ghost use Rattle.fond_edge.specs.Files.{file_of};
 ghost use Rattle.fond_edge.specs.MemoryShelfState.{fails_next, after_fetch};
 
 use crate::counter::one_more;
-use crate::lists::{Calls, ShelfFiles};
+use crate::lists::{Calls, ShelfFiles, contains, find};
 use crate::shelf::{FetchFault, Shelf};
 use fond_text::bytes::Bytes;
 use fond_text::word::Word;
@@ -54,7 +54,7 @@ impl MemoryShelf {
         ensures counted { self.old.faults ≤ self.new.faults }
         ensures after { self.new ≡ after_fetch self.old }
     {
-        let fails = self.failing.contains(self.calls);
+        let fails = contains(&self.failing, self.calls);
         self.calls = one_more(self.calls);
         if fails {
             self.faults = one_more(self.faults);
@@ -98,7 +98,7 @@ impl Shelf for MemoryShelf {
         if self.count() {
             return Err(FetchFault::Failed);
         }
-        match self.files.find(name) {
+        match find(&self.files, name) {
             None => Err(FetchFault::Failed),
             Some(bytes) => append(bytes, into),
         }

@@ -6,7 +6,7 @@ ghost use Rattle.fond_edge.specs.Written.{Appended};
 ghost use Rattle.fond_edge.specs.MemorySinkState.{refuses, taken, after_write};
 
 use crate::counter::one_more;
-use crate::lists::Calls;
+use crate::lists::{Calls, contains};
 use crate::sink::{Failed, Sink};
 use fond_text::fault::NoMemory;
 use std::alloc::Global;
@@ -95,7 +95,7 @@ impl Sink for MemorySink {
         ensures exact { refuses self.old b.now ≡ false → result ≡ Ok (taken self.old b.now) }
     {
         let left = self.room - self.written.len();
-        let is_failing = self.failing.contains(self.calls);
+        let is_failing = contains(&self.failing, self.calls);
         self.calls = one_more(self.calls);
         if is_failing || !b.is_empty() && left == 0 {
             self.faults = one_more(self.faults);

@@ -1,7 +1,6 @@
 //! Whether rules fit a task.
 
-ghost use Rattle.std.specs.Prelude.{◌≡◌, true, length};
-ghost use Rattle.fond_rules.specs.Select.{AreOver};
+ghost use Rattle.std.specs.Prelude.{◌≡◌, true};
 ghost use Rattle.fond_rules.specs.Belongs.{AreActsThere};
 
 use fond_rules::rules::Rules;

@@ -6,7 +6,7 @@ use Rattle.std.proofs.lemmas.Option.{none-some, same_Some}
 use denote.RawPtr.{null_ptr}
 use Rattle.fond_state.proofs.Tested.{lies_in-Decides}
 use Rattle.fond_state.specs.Cubes.{CubeLiesIn, Contradicts, literal_at}
-use Rattle.fond_text.specs.declared.ground.Atom.{Atom}
+use Rattle.fond_text.specs.declared.atom.Atom.{Atom}
 use Rattle.std.specs.declared.vec.Vec.{Vec}
 use Rattle.std.specs.declared.alloc.Global.{Global}
 use Rattle.fond_task.specs.declared.form.Form.{Form}

@@ -1,5 +1,6 @@
 -- Right certificates.
 use Rattle.std.specs.Prelude.{◌≡◌, ℕ, List, [], ◌∷◌, Bool, Some, slice_get, length, Contains, IsSome}
+use Rattle.fond_text.specs.Lists.{AreDistinct}
 use Rattle.fond_state.specs.Cubes.{LiesIn}
 use Rattle.fond_task.specs.declared.task.Task.{Task}
 use Rattle.fond_game.specs.declared.rule.Pair.{Pair}
@@ -7,11 +8,6 @@ use Rattle.fond_game.specs.declared.rule.Rule.{Rule}
 use Rattle.fond_game.specs.Policies.{IsGoal, Policy, Reach, selected}
 use Rattle.fond_game.specs.Layers.{CubeView, AreSureLayers, IsSurePair}
 use Rattle.fond_game.specs.Rules.{IsSureRule}
-
--- no state stands twice in the list
-abbrev pub AreDistinct : List (List Bool) → Type 0
-AreDistinct [] = Unit {0}
-AreDistinct (state ∷ states) = (Contains states state → ⊥) × AreDistinct states
 
 -- a policy reaches this many states: some list has each of them once and nothing else, and is as long
 pub record ReachesCount (task : Task) (policy : Policy) (count : ℕ) : Type 0 where

@@ -1,7 +1,7 @@
 -- The fluent atoms of a task without objects, by number, and what is fixed about the others.
 use Rattle.std.specs.Prelude.{ℕ, ◌==◌, Bool, List, Option, map, filter, position}
 use Rattle.std.specs.List.{list_any, enumerate_from}
-use Rattle.fond_text.specs.declared.ground.Atom.{Atom}
+use Rattle.fond_text.specs.declared.atom.Atom.{Atom}
 use Rattle.fond_ast.specs.declared.task.LiftedTask.{LiftedTask}
 use Rattle.fond_meaning.specs.Successors.{atom_of_number}
 

@@ -7,16 +7,16 @@ ghost use Rattle.fond_ground.specs.Puts.{literal_of, literals_of};
 ghost use Rattle.fond_ground.specs.Tables.{IsTableOf};
 ghost use Rattle.fond_task.specs.declared.task.Act.{Act};
 ghost use Rattle.std.specs.List.{enumerate_from};
-ghost use Rattle.std.specs.Prelude.{◌≡◌, ◌<◌, ◌^◌, ◌++◌, ◌∷◌, [], ℕ, List, Bool, filter, length, IfOk, OnOk};
+ghost use Rattle.std.specs.Prelude.{◌≡◌, ◌<◌, ◌^◌, ◌++◌, ◌∷◌, [], List, Bool, filter, length, IfOk, OnOk};
 
-use crate::outcome::{Put, Puts, outcomes};
+use crate::outcome::{Put, outcomes};
 use crate::value::{form_of, is_possible, number_of};
 use fond_ast::form::LEffect;
 use fond_ast::task::{LSchema, LiftedTask};
 use fond_task::form::Form;
 use fond_task::task::{Act, Acts, Entry, Outcome, Outcomes};
 use fond_text::fault::NoMemory;
-use fond_text::ground::{GroundAction, Objects};
+use fond_text::atom::{GroundAction, Objects};
 use std::alloc::Global;
 
 /// The entry of a literal, whose condition is always true. A literal of a predicate that is not fluent has

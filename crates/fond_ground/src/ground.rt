@@ -11,7 +11,7 @@ use crate::value::form_of;
 use fond_ast::task::LiftedTask;
 use fond_task::task::{Labels, Task};
 use fond_text::fault::NoMemory;
-use fond_text::ground::Atoms;
+use fond_text::atom::Atoms;
 use fond_text::name::Names;
 use std::alloc::Global;
 

@@ -1,7 +1,7 @@
 //! The atoms, their numbers, and their first values.
 
 ghost use Rattle.fond_ground.specs.Numbers.{fluent_atoms as all_atoms, atom_number, is_initial as is_true_first};
-ghost use Rattle.fond_ground.specs.Tables.{numbered as numbered_by, counted as counted_by, numbers_from};
+ghost use Rattle.fond_ground.specs.Tables.{numbered as numbered_by, counted as counted_by};
 ghost use Rattle.fond_meaning.specs.Successors.{atom_of_number};
 ghost use Rattle.std.specs.Prelude.{◌≡◌, ◌+◌, ◌<◌, ◌^◌, ◌++◌, ◌∷◌, [], ℕ, false, None, map, length, slice_index_or, if◌then◌else◌, IfOk, OnOk};
 
@@ -9,7 +9,7 @@ use crate::value::is_initial;
 use fond_ast::task::LiftedTask;
 use fond_state::state::State;
 use fond_text::fault::NoMemory;
-use fond_text::ground::{Atom, Atoms, Objects};
+use fond_text::atom::{Atom, Atoms, Objects};
 use std::alloc::Global;
 
 /// The number of the next atom, where the predicate is fluent.

@@ -8,7 +8,7 @@ use fond_ast::task::{LPredicate, LPredicates, LSchema, LSchemas, LiftedTask};
 use fond_state::state::State;
 use fond_task::truth::{applicable, is_goal};
 use fond_text::fault::NoMemory;
-use fond_text::ground::{Atom, Atoms, Objects};
+use fond_text::atom::{Atom, Atoms, Objects};
 use fond_text::name::Name;
 use std::alloc::Global;
 use std::test::Fail;

@@ -14,11 +14,12 @@ use Rattle.fond_ast.specs.Within.{is_atom_within}
 use Rattle.fond_ast.specs.declared.task.LPredicate.{LPredicate}
 use Rattle.fond_ast.specs.declared.task.LSchema.{LSchema}
 use Rattle.fond_ast.specs.declared.task.LiftedTask.{LiftedTask}
-use Rattle.fond_text.specs.declared.ground.Atom.{Atom}
+use Rattle.fond_text.specs.declared.atom.Atom.{Atom}
 use Rattle.fond_meaning.specs.States.{State, is_atom, atoms_of}
 use Rattle.fond_meaning.specs.Effects.{after}
 use Rattle.fond_meaning.specs.Choices.{choices}
-use Rattle.fond_meaning.specs.Successors.{initial, atom_of_number, is_same, is_same_state, successors}
+use Rattle.fond_meaning.specs.Successors.{initial, atom_of_number, is_same_state, successors}
+use Rattle.fond_text.specs.Bools.{is_same}
 use Rattle.fond_lifted.specs.declared.outcome.Literal.{Literal}
 use Rattle.fond_lifted.specs.Outcomes.{change_of}
 use Rattle.fond_lifted.specs.Lists.{Grew}

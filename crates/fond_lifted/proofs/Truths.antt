@@ -7,7 +7,7 @@ use Rattle.std.proofs.lemmas.List.{get_or-set_same, get_or-set_other, length-set
 use Rattle.std.proofs.lemmas.List.FromFn.{fill_by_all}
 use Rattle.std.proofs.lemmas.Bool.Decides.{nat_tests}
 use Rattle.fond_ast.specs.Within.{is_atom_within}
-use Rattle.fond_text.specs.declared.ground.Atom.{Atom}
+use Rattle.fond_text.specs.declared.atom.Atom.{Atom}
 use Rattle.fond_meaning.specs.States.{State, is_atom, atoms_of}
 use Rattle.fond_meaning.specs.Effects.{after}
 use Rattle.fond_meaning.specs.Successors.{atom_of_number}

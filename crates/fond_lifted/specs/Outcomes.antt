@@ -4,7 +4,8 @@ use Rattle.std.specs.List.{list_any, flat_map}
 use Rattle.fond_lifted.specs.declared.outcome.Literal.{Literal}
 use Rattle.fond_meaning.specs.States.{AtomSet, is_atom}
 use Rattle.fond_meaning.specs.Effects.{Change, both}
-use Rattle.fond_meaning.specs.Successors.{atom_of_number, is_same}
+use Rattle.fond_meaning.specs.Successors.{atom_of_number}
+use Rattle.fond_text.specs.Bools.{is_same}
 
 -- the atoms of the literals that have this sign
 abbrev pub atoms_with : Bool → List Literal → AtomSet

@@ -2,7 +2,6 @@
 
 ghost use Rattle.fond_lifted.specs.Outcomes.{change_of, pairs};
 ghost use Rattle.fond_meaning.specs.Choices.{choices};
-ghost use Rattle.fond_meaning.specs.Effects.{both};
 ghost use Rattle.std.specs.Prelude.{◌≡◌, List, [], ◌∷◌, ◌++◌, map, IfOk, OnOk};
 
 use fond_ast::form::{LAtom, LEffect};

@@ -6,7 +6,7 @@ use crate::succ::{is_applicable, put_successors};
 use fond_ast::form::{LAtom, LCond, LEffect};
 use fond_ast::task::{LPredicate, LPredicates, LSchema, LSchemas, LiftedTask};
 use fond_text::fault::NoMemory;
-use fond_text::ground::{Atom, Atoms, Objects};
+use fond_text::atom::{Atom, Atoms, Objects};
 use fond_text::name::Name;
 use std::alloc::Global;
 use std::test::Fail;

@@ -3,14 +3,15 @@ use Rattle.std.proofs.Common.{◌≡◌, ℕ, zero, suc, ◌+◌, ◌<◌, ◌�
 use Rattle.std.specs.Prelude.{◌==◌, if◌then◌else◌}
 use Rattle.std.specs.List.{list_all, list_any, fold, enumerate_from}
 use Rattle.std.proofs.lemmas.Bool.Decides.{nat_tests}
-use Rattle.fond_text.specs.declared.ground.Atom.{Atom}
+use Rattle.fond_text.specs.declared.atom.Atom.{Atom}
 use Rattle.fond_ast.specs.Within.{is_condition_within, is_effect_within, is_schema_within, is_atom_within}
 use Rattle.fond_ast.specs.declared.task.LPredicate.{LPredicate}
 use Rattle.fond_ast.specs.declared.task.LSchema.{LSchema}
 use Rattle.fond_meaning.specs.States.{State}
 use Rattle.fond_meaning.specs.Effects.{after}
 use Rattle.fond_meaning.specs.Choices.{choices}
-use Rattle.fond_meaning.specs.Successors.{initial, atom_of_number, is_same, is_same_state, successors}
+use Rattle.fond_meaning.specs.Successors.{initial, atom_of_number, is_same_state, successors}
+use Rattle.fond_text.specs.Bools.{is_same}
 use Rattle.fond_meaning.specs.Laws.{SuccessorsComeNext}
 use Rattle.fond_meaning.proofs.Given.{given, gives}
 use Rattle.fond_meaning.proofs.Members.{Member, Member-from_Contains, Contains-from_Member, Member-left, Member-right, Member-cases, Member-map, Member-from_map}

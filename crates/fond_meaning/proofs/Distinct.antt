@@ -6,7 +6,9 @@ use Rattle.fond_ast.specs.declared.task.LPredicate.{LPredicate}
 use Rattle.fond_meaning.specs.States.{State}
 use Rattle.fond_meaning.specs.Effects.{after}
 use Rattle.fond_meaning.specs.Choices.{choices}
-use Rattle.fond_meaning.specs.Successors.{atom_of_number, is_same, is_same_state, AreDistinct}
+use Rattle.fond_meaning.specs.Successors.{atom_of_number, is_same_state}
+use Rattle.fond_text.specs.Lists.{AreDistinct}
+use Rattle.fond_text.specs.Bools.{is_same}
 use Rattle.fond_meaning.specs.Laws.{SuccessorsAreDistinct}
 use Rattle.fond_meaning.proofs.Come.{put}
 use Rattle.fond_meaning.proofs.Members.{Member, Member-from_Contains, Contains-from_Member, Member-cases}

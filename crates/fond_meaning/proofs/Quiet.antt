@@ -4,7 +4,7 @@ use Rattle.std.specs.Prelude.{◌==◌}
 use Rattle.std.specs.Str.{bytes_eq}
 use Rattle.std.specs.List.{list_all}
 use Rattle.std.proofs.lemmas.Bool.Decides.{nat_tests}
-use Rattle.fond_text.specs.declared.ground.Atom.{Atom}
+use Rattle.fond_text.specs.declared.atom.Atom.{Atom}
 use Rattle.fond_ast.specs.Within.{is_effect_within, effect_within_step, is_atom_within}
 use Rattle.fond_ast.specs.declared.form.LAtom.{LAtom}
 use Rattle.fond_ast.specs.declared.form.LEffect.{LEffect, Nothing, Add, Delete, And', OneOf', Row_of-LEffect, end_of-LEffect, more_of-LEffect}

@@ -1,7 +1,7 @@
 -- Which conditions hold in a state.
 use Rattle.std.specs.Prelude.{◌||◌, Bool, true, not, []}
 use Rattle.std.specs.List.{list_all, list_any}
-use Rattle.fond_text.specs.declared.ground.Atom.{Atom}
+use Rattle.fond_text.specs.declared.atom.Atom.{Atom}
 use Rattle.fond_ast.specs.declared.form.LAtom.{LAtom}
 use Rattle.fond_ast.specs.declared.form.LCond.{LCond}
 use Rattle.fond_ast.specs.declared.form.LCond.TheOpen.{LCond-F, Truth, Holds, And, Or, Not, Imply}

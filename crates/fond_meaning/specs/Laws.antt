@@ -6,7 +6,8 @@ use Rattle.fond_ast.specs.declared.task.LiftedTask.{LiftedTask}
 use Rattle.fond_meaning.specs.States.{State}
 use Rattle.fond_meaning.specs.Effects.{Change, Gives, IsApplicable, IsNext}
 use Rattle.fond_meaning.specs.Choices.{choices}
-use Rattle.fond_meaning.specs.Successors.{initial, successors, AreDistinct}
+use Rattle.fond_meaning.specs.Successors.{initial, successors}
+use Rattle.fond_text.specs.Lists.{AreDistinct}
 
 -- the choices of an effect are the changes that it may give
 abbrev pub ChoicesAreGiven : Type 0

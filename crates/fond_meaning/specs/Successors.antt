@@ -1,7 +1,8 @@
 -- The successors of a state, in the order in which they are told.
 use Rattle.std.specs.Prelude.{ℕ, Bool, true, false, not, List, [], ◌∷◌, ◌++◌, map, fold, Contains, if◌then◌else◌}
 use Rattle.std.specs.List.{list_all, list_any, enumerate_from}
-use Rattle.fond_text.specs.declared.ground.Atom.{Atom}
+use Rattle.fond_text.specs.Bools.{is_same}
+use Rattle.fond_text.specs.declared.atom.Atom.{Atom}
 use Rattle.fond_ast.specs.declared.task.LPredicate.{LPredicate}
 use Rattle.fond_ast.specs.declared.task.LSchema.{LSchema}
 use Rattle.fond_ast.specs.declared.task.LiftedTask.{LiftedTask}
@@ -17,11 +18,6 @@ initial task = atoms_of task.init
 abbrev pub atom_of_number : ℕ → Atom
 atom_of_number number = record { predicate = number; objects = [] }
 
--- whether two truth values are the same
-abbrev pub is_same : Bool → Bool → Bool
-is_same true other = other
-is_same false other = not other
-
 -- whether two states say the same of each predicate
 abbrev pub is_same_state : List LPredicate → State → State → Bool
 is_same_state predicates state other = list_all (λ item. is_same (state (atom_of_number item.0)) (other (atom_of_number item.0))) (enumerate_from 0 predicates)
@@ -33,8 +29,3 @@ once predicates states = fold (λ before state. if list_any (is_same_state predi
 -- the states after the choices of a schema's effect, each once, in the order of the first choice that gives it
 abbrev pub successors : LiftedTask → LSchema → State → List State
 successors task schema state = once task.predicates (map (λ change. after state change) (choices schema.effect))
-
--- no state stands twice in a list
-abbrev pub AreDistinct : List State → Type 0
-AreDistinct [] = Unit {0}
-AreDistinct (state ∷ states) = (Contains states state → ⊥) × AreDistinct states

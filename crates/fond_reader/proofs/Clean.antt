@@ -12,7 +12,7 @@ use Rattle.fond_reader.specs.Forms.{is_word}
 use Rattle.fond_reader.specs.Words.{is_name, is_variable, is_one_of, place_of, leaf_of, leaf_step, members_of, members_step}
 use Rattle.fond_reader.specs.Roles.{Expected, Members, node_expected, leaf_code, is_unbuilt, has_term, is_leaf_of, is_term, atom, word, action_keys, is_headed_by}
 use Rattle.fond_reader.specs.Parts.{Part, part, parts, part_at, expected_parts}
-use Rattle.fond_reader.specs.Least.{IsClean}
+use Rattle.fond_text.specs.Faults.{IsClean}
 use Rattle.fond_reader.specs.Faults.{node_code, tree_code, IsOwnFault, IsRepeated, IsIncomplete, Stands}
 use Rattle.fond_reader.specs.Files.{is_name_leaf}
 

@@ -14,7 +14,7 @@ use Rattle.fond_reader.specs.declared.role.Rest.TheVariants.{NoMore, Each, Typed
 use Rattle.fond_reader.specs.Words.{is_name, is_variable, is_one_of, place_of, leaf_of, members_of, front, head_of}
 use Rattle.fond_reader.specs.Roles.{shape, Expected, Members, Refused, node_expected, domain_section, problem_section, word, is_leaf_of, names_with, is_unbuilt, is_headed_by, has_more, passed_over}
 use Rattle.fond_reader.specs.Parts.{part}
-use Rattle.fond_reader.specs.Least.{IsClean}
+use Rattle.fond_text.specs.Faults.{IsClean}
 use Rattle.fond_reader.specs.Faults.{StandsInDomain, StandsInProblem, single_in_domain, single_in_problem, Repeats, Lacks}
 use Rattle.fond_reader.specs.Forms.{is_word, is_only}
 use Rattle.fond_reader.specs.Files.{is_name_leaf, are_header, IsFile, has_head, headed, content, contents, AreSingle, is_domain_section, is_problem_section}

@@ -1,9 +1,9 @@
 -- The first of faults of two kinds, and the first so far in a loop over what may have faults.
 use Rattle.std.proofs.Common.{◌⊎◌, inl, inr, ℕ, Option, Some, None, IfSome, IfNone, sym, subst}
 use Rattle.fond_text.specs.declared.place.Place.{Place}
-use Rattle.fond_reader.specs.declared.fault.Found.{Found}
-use Rattle.fond_reader.specs.Least.{IsLeast, IsClean}
-use Rattle.fond_reader.specs.Firsts.{Covers, IsFirst, IsEarlier}
+use Rattle.fond_text.specs.declared.first.Found.{Found}
+use Rattle.fond_text.specs.Faults.{IsLeast, IsClean}
+use Rattle.fond_text.specs.Firsts.{Covers, IsFirst, IsEarlier}
 
 -- faults by place and code
 abbrev pub Faulty : Type 1

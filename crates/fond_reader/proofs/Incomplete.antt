@@ -6,9 +6,9 @@ use Rattle.fond_text.specs.declared.place.Place.{Place}
 use Rattle.fond_tree.specs.declared.tree.Tree.{Tree}
 use Rattle.fond_reader.specs.Words.{place_of, members_of}
 use Rattle.fond_reader.specs.declared.role.Role.TheVariants.{ProblemFile}
-use Rattle.fond_reader.specs.declared.fault.Found.{Found}
+use Rattle.fond_text.specs.declared.first.Found.{Found}
 use Rattle.fond_reader.specs.Faults.{Lacks, IsIncomplete, behind_header}
-use Rattle.fond_reader.specs.Firsts.{IsFirst}
+use Rattle.fond_text.specs.Firsts.{IsFirst}
 use Rattle.fond_reader.proofs.Earliest.{first_along}
 
 abbrev LacksSome : List Tree → Type 0

@@ -13,7 +13,7 @@ use Rattle.fond_reader.specs.Forms.{are_read, is_condition, is_initial}
 use Rattle.fond_reader.specs.Files.{is_name_leaf, headed, content, contents, is_declared, values, IsPrecondition, IsWholeEffect, IsSchemaOf, AreSchemasOf, IsDomainOf, IsProblemOf}
 use Rattle.fond_reader.specs.CleanFiles.{is_none_or_one, fits_pairs, action_behind, fits_action, sections_of, IsCleanDomain, IsCleanProblem}
 use Rattle.fond_reader.specs.CleanForms.{fits_atom, fits_condition, fits_whole_effect, fits_initial}
-use Rattle.fond_reader.specs.Least.{IsClean}
+use Rattle.fond_text.specs.Faults.{IsClean}
 use Rattle.fond_reader.proofs.Clean.{true_is_false}
 use Rattle.fond_reader.proofs.CleanFiles.{clean_domain, clean_problem}
 use Rattle.fond_reader.proofs.LawBuilt.{predicate_built, condition_built}

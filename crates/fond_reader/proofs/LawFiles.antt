@@ -17,7 +17,7 @@ use Rattle.fond_reader.specs.declared.role.Role.TheVariants as role
 use Rattle.fond_reader.specs.declared.role.Rest.TheVariants.{NoMore, Each as EachOf, Typed}
 use Rattle.fond_reader.specs.Words.{is_name, is_one_of, leaf_of, members_of, front, head_of}
 use Rattle.fond_reader.specs.Roles.{shape, Members, none, atom, form_of, condition, effect, initial, section, domain_section, problem_section, word, has_term, has_parameter, has_more, is_headed_by, action_keys, is_unbuilt_form, condition_operator, effect_operator, initial_operator}
-use Rattle.fond_reader.specs.Least.{IsClean}
+use Rattle.fond_text.specs.Faults.{IsClean}
 use Rattle.fond_reader.specs.Faults.{IsIncomplete, Repeats, Lacks, behind_header, single_in_domain, single_in_problem, StandsInDomain, StandsInProblem}
 use Rattle.fond_reader.specs.Forms.{is_word, is_only, is_named, are_read, is_condition, is_initial}
 use Rattle.fond_reader.specs.Files.{is_name_leaf, IsFile, has_head, headed, content, contents, AreSingle, is_domain_section, is_problem_section, is_declared, IsSchemaOf, AreSchemasOf, IsDomainOf, IsProblemOf}

@@ -3,7 +3,7 @@ use Rattle.std.proofs.Common.{◌≡◌, ℕ, List, [], ◌∷◌, ◌++◌, Opt
 use Rattle.fond_text.specs.declared.place.Place.{Place}
 use Rattle.fond_tree.specs.declared.tree.Tree.{Tree}
 use Rattle.fond_tree.specs.declared.tree.Tree.TheVariants as made
-use Rattle.fond_reader.specs.declared.fault.Found.{Found}
+use Rattle.fond_text.specs.declared.first.Found.{Found}
 use Rattle.fond_reader.specs.declared.role.Role.{Role}
 use Rattle.fond_reader.specs.Words.{members_of, members_step}
 use Rattle.fond_reader.specs.Roles.{node_expected}
@@ -13,8 +13,8 @@ use Rattle.fond_reader.specs.declared.walk.Walk.{Walk}
 use Rattle.fond_reader.specs.declared.walk.Left.{Left}
 use Rattle.fond_reader.specs.declared.walk.Left.TheVariants.{Unread, Each, Typed, TypeNext, Key, Value}
 use Rattle.fond_reader.specs.Faults.{Stands, IsOwnFault}
-use Rattle.fond_reader.specs.Least.{IsLeast, IsClean}
-use Rattle.fond_reader.specs.Firsts.{IsFirst, IsEarlier}
+use Rattle.fond_text.specs.Faults.{IsLeast, IsClean}
+use Rattle.fond_text.specs.Firsts.{IsFirst, IsEarlier}
 use Rattle.fond_reader.proofs.Among.{Among, stands_down, stands_up}
 use Rattle.fond_reader.proofs.Earliest.{IsFirstSoFar, first_if_least, first_so_far, first_with, all_found}
 

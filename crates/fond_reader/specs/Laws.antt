@@ -5,7 +5,7 @@ use Rattle.fond_ast.specs.declared.files.Problem.{Problem}
 use Rattle.fond_tree.specs.declared.tree.Tree.{Tree}
 use Rattle.fond_reader.specs.Faults.{StandsInDomain, StandsInProblem}
 use Rattle.fond_reader.specs.Files.{IsDomainOf, IsProblemOf}
-use Rattle.fond_reader.specs.Least.{IsClean}
+use Rattle.fond_text.specs.Faults.{IsClean}
 
 -- no fault stands in a tree as a domain exactly where some domain is read from it
 abbrev pub CleanDomainsAreRead : Type 0

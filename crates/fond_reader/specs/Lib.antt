@@ -1,13 +1,11 @@
 pub mod Words
 pub mod Roles
 pub mod Parts
-pub mod Least
 pub mod Faults
 pub mod Forms
 pub mod Files
 pub mod Sides
 pub mod Laws
-pub mod Firsts
 pub mod Walks
 pub mod CleanForms
 pub mod CleanFiles

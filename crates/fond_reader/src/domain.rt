@@ -3,7 +3,7 @@
 ghost use Rattle.fond_reader.specs.CleanFiles.{sections_of as sections_of_file, IsCleanDomain, fits_action};
 ghost use Rattle.fond_reader.specs.Faults.{StandsInDomain};
 ghost use Rattle.fond_reader.specs.Files.{IsDomainOf, AreSchemasOf, headed};
-ghost use Rattle.fond_reader.specs.Least.{IsClean, IsLeastFault};
+ghost use Rattle.fond_text.specs.Faults.{IsClean, IsLeastIn, Refuses};
 ghost use Rattle.fond_text.specs.declared.place.FileKind.TheVariants.{Domain as DomainKind};
 ghost use Rattle.std.specs.List.{list_all};
 ghost use Rattle.std.specs.Prelude.{◌≡◌, true, codes, IfOk, IfErr, OnOk};
@@ -57,7 +57,7 @@ fn domain_of(alloc: Global, tree: &Tree) -> Result<Domain, NoMemory>
 pub fn read_domain(alloc: Global, t: &Tree) -> Result<Domain, FrontError>
     ensures read { IfOk result (IsDomainOf t.now) }
     ensures clean { OnOk result (IsClean (StandsInDomain t.now)) }
-    ensures refused { IfErr result (IsLeastFault DomainKind (StandsInDomain t.now)) }
+    ensures refused { IfErr result (Refuses (IsLeastIn DomainKind (StandsInDomain t.now))) }
 {
     if let Some(found) = first_fault(Role::DomainFile, t) {
         return Err(FrontError::Refused(Fault {

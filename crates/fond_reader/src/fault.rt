@@ -2,29 +2,21 @@
 //! one; a fault is looked for in each part of the tree, and the earliest one is kept.
 
 ghost use Rattle.fond_reader.specs.Faults.{Stands, Misfits, IsUnbuilt, IsOwnFault, node_code as node_code_of, tree_code as tree_code_of};
-ghost use Rattle.fond_reader.specs.Firsts.{IsFirst};
-ghost use Rattle.fond_reader.specs.Least.{IsLeast, IsClean};
+ghost use Rattle.fond_text.specs.Firsts.{IsFirst};
+ghost use Rattle.fond_text.specs.Faults.{IsLeast, IsClean};
 ghost use Rattle.fond_reader.specs.Parts.{part};
 ghost use Rattle.fond_reader.specs.Walks.{seen};
 ghost use Rattle.fond_reader.specs.Words.{leaf_of as leaf_of_tree, members_of as members_of_tree};
 ghost use Rattle.std.specs.Prelude.{◌≡◌, option_map, IfSome, IfNone};
 
-use crate::earlier::{earlier, found_at, found_if};
 use crate::expected::{Expected, expected_of, is_counted};
 use crate::leaves::{leaf_code, place_of};
 use crate::repeats::{incomplete, repeated};
 use crate::role::Role;
 use crate::unbuilt::is_unbuilt;
 use crate::walk::Walk;
-use fond_text::place::Place;
+use fond_text::first::{Found, earlier, found_at, found_if};
 use fond_tree::tree::Tree;
-
-/// A fault of a tree: its place, and its code, the number behind the F in docs/FAULTS.md.
-#[derive(Clone, Copy, Debug, PartialEq, Eq)]
-pub struct Found {
-    pub place: Place,
-    pub code: u8,
-}
 
 /// The code with which a node of these members is refused, if it is.
 fn node_code(expected: Option<Expected>, members: &[Tree]) -> Option<u8>

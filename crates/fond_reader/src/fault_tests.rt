@@ -1,4 +1,5 @@
-use crate::fault::{Found, first_fault};
+use crate::fault::first_fault;
+use fond_text::first::Found;
 use crate::role::Role;
 use fond_text::fault::FrontError;
 use fond_text::place::{FileKind, Place};

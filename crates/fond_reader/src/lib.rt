@@ -7,7 +7,6 @@ mod action;
 mod atom;
 mod condition;
 pub mod domain;
-mod earlier;
 mod effect;
 mod expected;
 pub mod fault;

@@ -5,7 +5,7 @@ ghost use Rattle.fond_reader.specs.CleanForms.{fits_condition};
 ghost use Rattle.fond_reader.specs.Faults.{StandsInProblem};
 ghost use Rattle.fond_reader.specs.Files.{IsProblemOf};
 ghost use Rattle.fond_reader.specs.Forms.{is_condition, are_read, is_only};
-ghost use Rattle.fond_reader.specs.Least.{IsClean, IsLeastFault};
+ghost use Rattle.fond_text.specs.Faults.{IsClean, IsLeastIn, Refuses};
 ghost use Rattle.fond_text.specs.declared.place.FileKind.TheVariants.{Problem as ProblemKind};
 ghost use Rattle.std.specs.Prelude.{◌≡◌, ◌∷◌, [], Some, true, IfOk, IfErr, OnOk};
 
@@ -55,7 +55,7 @@ fn problem_of(alloc: Global, tree: &Tree) -> Result<Problem, NoMemory>
 pub fn read_problem(alloc: Global, t: &Tree) -> Result<Problem, FrontError>
     ensures read { IfOk result (IsProblemOf t.now) }
     ensures clean { OnOk result (IsClean (StandsInProblem t.now)) }
-    ensures refused { IfErr result (IsLeastFault ProblemKind (StandsInProblem t.now)) }
+    ensures refused { IfErr result (Refuses (IsLeastIn ProblemKind (StandsInProblem t.now))) }
 {
     if let Some(found) = first_fault(Role::ProblemFile, t) {
         return Err(FrontError::Refused(Fault {

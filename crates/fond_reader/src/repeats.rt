@@ -1,7 +1,7 @@
 //! Sections and keys that stand a second time, and sections that a problem lacks.
 
 ghost use Rattle.fond_reader.specs.Faults.{Repeats, IsRepeated, Lacks, IsIncomplete, single_in_domain, single_in_problem, behind_header as behind_header_of, keys};
-ghost use Rattle.fond_reader.specs.Firsts.{IsFirst};
+ghost use Rattle.fond_text.specs.Firsts.{IsFirst};
 ghost use Rattle.fond_reader.specs.Forms.{is_word as is_word_leaf};
 ghost use Rattle.fond_reader.specs.Roles.{action_keys};
 ghost use Rattle.fond_reader.specs.Words.{place_of as place_of_tree, leaf_of as leaf_of_tree, head_of as head_of_tree};
@@ -9,11 +9,10 @@ ghost use Rattle.std.specs.Bool.{Decides};
 ghost use Rattle.std.specs.List.{list_any};
 ghost use Rattle.std.specs.Prelude.{◌≡◌, ◌⊎◌, ◌∷◌, [], true, codes, drop};
 
-use crate::earlier::{earlier, found_if};
-use crate::fault::Found;
 use crate::leaves::{members_of, place_of};
 use crate::role::Role;
 use crate::section::{begins, is_leaf};
+use fond_text::first::{Found, earlier, found_if};
 use fond_tree::tree::Tree;
 
 /// A tree that stands again: one of its head was seen before it.

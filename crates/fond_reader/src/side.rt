@@ -1,15 +1,12 @@
 //! Reading a side list.
 
-ghost use Rattle.fond_ast.specs.declared.names.Kind.{Kind as AKind};
 ghost use Rattle.fond_reader.specs.Sides.{mark_of, is_parenthesis, is_stray, IsFirstOf, IsSideOf, IsSideError};
-ghost use Rattle.fond_text.specs.Bytes.{lower};
-ghost use Rattle.fond_text.specs.Name.{IsLeaf};
 ghost use Rattle.fond_text.specs.declared.fault.FrontError.TheVariants.{Refused};
 ghost use Rattle.fond_text.specs.declared.place.FileKind.TheVariants.{Side as SideKind};
 ghost use Rattle.fond_tree.specs.Marks.{marks};
 ghost use Rattle.fond_tree.specs.Spelling.{longest_text};
 ghost use Rattle.std.specs.List.{list_any};
-ghost use Rattle.std.specs.Prelude.{◌≡◌, ◌≤◌, false, length, map, IfOk, IfErr, IfSome, IfNone, OnOk, OnErr, ◌++◌, ◌∷◌, []};
+ghost use Rattle.std.specs.Prelude.{◌≡◌, ◌≤◌, false, length, map, IfOk, IfErr, IfSome, IfNone};
 
 use fond_ast::files::Side;
 use fond_ast::names::{Kind, Kinds};

@@ -12,7 +12,8 @@ use Rattle.fond_task.specs.declared.form.Kleene.{Kleene}
 use Rattle.fond_task.specs.declared.form.Kleene.TheVariants.{No, Yes}
 use Rattle.fond_task.specs.declared.task.Entry.{Entry}
 use Rattle.fond_task.specs.Within.{is_form_within, is_entry_within, within_step}
-use Rattle.fond_task.specs.Truth.{is_same, is_true, is_true_step}
+use Rattle.fond_task.specs.Truth.{is_true, is_true_step}
+use Rattle.fond_text.specs.Bools.{is_same}
 use Rattle.fond_task.specs.Steps.{adds, deletes, next_state}
 use Rattle.fond_task.specs.Values.{lesser, greater, literal_value, value, value_step}
 use Rattle.fond_task.specs.Images.{added_value, deleted_value, behind_deletes, behind_adds, image}

@@ -13,7 +13,8 @@ use Rattle.fond_task.specs.declared.form.Form.TheFolds.{fold-roll-Form}
 use Rattle.fond_task.specs.declared.form.Kleene.{Kleene}
 use Rattle.fond_task.specs.declared.form.Kleene.TheVariants.{No, Yes}
 use Rattle.fond_task.specs.Within.{is_form_within, within_step}
-use Rattle.fond_task.specs.Truth.{is_same, is_true, is_true_step}
+use Rattle.fond_task.specs.Truth.{is_true, is_true_step}
+use Rattle.fond_text.specs.Bools.{is_same}
 use Rattle.fond_task.specs.Values.{least, greatest, literal_value, value, value_step}
 
 pub value-Truth : (cube : List (Option Bool)) (b : Bool) → value cube (Truth b) ≡ (if b then Yes else No)

@@ -4,7 +4,7 @@ use Rattle.std.specs.Prelude.{codes, if◌then◌else◌}
 use Rattle.std.specs.List.{flat_map, enumerate_from}
 use Rattle.std.proofs.lemmas.List.{append_assoc}
 use Rattle.fond_state.specs.Cubes.{truth_at}
-use Rattle.fond_text.specs.declared.ground.Atom.{Atom}
+use Rattle.fond_text.specs.declared.atom.Atom.{Atom}
 use Rattle.fond_task.specs.declared.task.Labels.{Labels}
 use Rattle.fond_task.specs.Texts.{atom_text}
 use Rattle.fond_task.proofs.Found.{drop_at}

@@ -4,7 +4,8 @@ use Rattle.std.specs.Prelude.{◌==◌, ◌&&◌, ◌||◌, if◌then◌else◌}
 use Rattle.std.proofs.lemmas.List.{ext_get_or}
 use Rattle.fond_state.specs.Cubes.{truth_at}
 use Rattle.fond_task.specs.declared.task.Entry.{Entry}
-use Rattle.fond_task.specs.Truth.{is_same, is_true}
+use Rattle.fond_task.specs.Truth.{is_true}
+use Rattle.fond_text.specs.Bools.{is_same}
 use Rattle.fond_task.specs.Steps.{adds, deletes, next_state}
 use Rattle.fond_task.proofs.Found.{drop_at}
 use Rattle.fond_task.proofs.Indices.{length-by_index, get_or-by_index}

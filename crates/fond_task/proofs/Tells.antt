@@ -9,7 +9,8 @@ use Rattle.fond_task.specs.declared.form.Form.TheOpen.{Form-F, Truth, Lit, And, 
 use Rattle.fond_task.specs.declared.form.Form.TheFolds.{fold-roll-Form, ind-Form, map-Form}
 use Rattle.fond_task.specs.declared.form.Kleene.{Kleene}
 use Rattle.fond_task.specs.declared.form.Kleene.TheVariants.{No, Unknown, Yes}
-use Rattle.fond_task.specs.Truth.{is_same, is_true, is_true_step}
+use Rattle.fond_task.specs.Truth.{is_true, is_true_step}
+use Rattle.fond_text.specs.Bools.{is_same}
 use Rattle.fond_task.specs.Values.{lesser, greater, literal_value, value, value_step}
 
 -- Yes tells that it is true, No that it is false

@@ -2,8 +2,8 @@
 use Rattle.std.specs.Prelude.{ℕ, List, [], ◌++◌, Bool, codes, slice_index_or, if◌then◌else◌}
 use Rattle.std.specs.List.{flat_map, enumerate_from}
 use Rattle.fond_state.specs.Cubes.{truth_at}
-use Rattle.fond_text.specs.declared.ground.Atom.{Atom}
-use Rattle.fond_text.specs.declared.ground.GroundAction.{GroundAction}
+use Rattle.fond_text.specs.declared.atom.Atom.{Atom}
+use Rattle.fond_text.specs.declared.atom.GroundAction.{GroundAction}
 use Rattle.fond_task.specs.declared.task.Labels.{Labels}
 use Rattle.fond_task.specs.declared.task.Task.{Task}
 

@@ -1,15 +1,11 @@
 -- The truth of ground forms in a state.
 use Rattle.std.specs.Prelude.{List, Bool, true, false, not}
 use Rattle.std.specs.List.{list_all, list_any}
+use Rattle.fond_text.specs.Bools.{is_same}
 use Rattle.fond_state.specs.Cubes.{truth_at}
 use Rattle.fond_task.specs.declared.form.Form.{Form}
 use Rattle.fond_task.specs.declared.form.Form.TheOpen.{Form-F, Truth, Lit, And, Or}
 use Rattle.fond_task.specs.declared.form.Form.TheFolds.{fold-Form}
-
--- whether two truth values are the same
-abbrev pub is_same : Bool → Bool → Bool
-is_same true other = other
-is_same false other = not other
 
 abbrev pub is_true_step : List Bool → Form-F Bool → Bool
 is_true_step state (Truth value) = value

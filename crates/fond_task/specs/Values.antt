@@ -6,7 +6,7 @@ use Rattle.fond_task.specs.declared.form.Form.TheOpen.{Form-F, Truth, Lit, And, 
 use Rattle.fond_task.specs.declared.form.Form.TheFolds.{fold-Form}
 use Rattle.fond_task.specs.declared.form.Kleene.{Kleene}
 use Rattle.fond_task.specs.declared.form.Kleene.TheVariants.{No, Unknown, Yes}
-use Rattle.fond_task.specs.Truth.{is_same}
+use Rattle.fond_text.specs.Bools.{is_same}
 
 -- the lesser of two values, where No is below Unknown and Unknown below Yes
 abbrev pub lesser : Kleene → Kleene → Kleene

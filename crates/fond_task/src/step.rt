@@ -1,7 +1,8 @@
 //! The next state.
 
 ghost use Rattle.fond_task.specs.Within.{is_entry_within};
-ghost use Rattle.fond_task.specs.Truth.{is_same, is_true};
+ghost use Rattle.fond_task.specs.Truth.{is_true};
+ghost use Rattle.fond_text.specs.Bools.{is_same};
 ghost use Rattle.fond_task.specs.Steps.{adds, deletes, next_state};
 ghost use Rattle.fond_task.specs.declared.task.Act.{Act};
 ghost use Rattle.fond_task.specs.declared.task.Entry.{Entry};

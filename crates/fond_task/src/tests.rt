@@ -6,7 +6,7 @@ use crate::text::{put_action, put_atom, put_state};
 use crate::truth::{applicable, evaluate, is_goal};
 use fond_state::state::State;
 use fond_text::fault::NoMemory;
-use fond_text::ground::{Atom, Atoms, GroundAction, Objects};
+use fond_text::atom::{Atom, Atoms, GroundAction, Objects};
 use fond_text::name::{Name, Names};
 use std::alloc::Global;
 use std::test::Fail;

@@ -8,7 +8,7 @@ ghost use Rattle.std.specs.Prelude.{◌≡◌, [], ◌++◌, ℕ, List, codes, i
 use crate::task::{Labels, Task};
 use fond_state::state::State;
 use fond_text::fault::NoMemory;
-use fond_text::ground::{Atom, GroundAction, Objects};
+use fond_text::atom::{Atom, GroundAction, Objects};
 use fond_text::name::Names;
 
 /// Appends the name of a number. A number without a name adds nothing.
@@ -27,9 +27,9 @@ fn put_objects(names: &Names, objects: &Objects, out: &mut Vec<u8>) -> Result<()
     ensures ok { OnOk result (out.new.items ≡ out.old.items ++ flat_map (λ object. codes " " ++ name_at names.now object) objects.now) }
     ensures grew { (more : List ℕ) × (out.new.items ≡ out.old.items ++ more) }
 {
-    for i in 0..objects.len() {
+    for object in objects.as_slice() {
         out.extend_from_slice(b" ")?;
-        put_name(names, *objects.get(i), out)?;
+        put_name(names, *object, out)?;
     }
     Ok(())
 }

@@ -8,7 +8,7 @@ ghost use Rattle.std.specs.Prelude.{◌≡◌, ◌==◌, ◌&&◌, ◌^◌, nat_
 use crate::form::Form;
 use crate::task::{Act, Acts, Entry, Labels, Outcome, Outcomes, Task};
 use fond_state::state::State;
-use fond_text::ground::Atoms;
+use fond_text::atom::Atoms;
 
 /// Whether each literal of the form is over one of this many atoms.
 fn is_form_over(form: &Form, atoms: usize) -> bool

@@ -3,9 +3,12 @@
 //! left to the crates above.
 #![tactic(auto)]
 
+pub mod atom;
 pub mod bytes;
+pub mod code;
 pub mod fault;
-pub mod ground;
+pub mod first;
+pub mod list;
 pub mod name;
 pub mod number;
 pub mod place;

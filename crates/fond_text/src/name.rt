@@ -1,10 +1,11 @@
 //! Leaves of a text, lowered.
 
-ghost use Rattle.std.specs.Prelude.{◌≡◌, ◌<◌, ℕ, List, [], ◌∷◌, ◌++◌, length, map, slice_get, Some, IfOk, OnOk, OnErr};
+ghost use Rattle.std.specs.Prelude.{◌≡◌, ℕ, List, map, IfOk};
 ghost use Rattle.fond_text.specs.Bytes.{lower};
 ghost use Rattle.fond_text.specs.Name.{IsLeaf, IsName};
 
 use crate::fault::NoMemory;
+use crate::list::List;
 use std::alloc::Global;
 use std::marker::Model;
 
@@ -59,50 +60,4 @@ impl Name {
 }
 
 /// Names, in order.
-#[derive(Drop)]
-pub struct Names {
-    items: Vec<Name>,
-}
-
-impl Model for Names {
-    ghost use Rattle.std.specs.Prelude.{List, ℕ};
-
-    ghost Value = { List (List ℕ) };
-
-    ghost view = { λ l. l.items.items };
-}
-
-impl Names {
-    /// None yet. Takes no memory.
-    pub fn new(alloc: Global) -> Names
-        ensures { result ≡ [] }
-    {
-        Names {
-            items: Vec::new(alloc),
-        }
-    }
-
-    /// Puts one at the end.
-    pub fn push(&mut self, x: Name) -> Result<(), NoMemory>
-        ensures ok { OnOk result (self.new ≡ self.old ++ x ∷ []) }
-        ensures err { OnErr result (self.new ≡ self.old) }
-    {
-        self.items.push(x)?;
-        Ok(())
-    }
-
-    /// How many there are.
-    pub fn len(&self) -> usize
-        ensures { result ≡ length self.now }
-    {
-        self.items.len()
-    }
-
-    /// The name at this index.
-    pub fn get(&self, i: usize) -> &Name
-        requires { i < length self.now }
-        ensures { slice_get self.now i ≡ Some result.now }
-    {
-        &self.items[i]
-    }
-}
+pub type Names = List<Name>;

@@ -1,5 +1,5 @@
+use crate::atom::{Atom, Atoms, Objects};
 use crate::bytes::{Bytes, is_blank};
-use crate::ground::{Atom, Atoms, Objects};
 use crate::name::{Name, Names};
 use crate::number::{Digits, put_number, read_number};
 use crate::word::Word;

@@ -7,7 +7,7 @@ use Rattle.fond_ast.specs.declared.names.Kind.{Kind}
 use Rattle.fond_ast.specs.declared.files.Side.{Side}
 use Rattle.fond_tree.specs.Marks.{Mark, marks}
 use Rattle.fond_tree.specs.Tokens.{Token}
-use Rattle.fond_reader.specs.Least.{IsClean, IsNoLater}
+use Rattle.fond_text.specs.Faults.{IsClean, IsNoLater}
 use Rattle.fond_reader.specs.Sides.{mark_of, is_stray, IsFirstOf, IsSideOf, IsSideFault, IsSideTextFault, IsSideTreeFault}
 
 true_any : (b : Bool) → (b || true) ≡ true

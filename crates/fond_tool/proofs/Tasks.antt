@@ -14,7 +14,7 @@ use Rattle.fond_tree.specs.Refusal.{IsRefusal}
 use Rattle.fond_tree.specs.Spelling.{IsReadAs}
 use Rattle.fond_tree.specs.declared.tree.Tree.{Tree}
 use Rattle.fond_reader.specs.Faults.{StandsInDomain, StandsInProblem}
-use Rattle.fond_reader.specs.Least.{file_number, NoneStands, IsClean, IsLeastFault, IsNoLater, IsFirstAmong}
+use Rattle.fond_text.specs.Faults.{file_number, AreClean, IsClean, IsLeastIn, Refuses, IsNoLater, IsFirstAmong}
 use Rattle.fond_types.specs.Faults.{Declarations, StandsInNames, IsNamesError}
 use Rattle.fond_types.specs.Resolves.{IsResolved}
 use Rattle.fond_tool.specs.declared.parse.Parsed.{Parsed}
@@ -73,7 +73,7 @@ module _ (texts : Texts) where
 
 -- where trees and leaves were read, the first fault of form
 module _ (texts : Texts) (parsed : Parsed) where
-  pub domain_form : (error : FrontError) → IsLeastFault Domain (StandsInDomain parsed.domain) error → IsPhaseError (StandsInTrees texts (trees_of parsed)) error
+  pub domain_form : (error : FrontError) → Refuses (IsLeastIn Domain (StandsInDomain parsed.domain)) error → IsPhaseError (StandsInTrees texts (trees_of parsed)) error
   domain_form (Refused fault) h = first_of (StandsInTrees texts (trees_of parsed)) fault Domain h.0 h.1.0 first
     where
       first : (file : FileKind) (place : Place) (code : ℕ) → StandsInTrees texts (trees_of parsed) file place code → (file_number Domain < file_number file) ⊎ ((file ≡ Domain) × IsNoLater fault.place fault.code place code)
@@ -83,7 +83,7 @@ module _ (texts : Texts) (parsed : Parsed) where
   domain_form NoMemory h = tt
 
   module _ (domain : IsClean (StandsInDomain parsed.domain)) where
-    pub problem_form : (error : FrontError) → IsLeastFault Problem (StandsInProblem parsed.problem) error → IsPhaseError (StandsInTrees texts (trees_of parsed)) error
+    pub problem_form : (error : FrontError) → Refuses (IsLeastIn Problem (StandsInProblem parsed.problem)) error → IsPhaseError (StandsInTrees texts (trees_of parsed)) error
     problem_form (Refused fault) h = first_of (StandsInTrees texts (trees_of parsed)) fault Problem h.0 h.1.0 first
       where
         first : (file : FileKind) (place : Place) (code : ℕ) → StandsInTrees texts (trees_of parsed) file place code → (file_number Problem < file_number file) ⊎ ((file ≡ Problem) × IsNoLater fault.place fault.code place code)
@@ -116,6 +116,6 @@ module _ (texts : Texts) where
   names_error files are NoMemory h = tt
 
   -- a task of declarations in which no fault stands
-  pub task_read : (files : Declarations) → AreFilesOf texts files → (result : Result LiftedTask FrontError) → OnOk result (NoneStands (StandsInNames files)) → IfOk result (IsResolved files) → IfOk result (IsTaskOf texts)
+  pub task_read : (files : Declarations) → AreFilesOf texts files → (result : Result LiftedTask FrontError) → OnOk result (AreClean (StandsInNames files)) → IfOk result (IsResolved files) → IfOk result (IsTaskOf texts)
   task_read files are (Ok task) clean resolved = record { files = files; read = are; clean = clean; resolved = resolved }
   task_read files are (Err error) clean resolved = tt

@@ -7,7 +7,7 @@ use Rattle.fond_text.specs.declared.place.FileKind.{FileKind}
 use Rattle.fond_text.specs.declared.place.FileKind.TheVariants.{Side as SideKind}
 use Rattle.fond_text.specs.declared.place.Place.{Place}
 use Rattle.fond_ast.specs.declared.files.Side.{Side}
-use Rattle.fond_reader.specs.Least.{IsFirstAmong}
+use Rattle.fond_text.specs.Faults.{IsFirstAmong}
 use Rattle.fond_reader.specs.Sides.{IsSideOf, IsSideTextFault, IsSideTreeFault}
 use Rattle.fond_types.specs.Faults.{Declarations}
 use Rattle.fond_tool.specs.declared.declare.Files.{Files}

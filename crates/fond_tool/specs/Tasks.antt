@@ -13,7 +13,7 @@ use Rattle.fond_tree.specs.Faults.{IsTextFault}
 use Rattle.fond_tree.specs.Spelling.{IsReadAs}
 use Rattle.fond_reader.specs.Faults.{StandsInDomain, StandsInProblem}
 use Rattle.fond_reader.specs.Files.{IsDomainOf, IsProblemOf}
-use Rattle.fond_reader.specs.Least.{IsClean, NoneStands, IsFirstAmong}
+use Rattle.fond_text.specs.Faults.{IsClean, AreClean, IsFirstAmong}
 use Rattle.fond_reader.specs.Sides.{IsSideOf, IsSideTextFault, IsSideTreeFault}
 use Rattle.fond_types.specs.Faults.{Declarations, StandsInNames}
 use Rattle.fond_types.specs.Resolves.{IsResolved}
@@ -59,7 +59,7 @@ pub record AreFilesOf (texts : Texts) (files : Declarations) : Type 0 where
 pub record IsTaskOf (texts : Texts) (task : LiftedTask) : Type 0 where
   pub files : Declarations
   pub read : AreFilesOf texts files
-  pub clean : NoneStands (StandsInNames files)
+  pub clean : AreClean (StandsInNames files)
   pub resolved : IsResolved files task
 
 -- the first fault of three files: of their texts, else of their forms, else of their names; and among those of one

@@ -6,7 +6,7 @@ ghost use Rattle.fond_ast.specs.declared.task.LSchema.{LSchema};
 ghost use Rattle.fond_tree.specs.Spelling.{IsReadAs};
 ghost use Rattle.std.specs.List.{list_all};
 ghost use Rattle.std.specs.Option.{option_copied};
-ghost use Rattle.std.specs.Prelude.{◌≡◌, ℕ, List, true, is_some, Some, slice_get, IfOk, IfSome, IfNone, MatchOption};
+ghost use Rattle.std.specs.Prelude.{◌≡◌, ℕ, true, is_some, Some, slice_get, IfOk, IfSome, IfNone, MatchOption};
 
 use crate::words::is_same;
 use fond_ast::task::LSchemas;

@@ -1,11 +1,10 @@
 //! What the tool answers: a text and a status.
 
-ghost use Rattle.fond_ast.specs.declared.task.LSchema.{LSchema};
 ghost use Rattle.fond_tool.specs.Lines.{IsLine};
 ghost use Rattle.fond_tool.specs.Outputs.{SchemaOutput, TaskOutput, SuccOutput};
 ghost use Rattle.fond_tool.specs.Tasks.{file_word, fault_line};
 ghost use Rattle.fond_tree.specs.Spelling.{IsReadAs};
-ghost use Rattle.std.specs.Prelude.{◌≡◌, ◌++◌, [], Contains, IfOk};
+ghost use Rattle.std.specs.Prelude.{◌≡◌, [], Contains, IfOk};
 
 use crate::action::{find_schema, schema_name};
 use crate::status::Status;

@@ -1,6 +1,6 @@
 //! The first phase of reading: from the bytes of the three files to trees and leaves.
 
-ghost use Rattle.fond_reader.specs.Least.{IsClean};
+ghost use Rattle.fond_text.specs.Faults.{IsClean};
 ghost use Rattle.fond_reader.specs.Sides.{IsSideTextFault};
 ghost use Rattle.fond_tool.specs.Phases.{IsParsedFrom, IsPhaseError, AreLeavesOf, IsSideTextError};
 ghost use Rattle.fond_tool.specs.Tasks.{StandsInTexts};

@@ -3,7 +3,7 @@ use Rattle.std.proofs.Common.{◌≡◌, ℕ, ◌≤◌, ◌<◌, false, List, [
 use Rattle.std.proofs.lemmas.List.{map-append}
 use Rattle.std.proofs.lemmas.Bool.{true≢false}
 use Rattle.fond_text.specs.declared.place.Place.{Place}
-use Rattle.fond_text.specs.Places.{place_behind}
+use Rattle.fond_text.specs.Places.{place_after}
 use Rattle.fond_tree.specs.Faults.{opened, closed, AreRight, IsFaulty, IsWhole, IsTokenFault, IsEndFault, IsTextFault}
 use Rattle.fond_tree.specs.Marks.{Mark, marks, marks_behind}
 use Rattle.fond_tree.specs.Reading.{tokens_of, ReadsTree, Stops, StopsText}
@@ -22,7 +22,7 @@ tokens_marked : (behind : Behind) (before rest : List ℕ) → tokens_of (marks_
 tokens_marked behind before [] = refl
 tokens_marked behind before (b ∷ rest) =
     map-append (λ mark. mark.token) _ (marks_behind (behind_byte behind b) (before ++ b ∷ []) rest)
-    ∙ ap (λ front. front ++ tokens_of (marks_behind (behind_byte behind b) (before ++ b ∷ []) rest)) (unmarked (place_behind before) (begun_behind behind before b rest))
+    ∙ ap (λ front. front ++ tokens_of (marks_behind (behind_byte behind b) (before ++ b ∷ []) rest)) (unmarked (place_after before) (begun_behind behind before b rest))
     ∙ ap (λ back. begun_behind behind before b rest ++ back) (tokens_marked (behind_byte behind b) (before ++ b ∷ []) rest) where
       unmarked : (place : Place) (begun : List Token) → tokens_of (map (λ token. record { at = place; token = token }) begun) ≡ begun
       unmarked place [] = refl
@@ -47,13 +47,13 @@ no_tree_has_a_fault_lem text tree place code read fault = at_fault fault where
   whole : IsWhole (marks text)
   whole = front_whole tree (marks text) spelled
 
-  at_end : IsEndFault (marks text) (place_behind text) place code → ⊥
+  at_end : IsEndFault (marks text) (place_after text) place code → ⊥
   at_end fault = unfinished fault.unfinished where
     unfinished : ((closed (marks text) < opened (marks text)) × (code ≡ 3)) ⊎ ((marks text ≡ []) × (code ≡ 6)) → ⊥
     unfinished (inl h) = absurd (omega (arith, h.0, whole.1))
     unfinished (inr h) = whole.0 h.0
 
-  in_text : IsTokenFault (marks text) place code ⊎ IsEndFault (marks text) (place_behind text) place code → ⊥
+  in_text : IsTokenFault (marks text) place code ⊎ IsEndFault (marks text) (place_after text) place code → ⊥
   in_text (inl f) = front_right tree (marks text) spelled read.deep f.before f.mark f.after code f.split f.faulty
   in_text (inr f) = at_end f
 
@@ -62,7 +62,7 @@ no_tree_has_a_fault_lem text tree place code read fault = at_fault fault where
   at_fault (inr h) = in_text h.1
 
 -- what stops the reading of the first tree is a fault of the text
-pub text_stops : (text : List ℕ) (old : List Mark) (end : Place) (stop : Stop) → length text ≤ longest_text → old ≡ marks text → end ≡ place_behind text → Stops 128 old end stop → StopsText text stop
+pub text_stops : (text : List ℕ) (old : List Mark) (end : Place) (stop : Stop) → length text ≤ longest_text → old ≡ marks text → end ≡ place_after text → Stops 128 old end stop → StopsText text stop
 text_stops text old end (Fault place code) long e at stops =
     inr (
       long,
@@ -77,8 +77,8 @@ pub behind_stops : (text : List ℕ) (old now new : List Mark) (tree : Tree) (ma
 behind_stops text old now new tree mark code long e read left faulty =
     inr (
       long,
-      subst (λ (ms : List Mark). IsTokenFault ms mark.at code ⊎ IsEndFault ms (place_behind text) mark.at code) (sym read.split ∙ e)
-          (token_fault read.front now new mark (place_behind text) code left (front_right tree read.front read.spelled read.deep) (faulty read.front (front_whole tree read.front read.spelled))),
+      subst (λ (ms : List Mark). IsTokenFault ms mark.at code ⊎ IsEndFault ms (place_after text) mark.at code) (sym read.split ∙ e)
+          (token_fault read.front now new mark (place_after text) code left (front_right tree read.front read.spelled read.deep) (faulty read.front (front_whole tree read.front read.spelled))),
     )
 
 -- where nothing is left behind the first tree, the text is read as it

@@ -1,7 +1,7 @@
 -- Two faults of one text are the same.
 use Rattle.std.proofs.Common.{◌≡◌, ℕ, ◌+◌, ◌≤◌, ◌<◌, List, [], ◌∷◌, ◌++◌, sym, ◌∙◌, ap, ◌⊎◌, inl, inr, arith, append-nil, subst}
 use Rattle.fond_text.specs.declared.place.Place.{Place}
-use Rattle.fond_text.specs.Places.{place_behind}
+use Rattle.fond_text.specs.Places.{place_after}
 use Rattle.fond_tree.specs.Faults.{opened, closed, IsFaulty, IsWhole, IsTokenFault, IsEndFault, IsTextFault}
 use Rattle.fond_tree.specs.Marks.{Mark, marks}
 use Rattle.fond_tree.specs.Tokens.{Token, Opens, Closes, Names, Stray}
@@ -74,4 +74,4 @@ one_fault_lem text place other code number fault also = both fault also where
   both (inl f) (inl g) = (f.1 ∙ sym g.1, f.2 ∙ sym g.2)
   both (inl f) (inr g) = absurd (omega (arith, f.0, g.0))
   both (inr f) (inl g) = absurd (omega (arith, f.0, g.0))
-  both (inr f) (inr g) = one_within (marks text) (place_behind text) place other code number f.1 g.1
+  both (inr f) (inr g) = one_within (marks text) (place_after text) place other code number f.1 g.1

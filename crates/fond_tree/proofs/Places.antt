@@ -9,7 +9,7 @@ use Rattle.std.proofs.lemmas.List.Sums.{prefix_len-le-length, prefix_len_passes}
 use Rattle.std.proofs.lemmas.List.Folds.{length-prefix_len}
 use Rattle.fond_text.specs.Name.{IsLeaf}
 use Rattle.fond_text.specs.Bytes.{line_feed, opening, closing, semicolon, is_blank, is_leaf_byte, lower}
-use Rattle.fond_text.specs.Places.{place_behind}
+use Rattle.fond_text.specs.Places.{place_after}
 use Rattle.fond_text.specs.declared.place.Place.{Place}
 use Rattle.fond_tree.specs.Marks.{Mark, marks_behind}
 use Rattle.fond_tree.specs.Tokens.{Token, Opens, Closes, Names, Stray, Behind, Gap, Leaf, Comment, behind_byte, begun_behind}
@@ -43,29 +43,29 @@ line_more xs b v e =
     ap (λ n. 1 + n) (fold-push (λ (a x : ℕ). a + cond (x == line_feed) 1 0) 0 xs b ∙ ap (λ v. count_by (λ b. b == line_feed) xs + cond v 1 0) e)
     ∙ elim v as (λ v. 1 + (count_by (λ b. b == line_feed) xs + cond v 1 0) ≡ cond v (1 + count_by (λ b. b == line_feed) xs + 1) (1 + count_by (λ b. b == line_feed) xs)) [ true ↦ omega arith | false ↦ omega arith ]
 
-pub place_more : (xs : List ℕ) (b : ℕ) → place_behind (xs ++ b ∷ []) ≡ behind_at b (place_behind xs)
+pub place_more : (xs : List ℕ) (b : ℕ) → place_after (xs ++ b ∷ []) ≡ behind_at b (place_after xs)
 place_more xs b = at_test (b == line_feed) refl where
-  at_test : (v : Bool) → (b == line_feed) ≡ v → place_behind (xs ++ b ∷ []) ≡ behind_at b (place_behind xs)
+  at_test : (v : Bool) → (b == line_feed) ≡ v → place_after (xs ++ b ∷ []) ≡ behind_at b (place_after xs)
   at_test true e = rw e (λ i. record { line = line_more xs b true e i; column = column_more xs b true e i })
   at_test false e = rw e (λ i. record { line = line_more xs b false e i; column = column_more xs b false e i })
 
-begun_same : (behind : Behind) (before : List ℕ) (b : ℕ) (rest : List ℕ) → begun_behind behind before b rest ≡ begun_in behind (place_behind before) b rest
+begun_same : (behind : Behind) (before : List ℕ) (b : ℕ) (rest : List ℕ) → begun_behind behind before b rest ≡ begun_in behind (place_after before) b rest
 begun_same Gap before b rest = refl
 begun_same Leaf before b rest = refl
 begun_same Comment before b rest = refl
 
-pub same_marks : (behind : Behind) (before rest : List ℕ) → marks_behind behind before rest ≡ marks_at behind (place_behind before) rest
+pub same_marks : (behind : Behind) (before rest : List ℕ) → marks_behind behind before rest ≡ marks_at behind (place_after before) rest
 unfolding marks_at
 same_marks behind before [] = refl
 same_marks behind before (b ∷ rest) =
-    ap (λ front. map (marked (place_behind before)) front ++ marks_behind (behind_byte behind b) (before ++ b ∷ []) rest) (begun_same behind before b rest)
-    ∙ ap (λ back. map (marked (place_behind before)) (begun_in behind (place_behind before) b rest) ++ back)
+    ap (λ front. map (marked (place_after before)) front ++ marks_behind (behind_byte behind b) (before ++ b ∷ []) rest) (begun_same behind before b rest)
+    ∙ ap (λ back. map (marked (place_after before)) (begun_in behind (place_after before) b rest) ++ back)
     (same_marks (behind_byte behind b) (before ++ b ∷ []) rest ∙ ap (λ place. marks_at (behind_byte behind b) place rest) (place_more before b))
 
-pub same_end : (before rest : List ℕ) → end_at (place_behind before) rest ≡ place_behind (before ++ rest)
+pub same_end : (before rest : List ℕ) → end_at (place_after before) rest ≡ place_after (before ++ rest)
 unfolding end_at
-same_end before [] = ap place_behind (sym (append-nil before))
-same_end before (b ∷ rest) = ap (λ place. end_at place rest) (sym (place_more before b)) ∙ same_end (before ++ b ∷ []) rest ∙ ap place_behind (append_assoc before (b ∷ []) rest)
+same_end before [] = ap place_after (sym (append-nil before))
+same_end before (b ∷ rest) = ap (λ place. end_at place rest) (sym (place_more before b)) ∙ same_end (before ++ b ∷ []) rest ∙ ap place_after (append_assoc before (b ∷ []) rest)
 
 -- what a byte in a comment or in a gap stands behind
 abbrev pub gap_or_comment : Bool → Behind

@@ -2,7 +2,7 @@
 -- the first token that is faulty, or at its end.
 use Rattle.std.specs.Prelude.{◌≡◌, ◌≢◌, ◌⊎◌, ℕ, ◌+◌, ◌<◌, ◌≤◌, Bool, true, false, List, [], ◌∷◌, ◌++◌, length, count_by}
 use Rattle.fond_text.specs.declared.place.Place.{Place}
-use Rattle.fond_text.specs.Places.{place_behind}
+use Rattle.fond_text.specs.Places.{place_after}
 use Rattle.fond_tree.specs.Marks.{Mark, marks}
 use Rattle.fond_tree.specs.Spelling.{longest_text, deepest}
 use Rattle.fond_tree.specs.Tokens.{Token, Opens, Closes, Names, Stray}
@@ -66,4 +66,4 @@ pub record IsEndFault (tokens : List Mark) (end place : Place) (code : ℕ) : Ty
 abbrev pub IsTextFault : List ℕ → Place → ℕ → Type 0
 IsTextFault text place code =
     ((longest_text < length text) × (place ≡ record { line = 1; column = 1 }) × (code ≡ 1))
-    ⊎ ((length text ≤ longest_text) × (IsTokenFault (marks text) place code ⊎ IsEndFault (marks text) (place_behind text) place code))
+    ⊎ ((length text ≤ longest_text) × (IsTokenFault (marks text) place code ⊎ IsEndFault (marks text) (place_after text) place code))

@@ -2,7 +2,7 @@
 use Rattle.std.specs.Prelude.{ℕ, ◌==◌, ◌||◌, List, [], ◌∷◌, ◌++◌, map, take_while, if◌then◌else◌}
 use Rattle.fond_text.specs.declared.place.Place.{Place}
 use Rattle.fond_text.specs.Bytes.{line_feed, opening, closing, semicolon, is_blank, is_leaf_byte, lower}
-use Rattle.fond_text.specs.Places.{place_behind}
+use Rattle.fond_text.specs.Places.{place_after}
 
 -- a token is an opening parenthesis, a closing one, a leaf or a stray byte
 pub data Token : Type 0 where
@@ -28,9 +28,9 @@ behind_byte Comment b = if b == line_feed then Gap else Comment
 abbrev pub begun : List ℕ → ℕ → List ℕ → List Token
 begun before b rest =
     if is_blank b || b == semicolon then []
-    else if b == opening then Opens (place_behind before) ∷ []
+    else if b == opening then Opens (place_after before) ∷ []
     else if b == closing then Closes ∷ []
-    else if is_leaf_byte b then Names (place_behind before) (map lower (take_while is_leaf_byte (b ∷ rest))) ∷ []
+    else if is_leaf_byte b then Names (place_after before) (map lower (take_while is_leaf_byte (b ∷ rest))) ∷ []
     else Stray ∷ []
 
 -- no token begins in a comment, and none inside a leaf

@@ -2,8 +2,8 @@
 
 ghost use Rattle.std.specs.Prelude.{◌≡◌, ◌≤◌, ◌∷◌, length};
 ghost use Rattle.std.specs.List.{prefix_len};
-ghost use Rattle.fond_text.specs.Bytes.{is_blank, is_leaf_byte};
-ghost use Rattle.fond_text.specs.Places.{place_behind};
+ghost use Rattle.fond_text.specs.Bytes.{is_leaf_byte};
+ghost use Rattle.fond_text.specs.Places.{place_after};
 ghost use Rattle.fond_tree.specs.Left.{behind_at, goes_on, Fits, EndsGap, BeginsLeaf, TakesClosing};
 ghost use Rattle.fond_tree.specs.Marks.{marks};
 
@@ -57,7 +57,7 @@ impl<'a> Scanner<'a> {
     pub fn new(text: &'a [u8]) -> Scanner<'a>
         requires { length text.now ≤ 16777216 }
         ensures tokens { marks_left result ≡ marks text.now }
-        ensures end { end_left result ≡ place_behind text.now }
+        ensures end { end_left result ≡ place_after text.now }
     {
         Scanner {
             rest: text,

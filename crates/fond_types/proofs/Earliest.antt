@@ -3,7 +3,8 @@ use Rattle.std.proofs.Common.{◌≡◌, ℕ, ◌≤◌, ◌&&◌, ◌||◌, ◌
 use Rattle.std.specs.Prelude.{if◌then◌else◌}
 use Rattle.std.proofs.lemmas.Bool.Decides.{nat_tests}
 use Rattle.fond_text.specs.declared.place.Place.{Place}
-use Rattle.fond_reader.specs.Least.{IsBefore, IsNoLater}
+use Rattle.fond_text.specs.Faults.{IsNoLater}
+use Rattle.fond_text.specs.Places.{IsBefore}
 use Rattle.fond_types.specs.Walks.{is_before, earlier, IsEarliest}
 
 -- a place is no later than another

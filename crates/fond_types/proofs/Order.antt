@@ -4,7 +4,7 @@ use Rattle.fond_text.specs.declared.place.FileKind.{FileKind}
 use Rattle.fond_text.specs.declared.place.FileKind.TheVariants as kind
 use Rattle.fond_text.specs.declared.place.Place.{Place}
 use Rattle.fond_ast.specs.declared.files.Domain.{Domain}
-use Rattle.fond_reader.specs.Least.{IsNoLater, IsLeast, IsClean, IsFirstAmong, file_number}
+use Rattle.fond_text.specs.Faults.{IsNoLater, IsLeast, IsClean, IsFirstAmong, file_number}
 use Rattle.fond_types.specs.Atoms.{domain_atoms, problem_atoms}
 use Rattle.fond_types.specs.Faults.{Declarations, IsUnknownPredicate, IsRepeatedSchema, IsUnknownSchema, StandsInNames}
 use Rattle.fond_types.specs.FirstFaults.{StandsInSchemas, IsFirstInDomain, IsFirstFault}

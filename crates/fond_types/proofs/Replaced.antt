@@ -4,7 +4,7 @@ use Rattle.std.specs.List.{list_all}
 use Rattle.std.proofs.lemmas.List.{map-append, append-nil, take_more}
 use Rattle.std.proofs.lemmas.List.Folds.{list_all-append}
 use Rattle.std.proofs.lemmas.List.Elements.{filter-append}
-use Rattle.fond_text.specs.declared.ground.Atom.{Atom}
+use Rattle.fond_text.specs.declared.atom.Atom.{Atom}
 use Rattle.fond_ast.specs.declared.files.InitAtom.{InitAtom}
 use Rattle.fond_ast.specs.declared.files.Schema.{Schema}
 use Rattle.fond_ast.specs.declared.files.Side.{Side}

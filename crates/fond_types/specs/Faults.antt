@@ -11,7 +11,7 @@ use Rattle.fond_ast.specs.declared.files.Domain.{Domain}
 use Rattle.fond_ast.specs.declared.files.Problem.{Problem}
 use Rattle.fond_ast.specs.declared.files.Schema.{Schema}
 use Rattle.fond_ast.specs.declared.files.Side.{Side}
-use Rattle.fond_reader.specs.Least.{IsFirstAmong}
+use Rattle.fond_text.specs.Faults.{IsFirstAmong}
 use Rattle.fond_types.specs.Names.{is_among, predicate_names, schema_names}
 use Rattle.fond_types.specs.Atoms.{domain_atoms, problem_atoms}
 

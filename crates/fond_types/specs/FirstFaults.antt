@@ -4,7 +4,7 @@ use Rattle.fond_text.specs.declared.fault.Fault.{Fault}
 use Rattle.fond_text.specs.declared.place.FileKind.TheVariants as kind
 use Rattle.fond_text.specs.declared.place.Place.{Place}
 use Rattle.fond_ast.specs.declared.files.Domain.{Domain}
-use Rattle.fond_reader.specs.Least.{IsClean, IsLeast, IsFirstAmong, NoneStands}
+use Rattle.fond_text.specs.Faults.{IsClean, IsLeast, IsFirstAmong, AreClean}
 use Rattle.fond_types.specs.Atoms.{domain_atoms}
 use Rattle.fond_types.specs.Faults.{Declarations, IsUnknownPredicate, IsRepeatedSchema, StandsInNames}
 
@@ -20,5 +20,5 @@ IsFirstInDomain domain (Some fault) = (fault.file ≡ kind.Domain) × IsLeast (S
 
 -- the first fault of names in three files, or there is none
 abbrev pub IsFirstFault : Declarations → Option Fault → Type 0
-IsFirstFault files None = NoneStands (StandsInNames files)
+IsFirstFault files None = AreClean (StandsInNames files)
 IsFirstFault files (Some fault) = IsFirstAmong (StandsInNames files) fault

@@ -2,7 +2,7 @@
 use Rattle.std.specs.Prelude.{◌≡◌, ℕ, ◌==◌, ◌&&◌, nat_lt, Bool, true, false, List, [], ◌∷◌, map, filter, length, Some, slice_get, slice_index_or}
 use Rattle.std.specs.List.{list_any}
 use Rattle.std.specs.Str.{bytes_eq}
-use Rattle.fond_text.specs.declared.ground.Atom.{Atom}
+use Rattle.fond_text.specs.declared.atom.Atom.{Atom}
 use Rattle.fond_ast.specs.declared.names.ReadAtom.{ReadAtom}
 use Rattle.fond_ast.specs.declared.files.InitAtom.{InitAtom}
 use Rattle.fond_ast.specs.declared.files.Schema.{Schema}

@@ -3,7 +3,7 @@ use Rattle.std.specs.Prelude.{◌≡◌, ◌⊎◌, ℕ, ◌==◌, ◌&&◌, ◌
 use Rattle.fond_text.specs.declared.place.Place.{Place}
 use Rattle.fond_ast.specs.declared.names.ReadAtom.{ReadAtom}
 use Rattle.fond_names.specs.Texts.{number_beside}
-use Rattle.fond_reader.specs.Least.{IsBefore}
+use Rattle.fond_text.specs.Places.{IsBefore}
 
 -- whether a place stands before another
 abbrev pub is_before : Place → Place → Bool

@@ -19,7 +19,7 @@ use fond_ast::syntax::{Cond, Effect};
 use fond_ast::task::{LSchema, LSchemas, LiftedTask};
 use fond_names::text_index::TextIndex;
 use fond_text::fault::NoMemory;
-use fond_text::ground::{Atom, Atoms, Objects};
+use fond_text::atom::{Atom, Atoms, Objects};
 use std::alloc::Global;
 
 /// An atom by the number of its predicate. One without a number was refused before.

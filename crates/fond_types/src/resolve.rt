@@ -1,6 +1,6 @@
 //! From names to numbers.
 
-ghost use Rattle.fond_reader.specs.Least.{NoneStands};
+ghost use Rattle.fond_text.specs.Faults.{AreClean};
 ghost use Rattle.fond_types.specs.Faults.{StandsInNames, IsNamesError};
 ghost use Rattle.fond_types.specs.Resolves.{IsResolved};
 ghost use Rattle.std.specs.Prelude.{IfOk, IfErr, OnOk};
@@ -18,7 +18,7 @@ use std::alloc::Global;
 /// memory in the sizes of the declarations.
 pub fn resolve(alloc: Global, d: &Domain, p: &Problem, s: &Side) -> Result<LiftedTask, FrontError>
     ensures resolved { IfOk result (IsResolved (record { domain = d.now; problem = p.now; side = s.now })) }
-    ensures clean { OnOk result (NoneStands (StandsInNames (record { domain = d.now; problem = p.now; side = s.now }))) }
+    ensures clean { OnOk result (AreClean (StandsInNames (record { domain = d.now; problem = p.now; side = s.now }))) }
     ensures refused { IfErr result (IsNamesError (record { domain = d.now; problem = p.now; side = s.now })) }
 {
     let predicates = declared_predicates(alloc, d)?;

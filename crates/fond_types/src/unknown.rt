@@ -2,7 +2,7 @@
 
 ghost use Rattle.fond_types.specs.Atoms.{condition_atoms, effect_atoms, domain_atoms, problem_atoms};
 ghost use Rattle.fond_types.specs.Walks.{unknown_step, first_unknown, earlier as earlier_of, is_before as stands_before};
-ghost use Rattle.std.specs.Prelude.{◌≡◌, Option, Some, None};
+ghost use Rattle.std.specs.Prelude.{◌≡◌, None};
 
 use fond_ast::files::{Domain, Problem};
 use fond_ast::names::ReadAtom;

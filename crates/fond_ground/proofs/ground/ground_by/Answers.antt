@@ -1,6 +1,6 @@
 use Rattle.std.proofs.Common.{◌∙◌, false, get_or, map, filter, ap, sym, subst}
 use Rattle.std.specs.List.{enumerate_from}
-use Rattle.fond_text.specs.declared.ground.Atom.{Atom}
+use Rattle.fond_text.specs.declared.atom.Atom.{Atom}
 use Rattle.fond_task.specs.declared.task.Labels.{Labels}
 use Rattle.fond_task.specs.Values.{value}
 use Rattle.fond_ground.specs.Numbers.{fluent_numbers}

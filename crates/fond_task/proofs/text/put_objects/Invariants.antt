@@ -4,8 +4,8 @@ use Rattle.std.specs.List.{flat_map}
 use Rattle.fond_task.specs.Texts.{name_at}
 use Rattle.fond_task.proofs.text.put_objects.Given as goal
 
-abbrev pub invariant-loop-i : goal.invariant-loop-i
-invariant-loop-i l = record {
-  text : l.out.items ++ flat_map (λ object. codes " " ++ name_at l.names object) (drop l.i l.objects) ≡ l.initial.out.items ++ flat_map (λ object. codes " " ++ name_at l.names object) l.objects;
+abbrev pub invariant-loop-object : goal.invariant-loop-object
+invariant-loop-object l = record {
+  text : l.out.items ++ flat_map (λ object. codes " " ++ name_at l.names object) (drop l.object-index l.object-items) ≡ l.initial.out.items ++ flat_map (λ object. codes " " ++ name_at l.names object) l.object-items;
   grew : (more : List ℕ) × (l.out.items ≡ l.initial.out.items ++ more);
 }

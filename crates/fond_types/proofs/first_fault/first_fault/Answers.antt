@@ -1,6 +1,6 @@
 use Rattle.std.proofs.Common.{Some, None, sym, subst}
 use Rattle.fond_text.specs.declared.place.FileKind.{FileKind}
-use Rattle.fond_reader.specs.Least.{IsFirstAmong}
+use Rattle.fond_text.specs.Faults.{IsFirstAmong}
 use Rattle.fond_types.specs.Atoms.{problem_atoms}
 use Rattle.fond_types.specs.Faults.{Declarations, StandsInNames}
 use Rattle.fond_types.proofs.Heads.{unknown_found}

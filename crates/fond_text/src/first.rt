@@ -1,11 +1,17 @@
 //! The earlier of two faults that were found.
 
-ghost use Rattle.fond_reader.specs.Firsts.{IsFirst, IsEarlier};
-ghost use Rattle.fond_reader.specs.Least.{IsNoLater};
+ghost use Rattle.fond_text.specs.Firsts.{IsFirst, IsEarlier};
+ghost use Rattle.fond_text.specs.Faults.{IsNoLater};
 ghost use Rattle.std.specs.Prelude.{◌≡◌, true, false, Some};
 
-use crate::fault::Found;
-use fond_text::place::Place;
+use crate::place::Place;
+
+/// A fault of a file that is known: its place, and its code, the number that follows the F in docs/FAULTS.md.
+#[derive(Clone, Copy, Debug, PartialEq, Eq)]
+pub struct Found {
+    pub place: Place,
+    pub code: u8,
+}
 
 /// Whether one fault is no later than another one.
 fn is_no_later(one: Found, other: Found) -> bool

@@ -1,8 +1,8 @@
 -- The first of some faults, and the earlier of two that were found.
 use Rattle.std.specs.Prelude.{◌≡◌, ◌⊎◌, ℕ, Option, Some, None, IfSome}
 use Rattle.fond_text.specs.declared.place.Place.{Place}
-use Rattle.fond_reader.specs.declared.fault.Found.{Found}
-use Rattle.fond_reader.specs.Least.{IsNoLater}
+use Rattle.fond_text.specs.declared.first.Found.{Found}
+use Rattle.fond_text.specs.Faults.{IsNoLater}
 
 -- something was found that is no later than a fault
 abbrev pub Covers : Option Found → Place → ℕ → Type 0

@@ -1,0 +1,55 @@
+//! The codes of faults, as docs/FAULTS.md lists them, and the limits that some of them report.
+
+/// The most bytes that a text may have.
+pub const LONGEST_TEXT: usize = 16_777_216;
+
+/// The most parentheses that may be open at a place.
+pub const DEEPEST: usize = 128;
+
+/// A text has more bytes than [`LONGEST_TEXT`].
+pub const TOO_LONG: u8 = 1;
+
+/// A byte outside comments is neither a blank nor one of the bytes 33 to 126.
+pub const STRAY_BYTE: u8 = 2;
+
+/// A text ends while a parenthesis is open.
+pub const UNCLOSED: u8 = 3;
+
+/// A closing parenthesis has no opening one, or something follows the first whole tree.
+pub const MISPLACED: u8 = 4;
+
+/// A parenthesis opens inside [`DEEPEST`] open ones.
+pub const TOO_DEEP: u8 = 5;
+
+/// A text has no leaf and no parenthesis.
+pub const NO_TREE: u8 = 6;
+
+/// A tree does not have the form that is expected at its place.
+pub const MISFIT: u8 = 7;
+
+/// A section, or a key of an action, has an unknown head.
+pub const UNKNOWN_SECTION: u8 = 8;
+
+/// A section, or a key of an action, occurs a second time.
+pub const REPEATED_SECTION: u8 = 9;
+
+/// A problem has no domain or no goal.
+pub const MISSING_SECTION: u8 = 10;
+
+/// The head of a condition, an effect or an initial atom is no operator there, or an atom has a node among its terms.
+pub const MISPLACED_OPERATOR: u8 = 11;
+
+/// A `oneof` has no choices.
+pub const NO_CHOICE: u8 = 12;
+
+/// The predicate of an atom is not declared.
+pub const UNKNOWN_PREDICATE: u8 = 15;
+
+/// A name is declared a second time.
+pub const REPEATED_NAME: u8 = 19;
+
+/// A leaf of the side list is not the name of a schema.
+pub const UNKNOWN_SCHEMA: u8 = 20;
+
+/// A form of the language is not supported yet.
+pub const UNSUPPORTED: u8 = 24;
