@@ -1,4 +1,4 @@
--- Declarations whose names have one type each, and effects whose choices have members.
+-- Declarations with one type for each name, and effects whose choices have members.
 use Rattle.std.specs.Prelude.{ℕ, ◌==◌, ◌&&◌, Bool, true, not, length}
 use Rattle.std.specs.List.{list_all}
 use Rattle.fond_ast.specs.declared.names.TypedName.{TypedName}

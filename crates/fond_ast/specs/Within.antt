@@ -1,4 +1,4 @@
--- Conditions and effects whose numbers all name predicates, and whose choices have members.
+-- Conditions and effects in which each number is that of a predicate and each choice has a member.
 use Rattle.std.specs.Prelude.{ℕ, ◌==◌, ◌&&◌, nat_lt, Bool, true, not, length}
 use Rattle.std.specs.List.{list_all}
 use Rattle.fond_text.specs.declared.atom.Atom.{Atom}
@@ -18,7 +18,7 @@ condition_within_step count (condition.Or parts) = list_all (λ part. part) part
 condition_within_step count (condition.Not part) = part.value
 condition_within_step count (condition.Imply part other) = part.value && other.value
 
--- whether each atom of a condition is of one of this many predicates
+-- whether each atom of a condition has a predicate below this number
 abbrev pub is_condition_within : ℕ → LCond → Bool
 is_condition_within count = fold-LCond Bool (condition_within_step count)
 
@@ -29,14 +29,14 @@ effect_within_step count (effect.Delete atom) = nat_lt atom.predicate count
 effect_within_step count (effect.And parts) = list_all (λ part. part) parts.items
 effect_within_step count (effect.OneOf parts) = not (length parts.items == 0) && list_all (λ part. part) parts.items
 
--- so is each atom of an effect, and each choice in it has a member
+-- whether each literal of an effect has a predicate below this number and each choice has a member
 abbrev pub is_effect_within : ℕ → LEffect → Bool
 is_effect_within count = fold-LEffect Bool (effect_within_step count)
 
--- so is each atom of a schema
+-- whether the precondition and the effect of a schema have predicates below this number only
 abbrev pub is_schema_within : ℕ → LSchema → Bool
 is_schema_within count schema = is_condition_within count schema.pre && is_effect_within count schema.effect
 
--- so is a ground atom, which has no objects
+-- whether a ground atom has a predicate below this number and no objects
 abbrev pub is_atom_within : ℕ → Atom → Bool
 is_atom_within count atom = nat_lt atom.predicate count && length atom.objects == 0

@@ -6,11 +6,11 @@ ghost use Rattle.std.specs.Prelude.{IsTrue};
 
 use crate::names::{Kinds, ReadAtom, TypedNames};
 use crate::syntax::{Cond, Effect};
+use fond_text::list::List;
 use fond_text::name::Name;
 use fond_text::place::Place;
-use fond_text::list::List;
 
-/// An action schema. A precondition that is absent is the true condition, and an effect that is absent the empty one.
+/// An action schema. A missing precondition is the true condition, and a missing effect the empty one.
 #[derive(Drop)]
 pub struct Schema {
     pub place: Place,
@@ -34,8 +34,8 @@ pub struct Declared {
 /// Declared predicates, in order.
 pub type DeclaredList = List<Declared>;
 
-/// A domain: its types, constants, predicates and schemas, each in the order of the text. Each type and each constant
-/// has exactly one type, and each choice in an effect has a member.
+/// A domain: its types, constants, predicates and schemas, each in the order of the text. By its facts, each type and
+/// each constant has exactly one type, and each `oneof` has a member.
 #[derive(Drop)]
 pub struct Domain {
     pub place: Place,
@@ -48,7 +48,7 @@ pub struct Domain {
     pub ghost choices: { IsTrue (list_all is_schema_with_choices schemas) },
 }
 
-/// An atom of `:init`, or one that is negated there.
+/// An atom of `:init`, which may be negated.
 #[derive(Drop)]
 pub struct InitAtom {
     pub positive: bool,
@@ -68,7 +68,7 @@ pub struct Problem {
     pub ghost one_kind: { IsTrue (list_all has_one_kind objects) },
 }
 
-/// A side list: its leaves, which are to name the schemas that are unfair.
+/// A side list: its leaves, which should be the names of the unfair schemas.
 #[derive(Drop)]
 pub struct Side {
     pub names: Kinds,

@@ -17,7 +17,7 @@ pub enum LCond {
     Imply(Box<LCond>, Box<LCond>),
 }
 
-/// An effect. Of the members of a `OneOf`, at least one, exactly one takes place.
+/// An effect. Exactly one member of a `OneOf` takes place; it has at least one.
 #[derive(Drop)]
 pub enum LEffect {
     Nothing,

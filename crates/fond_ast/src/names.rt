@@ -1,11 +1,10 @@
 //! Names, variables and terms as they are read, each with its place.
 
-
+use fond_text::list::List;
 use fond_text::name::Name;
 use fond_text::place::Place;
-use fond_text::list::List;
 
-/// A leaf in the place of a type, or one that a side list names.
+/// A leaf that names a type, or a leaf of a side list.
 #[derive(Drop)]
 pub struct Kind {
     pub place: Place,
@@ -15,7 +14,7 @@ pub struct Kind {
 /// Types, in the order in which they are written.
 pub type Kinds = List<Kind>;
 
-/// A declared name or variable with its types. Where the text writes none, the type is `object` at its own place.
+/// A declared name or variable with its types. If the text gives none, the type is `object`, at the place of the name.
 #[derive(Drop)]
 pub struct TypedName {
     pub place: Place,
@@ -37,7 +36,7 @@ pub struct Term {
 /// The terms of an atom, in order.
 pub type Terms = List<Term>;
 
-/// An atom: the place of its node, and its head with its terms.
+/// An atom: the place of its node, the place and the name of its head, and its terms.
 #[derive(Drop)]
 pub struct ReadAtom {
     pub place: Place,

@@ -16,7 +16,7 @@ pub enum Cond {
     Exists(TypedNames, Box<Cond>),
 }
 
-/// An effect. Of the members of a `OneOf`, of which the text writes at least one, exactly one takes place.
+/// An effect. Exactly one member of a `OneOf` takes place; the text has at least one.
 #[derive(Drop)]
 pub enum Effect {
     Nothing,

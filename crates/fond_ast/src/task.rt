@@ -6,10 +6,10 @@ ghost use Rattle.std.specs.Prelude.{◌<◌, ◌^◌, IsTrue, length};
 
 use crate::form::{LCond, LEffect};
 use fond_text::atom::Atoms;
-use fond_text::name::Name;
 use fond_text::list::List;
+use fond_text::name::Name;
 
-/// A predicate, which is fluent where an effect of some schema holds a literal of it.
+/// A predicate, which is fluent if an effect of some schema has a literal of it.
 #[derive(Drop)]
 pub struct LPredicate {
     pub name: Name,
@@ -19,7 +19,7 @@ pub struct LPredicate {
 /// Predicates, in the order of their first declarations.
 pub type LPredicates = List<LPredicate>;
 
-/// An action schema, which is unfair where the side list names it.
+/// An action schema, which is unfair if the side list names it.
 #[derive(Drop)]
 pub struct LSchema {
     pub name: Name,
@@ -31,8 +31,8 @@ pub struct LSchema {
 /// Action schemas, in the order of their declarations.
 pub type LSchemas = List<LSchema>;
 
-/// A task: its predicates and schemas, the atoms that are true at first, and the goal. Every number in it
-/// names a predicate, and every choice in an effect has a member.
+/// A task: its predicates and schemas, the initial atoms, and the goal. By its facts, every number in it is that of a
+/// predicate, every `OneOf` has a member, and there are fewer than 2^32 predicates and schemas.
 #[derive(Drop)]
 pub struct LiftedTask {
     pub predicates: LPredicates,
@@ -40,6 +40,7 @@ pub struct LiftedTask {
     pub init: Atoms,
     pub goal: LCond,
     pub ghost few_predicates: { length predicates < 2 ^ 32 },
+    pub ghost few_schemas: { length schemas < 2 ^ 32 },
     pub ghost schemas_within: { IsTrue (list_all (is_schema_within (length predicates)) schemas) },
     pub ghost init_within: { IsTrue (list_all (is_atom_within (length predicates)) init) },
     pub ghost goal_within: { IsTrue (is_condition_within (length predicates) goal) },

@@ -1,7 +1,7 @@
--- A sink over a writer.
+-- The state of a sink over a writer.
 use Rattle.std.specs.Prelude.{ℕ, List, Option}
 
--- what the writer holds, where it tells that, and how many faults there were
+-- the contents of the writer, if it can tell them, and the number of faults
 pub record HostSinkState : Type 0 where
   pub contents : Option (List ℕ)
   pub faults : ℕ

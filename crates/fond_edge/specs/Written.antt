@@ -1,7 +1,7 @@
--- What a sink has been given, where it tells that: none says that it does not tell.
+-- What was written to a sink; `None` if the sink cannot tell.
 use Rattle.std.specs.Prelude.{◌≡◌, ℕ, ◌<◌, List, ◌++◌, length, take, Option, option_map}
 
--- these bytes were appended to what was written
+-- these bytes were appended
 abbrev pub Appended : Option (List ℕ) → Option (List ℕ) → List ℕ → Type 0
 Appended old new bytes = new ≡ option_map (λ written. written ++ bytes) old
 

@@ -1,9 +1,9 @@
-//! Counts that stand still at their last value.
+//! Saturating counts.
 
 ghost use Rattle.std.specs.Prelude.{◌≡◌};
 ghost use Rattle.fond_edge.specs.Calls.{one_more};
 
-/// One more, or the last value.
+/// One more, saturating at 2^64 - 1.
 pub(crate) fn one_more(count: u64) -> u64
     ensures { result ≡ one_more count }
 {

@@ -1,4 +1,4 @@
-//! A shelf of the host's files.
+//! The files of the host.
 
 ghost use Rattle.std.specs.Prelude.{◌≡◌, ℕ, ◌^◌, ◌≤◌, List, ◌++◌, None, OnOk, OnErr, IsErrOf, IfSome, length};
 ghost use Rattle.std.specs.Str.{IsUtf8};
@@ -20,8 +20,8 @@ const LIMIT: u64 = 1 << 48;
 /// The most bytes of one read.
 const PIECE: usize = 8192;
 
-/// Reads real files, and counts the faults that it meets: a name that is no text or that the host refuses,
-/// an opening or a read that fails, and a file past 2^48 bytes.
+/// Reads files of the host and counts faults: a name that is not UTF-8 or that the host rejects, a failure to open
+/// or to read, and a file of more than 2^48 bytes.
 #[derive(Drop)]
 pub struct HostShelf<R> {
     rt: R,
@@ -37,7 +37,7 @@ impl<R> Model for HostShelf<R> {
 }
 
 impl<R: Files + Clone + Drop> HostShelf<R> {
-    /// A shelf without faults. Takes no memory.
+    /// A shelf without faults so far. It takes no memory.
     pub fn new(rt: R) -> HostShelf<R>
         ensures { result ≡ 0 }
     {
@@ -45,7 +45,7 @@ impl<R: Files + Clone + Drop> HostShelf<R> {
     }
 }
 
-/// Appends what is left in this reader, in pieces. Time and memory are in step with its bytes.
+/// Appends the rest of this reader, in pieces. Time and memory are proportional to its length.
 fn append_rest<F: Read>(file: &mut F, into: &mut Vec<u8>) -> Result<(), FetchFault>
     ensures further { (more : List ℕ) × (into.new.items ≡ into.old.items ++ more) × (length more ≤ 2 ^ 48) }
     ensures whole { OnOk result (IfSome (F.remaining file.old) (λ bytes. into.new.items ≡ into.old.items ++ bytes)) }
@@ -69,10 +69,10 @@ fn append_rest<F: Read>(file: &mut F, into: &mut Vec<u8>) -> Result<(), FetchFau
     }
 }
 
-/// Appends the whole file of this name. On a refusal a part of it may stand in `into`.
+/// Appends the whole file of this name. After an error, `into` may end with a part of it.
 fn append_file<R: Files>(rt: &R, name: &Word, into: &mut Vec<u8>) -> Result<(), FetchFault>
     ensures further { (more : List ℕ) × (into.new.items ≡ into.old.items ++ more) × (length more ≤ 2 ^ 48) }
-    ensures text { (IsUtf8 name.now → ⊥) → IsErrOf result FetchFault.Failed }
+    ensures text { ¬ IsUtf8 name.now → IsErrOf result FetchFault.Failed }
 {
     let Ok(path) = str::from_utf8(name.bytes()) else {
         return Err(FetchFault::Failed);
@@ -95,8 +95,8 @@ impl<R: Files + Clone + Drop> Shelf for HostShelf<R> {
         ensures failed { IsErrOf result FetchFault.Failed → Rose self.old self.new }
         ensures err { OnErr result (into.new.items ≡ into.old.items) }
         ensures raised { IsErrOf result FetchFault.Failed → self.new ≡ one_more self.old }
-        ensures calm { (IsErrOf result FetchFault.Failed → ⊥) → self.new ≡ self.old }
-        ensures text { (IsUtf8 name.now → ⊥) → IsErrOf result FetchFault.Failed }
+        ensures calm { ¬ IsErrOf result FetchFault.Failed → self.new ≡ self.old }
+        ensures text { ¬ IsUtf8 name.now → IsErrOf result FetchFault.Failed }
     {
         let before = into.len();
         let outcome = append_file(&self.rt, name, into);

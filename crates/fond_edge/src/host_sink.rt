@@ -1,4 +1,4 @@
-//! A sink over a writer of the host.
+//! A writer of the host as a sink.
 
 ghost use Rattle.std.specs.Prelude.{◌≡◌, ◌<◌, ◌≤◌, None, Ok, length, take, IfOk, OnOk, OnErr};
 ghost use Rattle.std.specs.Io.KnownBytes.{Appends};
@@ -10,8 +10,8 @@ use crate::sink::{Failed, Sink};
 use std::io::Write;
 use std::marker::Model;
 
-/// Hands what is written to a writer, and counts its faults. A writer that keeps bytes back is flushed at
-/// each write, so that its errors are met there and not later.
+/// Passes bytes to a writer and counts its faults. The writer is flushed at each write, so that an error of a
+/// buffering writer is reported by the write that caused it.
 #[derive(Drop)]
 pub struct HostSink<W: Write> {
     out: W,
@@ -27,7 +27,7 @@ impl<W: Write> Model for HostSink<W> {
 }
 
 impl<W: Write + Drop> HostSink<W> {
-    /// A sink over this writer, without faults. Takes no memory.
+    /// A sink over this writer, without faults so far. It takes no memory.
     pub fn new(out: W) -> HostSink<W>
         ensures { result ≡ record { contents = W.contents out; faults = 0 } }
     {
@@ -35,8 +35,8 @@ impl<W: Write + Drop> HostSink<W> {
     }
 }
 
-/// Writes a front of these bytes to the writer and flushes it. Answers no bytes where the writer took none
-/// or met an error.
+/// Writes a prefix of the bytes to the writer and flushes it. Returns the length of the prefix, or 0 after an
+/// error.
 fn pass<W: Write>(out: &mut W, b: &[u8]) -> usize
     ensures most { result ≤ length b.now }
     ensures handed { 0 < result → Appends (W.contents out.old) (W.contents out.new) (take result b.now) }

@@ -1,4 +1,4 @@
-//! The lists that the shelf and the sink in memory are made of.
+//! The lists that a shelf and a sink in memory are made of.
 
 ghost use Rattle.std.specs.Prelude.{◌≡◌, None, Some, MatchOption};
 ghost use Rattle.fond_edge.specs.Calls.{is_listed};
@@ -9,10 +9,10 @@ use fond_text::bytes::Bytes;
 use fond_text::list::List;
 use fond_text::word::Word;
 
-/// Files, of which the first of a name counts.
+/// Files. If two have the same name, the first one counts.
 pub type ShelfFiles = List<ShelfFile>;
 
-/// The numbers of some calls of one object, of which the first is 0.
+/// Numbers of calls on one object, counted from 0.
 pub type Calls = List<u64>;
 
 /// The bytes of the first file of this name.

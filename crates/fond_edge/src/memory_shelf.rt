@@ -13,7 +13,7 @@ use fond_text::word::Word;
 use std::alloc::Global;
 use std::marker::Model;
 
-/// A list of files, of which the first of a name counts, and the numbers of the calls that fail.
+/// A list of files, of which the first of a name counts, and the numbers of the calls that are to fail.
 #[derive(Drop)]
 pub struct MemoryShelf {
     files: ShelfFiles,
@@ -36,7 +36,7 @@ impl Model for MemoryShelf {
 }
 
 impl MemoryShelf {
-    /// A shelf that has had no call. Takes no memory.
+    /// A shelf before its first call. It takes no memory.
     pub fn new(files: ShelfFiles, failing: Calls) -> MemoryShelf
         ensures { result ≡ record { files = files; failing = failing; calls = 0; faults = 0 } }
     {
@@ -48,7 +48,7 @@ impl MemoryShelf {
         }
     }
 
-    /// Counts a call, and a fault where the call is listed. Says whether it is.
+    /// Counts a call, and a fault if the call is one of those that fail. Returns whether it is.
     fn count(&mut self) -> bool
         ensures listed { result ≡ fails_next self.old }
         ensures counted { self.old.faults ≤ self.new.faults }
@@ -63,7 +63,7 @@ impl MemoryShelf {
     }
 }
 
-/// Appends these bytes, or leaves `into` as it was.
+/// Appends these bytes, or leaves `into` unchanged.
 fn append(bytes: &Bytes, into: &mut Vec<u8>) -> Result<(), FetchFault>
     ensures ok { OnOk result (into.new.items ≡ into.old.items ++ bytes.now) }
     ensures err { OnErr result (into.new.items ≡ into.old.items) }

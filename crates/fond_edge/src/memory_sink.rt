@@ -12,8 +12,8 @@ use fond_text::fault::NoMemory;
 use std::alloc::Global;
 use std::marker::Model;
 
-/// Room for a number of bytes, which is taken from memory when the sink is made. A write takes one piece at
-/// most, and fails where its number is listed or where it is not empty and no room is left.
+/// A buffer of fixed room, allocated when the sink is made. A write takes at most one piece. It fails if its number
+/// is listed, or if it has bytes and no room is left.
 #[derive(Drop)]
 pub struct MemorySink {
     written: Vec<u8>,
@@ -43,7 +43,7 @@ impl Model for MemorySink {
 }
 
 impl MemorySink {
-    /// A sink that has had no call, with room for this many bytes, of which a write takes one piece at most.
+    /// A sink before its first call, with room for this many bytes, of which a write takes at most one piece.
     pub fn new(
         alloc: Global,
         room: usize,
@@ -70,7 +70,7 @@ impl MemorySink {
         })
     }
 
-    /// All that was written.
+    /// The bytes written so far.
     pub fn bytes(&self) -> &[u8]
         ensures { result.now ≡ self.now.written }
     {

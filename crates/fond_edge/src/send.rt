@@ -1,4 +1,4 @@
-//! Writing all of some bytes to a sink.
+//! Writing all bytes to a sink.
 
 ghost use Rattle.std.specs.Prelude.{◌≤◌, OnOk, OnErr};
 ghost use Rattle.fond_edge.specs.Faults.{Rose};
@@ -6,11 +6,11 @@ ghost use Rattle.fond_edge.specs.Written.{Appended, AppendedPart};
 
 use crate::sink::Sink;
 
-/// Not all of the bytes were written.
+/// Only a proper prefix of the bytes was written.
 #[derive(Clone, Copy, Debug, PartialEq, Eq)]
 pub struct WriteFault;
 
-/// Writes all the bytes, or meets a fault behind a proper prefix of them.
+/// Writes all the bytes, or fails after a proper prefix of them.
 pub fn send<K: Sink>(sink: &mut K, b: &[u8]) -> Result<(), WriteFault>
     ensures ok { OnOk result (Appended (K.written sink.old) (K.written sink.new) b.now) }
     ensures part { OnErr result (AppendedPart (K.written sink.old) (K.written sink.new) b.now) }

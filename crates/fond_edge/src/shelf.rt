@@ -1,4 +1,4 @@
-//! Where files come from.
+//! The source of files.
 
 ghost use Rattle.std.specs.Prelude.{◌≡◌, ℕ, ◌⊎◌, ◌≤◌, List, ◌++◌, Option, Some, None, OnOk, OnErr, IsErrOf, IfSome, IsSomeAnd};
 ghost use Rattle.fond_edge.specs.Faults.{Rose};
@@ -14,25 +14,25 @@ pub struct ShelfFile {
     pub bytes: Bytes,
 }
 
-/// Why a file was not fetched.
+/// Why a file could not be fetched.
 #[derive(Clone, Copy, Debug, PartialEq, Eq)]
 pub enum FetchFault {
     Failed,
     NoMemory,
 }
 
-/// Gives files by their names.
+/// A source of files, found by name.
 pub trait Shelf {
     ghost use Rattle.fond_edge.specs.declared.shelf.ShelfFile.{ShelfFile};
     ghost use Rattle.fond_edge.specs.Files.{file_of};
 
-    /// The files that it holds, or none where it does not tell.
+    /// The files that it holds, or `None` if it cannot tell.
     ghost held: { Self → Option (List ShelfFile) };
 
-    /// How many faults it has met, up to the last value of a counter.
+    /// The number of faults so far; the count saturates at 2^64 - 1.
     ghost faults: { Self → ℕ };
 
-    /// Appends the whole file of this name, or leaves `into` as it was.
+    /// Appends the whole file of this name, or leaves `into` unchanged.
     fn fetch(&mut self, alloc: Global, name: &Word, into: &mut Vec<u8>) -> Result<(), FetchFault>
         ensures kept { held self.new ≡ held self.old }
         ensures counted { faults self.old ≤ faults self.new }

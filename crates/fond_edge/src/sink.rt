@@ -1,23 +1,23 @@
-//! Where text goes.
+//! The destination of text.
 
 ghost use Rattle.std.specs.Prelude.{◌≡◌, ℕ, ◌<◌, ◌≤◌, List, Option, length, take, IfOk, OnErr};
 ghost use Rattle.fond_edge.specs.Faults.{Rose};
 
-/// A write was refused, and nothing of it was written.
+/// A write failed, and none of its bytes were written.
 #[derive(Clone, Copy, Debug, PartialEq, Eq)]
 pub struct Failed;
 
-/// Takes bytes, in pieces of its own choice.
+/// A destination of bytes, which takes them in pieces of its own choice.
 pub trait Sink {
     ghost use Rattle.fond_edge.specs.Written.{Appended};
 
-    /// What was written to it, or none where it does not tell.
+    /// The bytes written to it so far, or `None` if it cannot tell.
     ghost written: { Self → Option (List ℕ) };
 
-    /// How many faults it has met, up to the last value of a counter.
+    /// The number of faults so far; the count saturates at 2^64 - 1.
     ghost faults: { Self → ℕ };
 
-    /// Appends a front of these bytes and says how long it is.
+    /// Writes a prefix of the bytes and returns its length, which is positive unless there are none.
     fn write(&mut self, b: &[u8]) -> Result<usize, Failed>
         ensures most { IfOk result (λ n. n ≤ length b.now) }
         ensures some { IfOk result (λ n. 0 < length b.now → 0 < n) }

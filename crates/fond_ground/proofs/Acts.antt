@@ -1,4 +1,4 @@
--- What stands for what in the middle of a loop, and tables in place of a task.
+-- One more step of the loops that build lists place by place.
 use Rattle.std.proofs.Common.{◌≡◌, ℕ, suc, zero, ◌+◌, add-one, ◌<◌, ◌∙◌, cond, Bool, true, false, List, [], ◌∷◌, ◌++◌, Option, Some, None, length, get_or, slice_get, replicate, drop, map, filter, refl, sym, ap, subst, arith}
 use Rattle.std.specs.List.{enumerate_from}
 use Rattle.std.proofs.lemmas.List.{append_assoc, append-nil}
@@ -11,24 +11,11 @@ use Rattle.fond_ast.specs.declared.task.LSchema.{LSchema}
 use Rattle.fond_ast.specs.declared.task.LiftedTask.{LiftedTask}
 use Rattle.fond_meaning.specs.Successors.{atom_of_number}
 use Rattle.fond_ground.specs.Numbers.{is_initial, fluent_numbers}
-use Rattle.fond_ground.specs.Values.{condition_value, condition_value_step, known_value}
+use Rattle.fond_ground.specs.Values.{condition_value}
 use Rattle.fond_ground.specs.Grounds.{is_kept, AreActsOf}
-use Rattle.fond_ground.specs.Tables.{table_value, table_step, IsTableOf}
 use Rattle.fond_ground.proofs.Forms.{drop_more, may}
 
-step_same : (task : LiftedTask) (numbers : List (Option ℕ)) (start : List Bool) → IsTableOf task numbers start → (cube : List (Option Bool)) (layer : LCond-F Kleene) → table_step numbers start cube layer ≡ condition_value_step task cube layer
-step_same task numbers start table cube Truth = refl
-step_same task numbers start table cube (Holds atom) = λ i. known_value (table.numbered atom.predicate i) (table.initial atom.predicate i) cube
-step_same task numbers start table cube (And parts) = refl
-step_same task numbers start table cube (Or parts) = refl
-step_same task numbers start table cube (Not part) = refl
-step_same task numbers start table cube (Imply part other) = refl
-
--- a table gives the values that its task gives
-pub value_same : (task : LiftedTask) (numbers : List (Option ℕ)) (start : List Bool) → IsTableOf task numbers start → (cube : List (Option Bool)) (condition : LCond) → table_value numbers start cube condition ≡ condition_value task cube condition
-value_same task numbers start table cube condition = λ i. fold-LCond Kleene (λ layer. step_same task numbers start table cube layer i) condition
-
--- one more element stands for one more
+-- one more pair of items
 pub more-stand : {A B : Type 0} (R : List A → List B → Type 0) (xs : List A) (i : ℕ) (x : A) (es next : List B) (e : B) → i < length xs → x ≡ get_or xs i x → next ≡ es ++ e ∷ []
     → ((rest : List B) → R (drop (i + 1) xs) rest → R (x ∷ drop (i + 1) xs) (e ∷ rest))
     → ((rest : List B) → R (drop i xs) rest → R xs (es ++ rest)) → (rest : List B) → R (drop (i + 1) xs) rest → R xs (next ++ rest)
@@ -38,10 +25,9 @@ more-stand R xs i x es next e lt at made step before rest r =
 pub all-stand : {A B : Type 0} (R : List A → List B → Type 0) (xs : List A) (i : ℕ) (es : List B) → drop i xs ≡ [] → R [] [] → ((rest : List B) → R (drop i xs) rest → R xs (es ++ rest)) → R xs es
 all-stand R xs i es none here before = subst (R xs) (append-nil es) (before [] (subst (λ w. R w []) (sym none) here))
 
--- whether a schema is kept, by a table
-pub kept_same : (task : LiftedTask) (numbers : List (Option ℕ)) (start : List Bool) → IsTableOf task numbers start → (schema : LSchema) (answer : Bool) → ((count : ℕ) → answer ≡ may (table_value numbers start (replicate count None) schema.pre)) → is_kept task schema ≡ answer
-kept_same task numbers start table schema answer h =
-    sym (h (length (fluent_numbers task)) ∙ ap may (value_same task numbers start table (replicate (length (fluent_numbers task)) None) schema.pre))
+-- whether a schema is kept
+pub kept_same : (task : LiftedTask) (schema : LSchema) (answer : Bool) → ((count : ℕ) → answer ≡ may (condition_value task (replicate count None) schema.pre)) → is_kept task schema ≡ answer
+kept_same task schema answer h = sym (h (length (fluent_numbers task)))
 
 -- the actions of one schema and those of others
 pub acts_join : (task : LiftedTask) (b : Bool) (item : ℕ × LSchema) (items : List (ℕ × LSchema)) (more rest : List Act) → AreActsOf task (cond b (item ∷ []) []) more → AreActsOf task items rest → AreActsOf task (cond b (item ∷ items) items) (more ++ rest)
@@ -70,9 +56,10 @@ acts-more task i schema acts next h one before rest r =
     subst (AreActsOf task all) (sym (ap (λ w. w ++ rest) one.1 ∙ append_assoc acts one.0 rest))
     (before (one.0 ++ rest) (subst (λ w. AreActsOf task (filter K w) (one.0 ++ rest)) (sym (enumerate_split task.schemas i i schema h)) joined))
 
-pub init_same : (task : LiftedTask) (numbers : List (Option ℕ)) (start : List Bool) → IsTableOf task numbers start → (ns : List ℕ) → map (λ atom. get_or start atom.predicate false) (map atom_of_number ns) ≡ map (is_initial task) ns
-init_same task numbers start table [] = refl
-init_same task numbers start table (n ∷ ns) = λ i. table.initial n i ∷ init_same task numbers start table ns i
+-- the initial values of atoms are those of their predicates
+pub init_same : (task : LiftedTask) (ns : List ℕ) → map (λ atom. is_initial task atom.predicate) (map atom_of_number ns) ≡ map (is_initial task) ns
+init_same task [] = refl
+init_same task (n ∷ ns) = ap (λ rest. is_initial task n ∷ rest) (init_same task ns)
 
 mapped_split : {A B : Type 0} (f : A → B) (xs : List A) (i : ℕ) (x : A) → slice_get xs i ≡ Some x → map f (drop i xs) ≡ f x ∷ map f (drop (suc i) xs)
 mapped_split f [] zero x h = absurd (cc)

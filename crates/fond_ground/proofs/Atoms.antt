@@ -1,14 +1,16 @@
--- The numbers of atoms, the atoms, and their first values, as far as a loop has come.
+-- The atoms of predicates, their numbers and their initial values, as far as a loop has come.
 use Rattle.std.proofs.Common.{◌≡◌, ◌≢◌, ℕ, suc, zero, ◌+◌, add-one, ◌<◌, ◌≤◌, ◌∙◌, ◌&&◌, ◌||◌, cond, Bool, true, false, List, [], ◌∷◌, ◌++◌, Option, Some, None, length, get_or, set, slice_get, replicate, drop, map, filter, refl, sym, ap, subst, arith, nat_lt}
 use Rattle.std.specs.Prelude.{◌==◌, if◌then◌else◌}
 use Rattle.std.specs.List.{list_all, list_any, enumerate_from}
 use Rattle.std.specs.List.{position_from}
-use Rattle.std.proofs.lemmas.List.{append_assoc, get_or-set_same, get_or-set_other}
+use Rattle.std.proofs.lemmas.List.{append_assoc, length-map, get_or-set_same, get_or-set_other}
 use Rattle.std.proofs.lemmas.Bool.Decides.{nat_tests}
 use Rattle.fond_text.specs.declared.atom.Atom.{Atom}
 use Rattle.fond_ast.specs.declared.task.LPredicate.{LPredicate}
+use Rattle.fond_ast.specs.declared.task.LiftedTask.{LiftedTask}
 use Rattle.fond_ast.specs.Within.{is_atom_within}
 use Rattle.fond_meaning.specs.Successors.{atom_of_number}
+use Rattle.fond_ground.specs.Numbers.{fluent_atoms}
 use Rattle.fond_ground.specs.Tables.{numbered, counted, numbers_from}
 
 -- the numbers of the fluent ones of predicates that are numbered from this one on
@@ -160,3 +162,18 @@ values_same f (x ∷ xs) (y ∷ ys) e h = λ i. h 0 (omega arith) i ∷ values_s
 pub values-put : (values : List Bool) (i k : ℕ) (v : Bool) (other : List Bool) → i < length values → v ≡ get_or other i false → ((j : ℕ) → j < i → get_or values j false ≡ get_or other j false) → k < i + 1 → (b : Bool) → (i == k) ≡ b → get_or (set values i v) k false ≡ get_or other k false
 values-put values i k v other lt e h le true t = let same : i ≡ k = grind (arith, nat_tests) in subst (λ m. get_or (set values i v) m false ≡ get_or other m false) same (get_or-set_same values i v false lt ∙ e)
 values-put values i k v other lt e h le false t = let apart : k ≢ i = grind (arith, nat_tests) in rw get_or-set_other (h k (omega arith))
+
+one_more_at_most : (b : Bool) (item : ℕ × LPredicate) (items : List (ℕ × LPredicate)) → length (map (λ (one : ℕ × LPredicate). one.0) (cond b (item ∷ items) items)) ≤ 1 + length (map (λ (one : ℕ × LPredicate). one.0) items)
+one_more_at_most true item items = omega arith
+one_more_at_most false item items = omega arith
+
+few_in : (ps : List LPredicate) (from : ℕ) → length (fluents from ps) ≤ length ps
+few_in [] from = omega arith
+few_in (p ∷ ps) from =
+    let rest = few_in ps (from + 1) in
+    let one = one_more_at_most p.fluent (from, p) (filter (λ item. item.1.fluent) (enumerate_from (from + 1) ps)) in
+    omega (arith, rest, one)
+
+-- there are no more fluent atoms than predicates
+pub few_fluent : (task : LiftedTask) → length (fluent_atoms task) ≤ length task.predicates
+few_fluent task = rw length-map (few_in task.predicates 0)

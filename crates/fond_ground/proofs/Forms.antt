@@ -1,4 +1,4 @@
--- Values of conditions by tables, and how a loop over members goes on.
+-- Values of conditions if no fluent atom is known, and one more step of a loop over members.
 use Rattle.std.proofs.Common.{◌≡◌, ℕ, suc, zero, ◌+◌, add-one, ◌<◌, ◌∙◌, Bool, true, false, not, List, [], ◌∷◌, ◌++◌, Option, Some, None, length, get_or, replicate, drop, map, refl, sym, ap}
 use Rattle.std.proofs.lemmas.List.{map-append, append_assoc}
 use Rattle.std.proofs.Math.Seq.{drop-cons}
@@ -9,8 +9,9 @@ use Rattle.fond_ast.specs.declared.form.LCond.{LCond}
 use Rattle.fond_ast.specs.declared.form.LCond.TheOpen.{LCond-F, Truth, Holds, And, Or, Not, Imply}
 use Rattle.fond_ast.specs.declared.form.LCond.TheFolds.{fold-LCond}
 use Rattle.fond_ground.specs.Grounds.{is_no}
-use Rattle.fond_ground.specs.Values.{known_value}
-use Rattle.fond_ground.specs.Tables.{table_value, table_step}
+use Rattle.fond_ast.specs.declared.task.LiftedTask.{LiftedTask}
+use Rattle.fond_ground.specs.Numbers.{atom_number, is_initial}
+use Rattle.fond_ground.specs.Values.{condition_value, condition_value_step, known_value}
 
 pub drop_more : {X : Type 0} (xs : List X) (i : ℕ) (x : X) → i < length xs → x ≡ get_or xs i x → drop i xs ≡ x ∷ drop (i + 1) xs
 drop_more xs i x lt at = rw add-one (drop-cons xs i x lt ∙ ap (λ y. y ∷ drop (suc i) xs) (sym at))
@@ -42,14 +43,14 @@ known-open : (number : Option ℕ) (initial : Bool) (count : ℕ) → known_valu
 known-open None initial count = refl
 known-open (Some number) initial count = ap (λ l. literal_value l true) (unknown_at zero number ∙ sym (unknown_at count number))
 
-open_step : (numbers : List (Option ℕ)) (start : List Bool) (count : ℕ) (layer : LCond-F Kleene) → table_step numbers start [] layer ≡ table_step numbers start (replicate count None) layer
-open_step numbers start count Truth = refl
-open_step numbers start count (Holds atom) = known-open (get_or numbers atom.predicate None) (get_or start atom.predicate false) count
-open_step numbers start count (And parts) = refl
-open_step numbers start count (Or parts) = refl
-open_step numbers start count (Not part) = refl
-open_step numbers start count (Imply part other) = refl
+open_step : (task : LiftedTask) (count : ℕ) (layer : LCond-F Kleene) → condition_value_step task [] layer ≡ condition_value_step task (replicate count None) layer
+open_step task count Truth = refl
+open_step task count (Holds atom) = known-open (atom_number task atom.predicate) (is_initial task atom.predicate) count
+open_step task count (And parts) = refl
+open_step task count (Or parts) = refl
+open_step task count (Not part) = refl
+open_step task count (Imply part other) = refl
 
 -- a cube that knows no atom gives each condition the value that the cube over no atom gives it
-pub open_same : (numbers : List (Option ℕ)) (start : List Bool) (count : ℕ) (condition : LCond) → table_value numbers start [] condition ≡ table_value numbers start (replicate count None) condition
-open_same numbers start count condition = λ i. fold-LCond Kleene (λ layer. open_step numbers start count layer i) condition
+pub open_same : (task : LiftedTask) (count : ℕ) (condition : LCond) → condition_value task [] condition ≡ condition_value task (replicate count None) condition
+open_same task count condition = λ i. fold-LCond Kleene (λ layer. open_step task count layer i) condition

@@ -28,7 +28,7 @@ map_same : (lists : List (List Literal)) → map (λ behind. [] ++ behind) lists
 map_same [] = refl
 map_same (c ∷ cs) = ap (λ w. c ∷ w) (map_same cs)
 
--- no literal before a list of outcomes, and none behind it
+-- joining the outcome without literals to a list of outcomes, before it or after it
 pub pairs-first : (lists : List (List Literal)) → pairs ([] ∷ []) lists ≡ lists
 pairs-first lists = append-nil _ ∙ map_same lists
 

@@ -1,6 +1,6 @@
 -- The ground task of a task without objects.
 use Rattle.std.specs.Prelude.{◌≡◌, ℕ, Bool, true, false, not, List, [], ◌∷◌, None, map, filter, length, replicate}
-use Rattle.std.specs.List.{enumerate_from}
+use Rattle.std.specs.List.{enumerate_from, AllZip}
 use Rattle.fond_task.specs.declared.form.Kleene.{Kleene}
 use Rattle.fond_task.specs.declared.form.Kleene.TheVariants.{No, Unknown, Yes}
 use Rattle.fond_task.specs.declared.task.Act.{Act}
@@ -14,29 +14,24 @@ use Rattle.fond_ground.specs.Outcomes.{outcome_lists, AreOutcomesOf}
 -- whether a value is No
 abbrev pub is_no : Kleene → Bool
 is_no No = true
-is_no Unknown = false
-is_no Yes = false
+is_no value = false
 
--- an action is kept where its precondition is not surely false, with all fluent atoms unknown
+-- a schema gives an action unless its precondition is surely false with all fluent atoms unknown
 abbrev pub is_kept : LiftedTask → LSchema → Bool
 is_kept task schema = not (is_no (condition_value task (replicate (length (fluent_numbers task)) None) schema.pre))
 
--- a ground action is that of the schema of this number: its condition, its outcomes, and whether it is unfair
+-- a ground action stands for the schema of this number: it has its name, precondition, outcomes, and fairness
 pub record IsActOf (task : LiftedTask) (number : ℕ) (schema : LSchema) (act : Act) : Type 0 where
   pub named : act.ground ≡ record { schema = number; objects = [] }
   pub pre : StandsFor task schema.pre act.pre
   pub unfair : act.unfair ≡ schema.unfair
   pub outcomes : AreOutcomesOf task (outcome_lists schema.effect) act.outcomes
 
--- ground actions are those of numbered schemas, in order
+-- ground actions stand for numbered schemas, place by place
 abbrev pub AreActsOf : LiftedTask → List (ℕ × LSchema) → List Act → Type 0
-AreActsOf task [] [] = Unit {0}
-AreActsOf task [] (act ∷ acts) = ⊥
-AreActsOf task (item ∷ items) [] = ⊥
-AreActsOf task (item ∷ items) (act ∷ acts) = IsActOf task item.0 item.1 act × AreActsOf task items acts
+AreActsOf task = AllZip (λ item. IsActOf task item.0 item.1)
 
--- the ground task has the fluent atoms, the kept actions, the initial atoms and the goal of the task, and its
--- names
+-- a ground task stands for a task: it has its fluent atoms, kept actions, initial state, goal and names
 pub record IsGroundOf (task : LiftedTask) (ground : Task) : Type 0 where
   pub atoms : ground.atoms ≡ fluent_atoms task
   pub acts : AreActsOf task (filter (λ item. is_kept task item.1) (enumerate_from 0 task.schemas)) ground.acts

@@ -1,4 +1,4 @@
--- The fluent atoms of a task without objects, by number, and what is fixed about the others.
+-- The fluent atoms of a task without objects and their numbers, and the initial values of all atoms.
 use Rattle.std.specs.Prelude.{ℕ, ◌==◌, Bool, List, Option, map, filter, position}
 use Rattle.std.specs.List.{list_any, enumerate_from}
 use Rattle.fond_text.specs.declared.atom.Atom.{Atom}
@@ -13,10 +13,10 @@ fluent_numbers task = map (λ item. item.0) (filter (λ item. item.1.fluent) (en
 abbrev pub fluent_atoms : LiftedTask → List Atom
 fluent_atoms task = map atom_of_number (fluent_numbers task)
 
--- the number of the atom of a fluent predicate among these, and none of another predicate
+-- the number of the atom of a predicate among the fluent atoms, if the predicate is fluent
 abbrev pub atom_number : LiftedTask → ℕ → Option ℕ
 atom_number task predicate = position (λ number. number == predicate) (fluent_numbers task)
 
--- whether the atom of a predicate is true at first
+-- whether the atom of a predicate is true initially
 abbrev pub is_initial : LiftedTask → ℕ → Bool
 is_initial task predicate = list_any (λ atom. atom.predicate == predicate) task.init

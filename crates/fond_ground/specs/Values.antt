@@ -1,4 +1,4 @@
--- The three-valued value of written conditions on a cube over the fluent atoms.
+-- The three-valued value of a condition on a cube over the fluent atoms.
 use Rattle.std.specs.Prelude.{◌≡◌, ℕ, Bool, true, List, Option, Some, None, if◌then◌else◌}
 use Rattle.fond_state.specs.Cubes.{literal_at}
 use Rattle.fond_task.specs.declared.form.Form.{Form}
@@ -11,7 +11,7 @@ use Rattle.fond_ast.specs.declared.form.LCond.TheFolds.{fold-LCond}
 use Rattle.fond_ast.specs.declared.task.LiftedTask.{LiftedTask}
 use Rattle.fond_ground.specs.Numbers.{atom_number, is_initial}
 
--- a fluent atom has the value that the cube gives it, and a static one that of its truth at first
+-- the value of an atom on a cube: a fluent atom has the value that the cube gives it, a static atom its initial value
 abbrev pub known_value : Option ℕ → Bool → List (Option Bool) → Kleene
 known_value None initial cube = if initial then Yes else No
 known_value (Some number) initial cube = literal_value (literal_at cube number) true
@@ -30,11 +30,11 @@ condition_value_step task cube (Or parts) = greatest parts.items
 condition_value_step task cube (Not part) = opposite part.value
 condition_value_step task cube (Imply part other) = greater (opposite part.value) other.value
 
--- the value of a written condition on a cube: a conjunction is the least of its parts, a disjunction the greatest, a
+-- the value of a condition on a cube: a conjunction has the least value of its parts, a disjunction the greatest, a
 -- negation the opposite of its part, and an implication the greater of the opposite of its first part and its second
 abbrev pub condition_value : LiftedTask → List (Option Bool) → LCond → Kleene
 condition_value task cube = fold-LCond Kleene (condition_value_step task cube)
 
--- a form stands for a written condition where they have one value on every cube
+-- a ground condition stands for a condition if both have the same value on every cube
 abbrev pub StandsFor : LiftedTask → LCond → Form → Type 0
 StandsFor task condition form = (cube : List (Option Bool)) → value cube form ≡ condition_value task cube condition

@@ -1,17 +1,14 @@
 //! The ground task.
 
 ghost use Rattle.fond_ground.specs.Grounds.{IsGroundOf};
-ghost use Rattle.fond_ground.specs.Numbers.{fluent_atoms as all_atoms};
-ghost use Rattle.fond_ground.specs.Tables.{IsTableOf};
 ghost use Rattle.std.specs.Prelude.{◌≡◌, [], map, IfOk};
 
 use crate::act::acts_of;
-use crate::table::{atom_numbers, first_state, fluent_atoms, start_values};
+use crate::table::{Table, first_state, fluent_atoms};
 use crate::value::form_of;
 use fond_ast::task::LiftedTask;
 use fond_task::task::{Labels, Task};
 use fond_text::fault::NoMemory;
-use fond_text::atom::Atoms;
 use fond_text::name::Names;
 use std::alloc::Global;
 
@@ -51,39 +48,20 @@ fn labels_of(alloc: Global, task: &LiftedTask) -> Result<Labels, NoMemory>
     })
 }
 
-/// The ground task, by the tables of its predicates.
-fn ground_by(
-    alloc: Global,
-    task: &LiftedTask,
-    atoms: Atoms,
-    numbers: &[Option<u32>],
-    start: &[bool],
-) -> Result<Task, NoMemory>
-    requires table { IsTableOf task.now numbers.now start.now }
-    requires named { atoms ≡ all_atoms task.now }
+/// The ground task of a task. Takes time and memory proportional to the sizes of the task and of the outcomes of
+/// its effects. If an effect has a literal of a static predicate, which no task that was read has, the call reports that
+/// memory ran out.
+pub fn ground(alloc: Global, task: &LiftedTask) -> Result<Task, NoMemory>
     ensures { IfOk result (IsGroundOf task.now) }
 {
-    if atoms.len() >= 1 << 32 || task.schemas.len() >= 1 << 32 {
-        return Err(NoMemory);
-    }
-    let init = first_state(alloc, &atoms, start)?;
-    let acts = acts_of(alloc, numbers, start, task)?;
-    let goal = form_of(alloc, numbers, start, &task.goal)?;
+    let table = Table::of(alloc, task)?;
+    let atoms = fluent_atoms(alloc, task)?;
+    let init = first_state(alloc, &table, &atoms)?;
+    let acts = acts_of(alloc, &table)?;
+    let goal = form_of(alloc, &table, &task.goal)?;
     let labels = labels_of(alloc, task)?;
     match Task::of_parts(atoms, acts, init, goal, labels) {
         Some(ground) => Ok(ground),
         None => Err(NoMemory),
     }
-}
-
-/// The ground task of a task. Takes time and memory by the sizes of the task and of the outcomes of its
-/// effects. Where there are 2^32 atoms or schemas, or an effect holds a literal of a predicate that is not
-/// fluent, which no task that was read does, the answer is a refusal.
-pub fn ground(alloc: Global, task: &LiftedTask) -> Result<Task, NoMemory>
-    ensures { IfOk result (IsGroundOf task.now) }
-{
-    let atoms = fluent_atoms(alloc, task)?;
-    let numbers = atom_numbers(alloc, task)?;
-    let start = start_values(alloc, task)?;
-    ground_by(alloc, task, atoms, &numbers, &start)
 }

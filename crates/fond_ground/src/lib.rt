@@ -1,4 +1,5 @@
-//! From a task to its ground task. So far tasks without objects are grounded.
+//! From a task to its ground task: fluent atoms, kept actions with their outcomes, the initial state and the goal. So
+//! far only tasks without objects are grounded.
 #![tactic(auto)]
 
 mod act;

@@ -1,25 +1,70 @@
-//! The atoms, their numbers, and their first values.
+//! The atom of each predicate: its number in the ground task and its initial truth value.
 
 ghost use Rattle.fond_ground.specs.Numbers.{fluent_atoms as all_atoms, atom_number, is_initial as is_true_first};
 ghost use Rattle.fond_ground.specs.Tables.{numbered as numbered_by, counted as counted_by};
 ghost use Rattle.fond_meaning.specs.Successors.{atom_of_number};
 ghost use Rattle.std.specs.Prelude.{◌≡◌, ◌+◌, ◌<◌, ◌^◌, ◌++◌, ◌∷◌, [], ℕ, false, None, map, length, slice_index_or, if◌then◌else◌, IfOk, OnOk};
 
-use crate::value::is_initial;
 use fond_ast::task::LiftedTask;
 use fond_state::state::State;
-use fond_text::fault::NoMemory;
 use fond_text::atom::{Atom, Atoms, Objects};
+use fond_text::fault::NoMemory;
 use std::alloc::Global;
 
-/// The number of the next atom, where the predicate is fluent.
+/// A task with the number and the initial value of each predicate's atom. An atom has a number if its predicate is
+/// fluent.
+#[derive(Drop)]
+pub(crate) struct Table<'a> {
+    pub(crate) task: &'a LiftedTask,
+    numbers: Vec<Option<u32>>,
+    values: Vec<bool>,
+    ghost numbered: { (predicate : ℕ) → slice_index_or numbers.items predicate None ≡ atom_number task.now predicate },
+    ghost initial: { (predicate : ℕ) → slice_index_or values.items predicate false ≡ is_true_first task.now predicate },
+}
+
+impl<'a> Table<'a> {
+    /// The table of a task. Takes time and memory proportional to its predicates and initial atoms.
+    pub(crate) fn of(alloc: Global, task: &'a LiftedTask) -> Result<Table<'a>, NoMemory>
+        ensures { IfOk result (λ table. table.task.now ≡ task.now) }
+    {
+        let numbers = atom_numbers(alloc, task)?;
+        let values = initial_values(alloc, task)?;
+        Ok(Table {
+            task,
+            numbers,
+            values,
+        })
+    }
+
+    /// The number of a predicate's atom, if the predicate is fluent.
+    pub(crate) fn number(&self, predicate: u32) -> Option<u32>
+        ensures { result ≡ atom_number self.now.task.now predicate }
+    {
+        match self.numbers.get(predicate as usize) {
+            Some(number) => *number,
+            None => None,
+        }
+    }
+
+    /// Whether a predicate's atom is true initially.
+    pub(crate) fn is_initial(&self, predicate: u32) -> bool
+        ensures { result ≡ is_true_first self.now.task.now predicate }
+    {
+        self.values
+            .get(predicate as usize)
+            .copied()
+            .unwrap_or(false)
+    }
+}
+
+/// The number of the next atom, if its predicate is fluent.
 fn numbered(fluent: bool, count: u32) -> Option<u32>
     ensures { result ≡ numbered_by fluent count }
 {
     if fluent { Some(count) } else { None }
 }
 
-/// How many atoms there are after the predicate.
+/// The number of atoms after a predicate.
 fn counted(fluent: bool, count: u32) -> u32
     requires { count + 1 < 2 ^ 32 }
     ensures { result ≡ counted_by fluent count }
@@ -28,7 +73,7 @@ fn counted(fluent: bool, count: u32) -> u32
 }
 
 /// The number of the atom of each fluent predicate.
-pub(crate) fn atom_numbers(alloc: Global, task: &LiftedTask) -> Result<Vec<Option<u32>>, NoMemory>
+fn atom_numbers(alloc: Global, task: &LiftedTask) -> Result<Vec<Option<u32>>, NoMemory>
     ensures { IfOk result (λ v. (predicate : ℕ) → slice_index_or v.items predicate None ≡ atom_number task.now predicate) }
 {
     let mut numbers = Vec::with_capacity(alloc, task.predicates.len())?;
@@ -41,7 +86,7 @@ pub(crate) fn atom_numbers(alloc: Global, task: &LiftedTask) -> Result<Vec<Optio
     Ok(numbers)
 }
 
-/// Puts the atom of a predicate at the end where it is fluent.
+/// Appends the atom of a predicate if the predicate is fluent.
 fn put_atom(alloc: Global, atoms: &mut Atoms, predicate: u32, fluent: bool) -> Result<(), NoMemory>
     ensures { OnOk result (atoms.new ≡ atoms.old ++ (if fluent then atom_of_number predicate ∷ [] else [])) }
 {
@@ -56,7 +101,8 @@ fn put_atom(alloc: Global, atoms: &mut Atoms, predicate: u32, fluent: bool) -> R
 
 /// The atoms of the fluent predicates, in order.
 pub(crate) fn fluent_atoms(alloc: Global, task: &LiftedTask) -> Result<Atoms, NoMemory>
-    ensures { IfOk result (λ atoms. atoms ≡ all_atoms task.now) }
+    ensures named { IfOk result (λ atoms. atoms ≡ all_atoms task.now) }
+    ensures few { IfOk result (λ atoms. length atoms < 2 ^ 32) }
 {
     let mut atoms = Atoms::new(alloc);
     for i in 0..task.predicates.len() {
@@ -65,8 +111,8 @@ pub(crate) fn fluent_atoms(alloc: Global, task: &LiftedTask) -> Result<Atoms, No
     Ok(atoms)
 }
 
-/// Whether the atom of each predicate is true at first.
-pub(crate) fn start_values(alloc: Global, task: &LiftedTask) -> Result<Vec<bool>, NoMemory>
+/// Whether the atom of each predicate is true initially.
+fn initial_values(alloc: Global, task: &LiftedTask) -> Result<Vec<bool>, NoMemory>
     ensures { IfOk result (λ v. (predicate : ℕ) → slice_index_or v.items predicate false ≡ is_true_first task.now predicate) }
 {
     let mut values = vec![in alloc; false; task.predicates.len()]?;
@@ -77,14 +123,14 @@ pub(crate) fn start_values(alloc: Global, task: &LiftedTask) -> Result<Vec<bool>
     Ok(values)
 }
 
-/// The first state: the values of the atoms, in order.
-pub(crate) fn first_state(alloc: Global, atoms: &Atoms, start: &[bool]) -> Result<State, NoMemory>
+/// The initial state: the initial values of these atoms, in order.
+pub(crate) fn first_state(alloc: Global, table: &Table, atoms: &Atoms) -> Result<State, NoMemory>
     requires { length atoms.now < 2 ^ 32 }
-    ensures { IfOk result (λ state. state ≡ map (λ atom. slice_index_or start.now atom.predicate false) atoms.now) }
+    ensures { IfOk result (λ state. state ≡ map (λ atom. is_true_first table.now.task.now atom.predicate) atoms.now) }
 {
     let mut state = State::new(alloc, atoms.len() as u32)?;
     for i in 0..atoms.len() {
-        state.set(i as u32, is_initial(start, atoms.get(i).predicate));
+        state.set(i as u32, table.is_initial(atoms.get(i).predicate));
     }
     Ok(state)
 }

@@ -1,45 +1,29 @@
 //! Ground conditions, and whether an action is kept.
 
 ghost use Rattle.fond_ground.specs.Grounds.{is_no};
+ghost use Rattle.fond_ground.specs.Numbers.{atom_number, is_initial as is_true_first};
 ghost use Rattle.fond_ground.specs.Signs.{signed, joined_value};
-ghost use Rattle.fond_ground.specs.Tables.{table_value};
-ghost use Rattle.fond_ground.specs.Values.{known_value, opposite as opposite_of};
+ghost use Rattle.fond_ground.specs.Values.{condition_value, known_value, opposite as opposite_of};
 ghost use Rattle.fond_task.specs.Values.{value, least, greatest, lesser as lesser_of, greater as greater_of};
-ghost use Rattle.std.specs.Prelude.{◌≡◌, [], ◌∷◌, ℕ, List, Bool, false, not, map, Option, None, replicate, slice_index_or, IfOk};
+ghost use Rattle.std.specs.Prelude.{◌≡◌, [], ◌∷◌, ℕ, List, Bool, not, map, Option, None, replicate, IfOk};
 
+use crate::table::Table;
 use fond_ast::form::LCond;
 use fond_task::form::{Form, Forms, Kleene};
 use fond_text::fault::NoMemory;
 use std::alloc::Global;
 
-/// The number of the atom of a predicate, where it is fluent.
-pub(crate) fn number_of(numbers: &[Option<u32>], predicate: u32) -> Option<u32>
-    ensures { result ≡ slice_index_or numbers.now predicate None }
+/// The literal of a predicate's atom with this sign. A static atom keeps its initial value.
+fn literal_form(table: &Table, predicate: u32, sign: bool) -> Form
+    ensures { (cube : List (Option Bool)) → value cube result ≡ signed sign (known_value (atom_number table.now.task.now predicate) (is_true_first table.now.task.now predicate) cube) }
 {
-    match numbers.get(predicate as usize) {
-        Some(number) => *number,
-        None => None,
-    }
-}
-
-/// Whether the atom of a predicate is true at first.
-pub(crate) fn is_initial(start: &[bool], predicate: u32) -> bool
-    ensures { result ≡ slice_index_or start.now predicate false }
-{
-    start.get(predicate as usize).copied().unwrap_or(false)
-}
-
-/// The literal of a predicate's atom with this sign. A static atom has the truth that it has at first.
-fn literal_form(numbers: &[Option<u32>], start: &[bool], predicate: u32, sign: bool) -> Form
-    ensures { (cube : List (Option Bool)) → value cube result ≡ signed sign (known_value (slice_index_or numbers.now predicate None) (slice_index_or start.now predicate false) cube) }
-{
-    match number_of(numbers, predicate) {
+    match table.number(predicate) {
         Some(number) => Form::Lit(number, sign),
-        None => Form::Truth(is_initial(start, predicate) == sign),
+        None => Form::Truth(table.is_initial(predicate) == sign),
     }
 }
 
-/// The conjunction of these parts, or else their disjunction.
+/// The conjunction or the disjunction of these parts.
 fn joined(parts: Forms, is_conjunction: bool) -> Form
     ensures { (cube : List (Option Bool)) → value cube result ≡ joined_value is_conjunction (map (value cube) parts.items) }
 {
@@ -50,7 +34,7 @@ fn joined(parts: Forms, is_conjunction: bool) -> Form
     }
 }
 
-/// These two parts.
+/// A list of two parts.
 fn pair(alloc: Global, first: Form, second: Form) -> Result<Forms, NoMemory>
     ensures { IfOk result (λ forms. forms.items ≡ first ∷ second ∷ []) }
 {
@@ -60,33 +44,32 @@ fn pair(alloc: Global, first: Form, second: Form) -> Result<Forms, NoMemory>
     Ok(parts)
 }
 
-/// The ground condition of a condition, or of its negation where the sign is false. Ground conditions have no
-/// negation but in their literals, so a false sign turns a conjunction into the disjunction of the negations.
+/// The ground condition of a condition, or of its negation if the sign is false: the negation normal form. A ground
+/// condition negates literals only, so a false sign turns a conjunction into the disjunction of the negated parts.
 #[cycle(forming)]
 fn signed_form(
     alloc: Global,
-    numbers: &[Option<u32>],
-    start: &[bool],
+    table: &Table,
     condition: &LCond,
     sign: bool,
 ) -> Result<Form, NoMemory>
-    ensures { IfOk result (λ form. (cube : List (Option Bool)) → value cube form ≡ signed sign (table_value numbers.now start.now cube condition.now)) }
+    ensures { IfOk result (λ form. (cube : List (Option Bool)) → value cube form ≡ signed sign (condition_value table.now.task.now cube condition.now)) }
 {
     match condition {
         LCond::Truth => Ok(Form::Truth(sign)),
-        LCond::Holds(atom) => Ok(literal_form(numbers, start, atom.predicate, sign)),
+        LCond::Holds(atom) => Ok(literal_form(table, atom.predicate, sign)),
         LCond::And(members) => {
-            let parts = signed_forms(alloc, numbers, start, members, sign)?;
+            let parts = signed_forms(alloc, table, members, sign)?;
             Ok(joined(parts, sign))
         }
         LCond::Or(members) => {
-            let parts = signed_forms(alloc, numbers, start, members, sign)?;
+            let parts = signed_forms(alloc, table, members, sign)?;
             Ok(joined(parts, !sign))
         }
-        LCond::Not(part) => signed_form(alloc, numbers, start, part, !sign),
+        LCond::Not(part) => signed_form(alloc, table, part, !sign),
         LCond::Imply(part, other) => {
-            let first = signed_form(alloc, numbers, start, part, !sign)?;
-            let second = signed_form(alloc, numbers, start, other, sign)?;
+            let first = signed_form(alloc, table, part, !sign)?;
+            let second = signed_form(alloc, table, other, sign)?;
             Ok(joined(pair(alloc, first, second)?, !sign))
         }
     }
@@ -96,31 +79,25 @@ fn signed_form(
 #[cycle(forming)]
 fn signed_forms(
     alloc: Global,
-    numbers: &[Option<u32>],
-    start: &[bool],
+    table: &Table,
     members: &[LCond],
     sign: bool,
 ) -> Result<Forms, NoMemory>
-    ensures { IfOk result (λ forms. (cube : List (Option Bool)) → map (value cube) forms.items ≡ map (λ member. signed sign (table_value numbers.now start.now cube member)) members.now) }
+    ensures { IfOk result (λ forms. (cube : List (Option Bool)) → map (value cube) forms.items ≡ map (λ member. signed sign (condition_value table.now.task.now cube member)) members.now) }
 {
     let mut parts = Vec::with_capacity(alloc, members.len())?;
     for member in members {
-        parts.push(signed_form(alloc, numbers, start, member, sign)?)?;
+        parts.push(signed_form(alloc, table, member, sign)?)?;
     }
     Ok(parts)
 }
 
-/// The ground condition of a condition: static atoms have the truth that they have at first. Takes time and
-/// memory by the size of the condition.
-pub(crate) fn form_of(
-    alloc: Global,
-    numbers: &[Option<u32>],
-    start: &[bool],
-    condition: &LCond,
-) -> Result<Form, NoMemory>
-    ensures { IfOk result (λ form. (cube : List (Option Bool)) → value cube form ≡ table_value numbers.now start.now cube condition.now) }
+/// The ground condition of a condition, in which each static atom is replaced by its initial value. Takes time and
+/// memory proportional to the size of the condition.
+pub(crate) fn form_of(alloc: Global, table: &Table, condition: &LCond) -> Result<Form, NoMemory>
+    ensures { IfOk result (λ form. (cube : List (Option Bool)) → value cube form ≡ condition_value table.now.task.now cube condition.now) }
 {
-    signed_form(alloc, numbers, start, condition, true)
+    signed_form(alloc, table, condition, true)
 }
 
 /// The opposite of a value.
@@ -156,62 +133,62 @@ fn greater(value: Kleene, other: Kleene) -> Kleene
     }
 }
 
-/// The value of a predicate's atom where no fluent atom is known.
-fn open_atom_value(numbers: &[Option<u32>], start: &[bool], predicate: u32) -> Kleene
-    ensures { result ≡ known_value (slice_index_or numbers.now predicate None) (slice_index_or start.now predicate false) [] }
+/// The value of a predicate's atom if no fluent atom is known.
+fn open_atom_value(table: &Table, predicate: u32) -> Kleene
+    ensures { result ≡ known_value (atom_number table.now.task.now predicate) (is_true_first table.now.task.now predicate) [] }
 {
-    match number_of(numbers, predicate) {
+    match table.number(predicate) {
         Some(_) => Kleene::Unknown,
-        None if is_initial(start, predicate) => Kleene::Yes,
+        None if table.is_initial(predicate) => Kleene::Yes,
         None => Kleene::No,
     }
 }
 
-/// The value of a condition where no fluent atom is known. Takes time by the size of the condition.
+/// The value of a condition if no fluent atom is known. Takes time proportional to the size of the condition.
 #[cycle(opening)]
-fn open_value(numbers: &[Option<u32>], start: &[bool], condition: &LCond) -> Kleene
-    ensures { result ≡ table_value numbers.now start.now [] condition.now }
+fn open_value(table: &Table, condition: &LCond) -> Kleene
+    ensures { result ≡ condition_value table.now.task.now [] condition.now }
 {
     match condition {
         LCond::Truth => Kleene::Yes,
-        LCond::Holds(atom) => open_atom_value(numbers, start, atom.predicate),
-        LCond::And(members) => least_open_value(numbers, start, members),
-        LCond::Or(members) => greatest_open_value(numbers, start, members),
-        LCond::Not(part) => opposite(open_value(numbers, start, part)),
+        LCond::Holds(atom) => open_atom_value(table, atom.predicate),
+        LCond::And(members) => least_open_value(table, members),
+        LCond::Or(members) => greatest_open_value(table, members),
+        LCond::Not(part) => opposite(open_value(table, part)),
         LCond::Imply(part, other) => {
-            let first = opposite(open_value(numbers, start, part));
-            greater(first, open_value(numbers, start, other))
+            let first = opposite(open_value(table, part));
+            greater(first, open_value(table, other))
         }
     }
 }
 
-/// The least value of these conditions where no fluent atom is known.
+/// The least value of these conditions if no fluent atom is known.
 #[cycle(opening)]
-fn least_open_value(numbers: &[Option<u32>], start: &[bool], members: &[LCond]) -> Kleene
-    ensures { result ≡ least (map (table_value numbers.now start.now []) members.now) }
+fn least_open_value(table: &Table, members: &[LCond]) -> Kleene
+    ensures { result ≡ least (map (condition_value table.now.task.now []) members.now) }
 {
     let mut value = Kleene::Yes;
     for member in members {
-        value = lesser(value, open_value(numbers, start, member));
+        value = lesser(value, open_value(table, member));
     }
     value
 }
 
-/// The greatest value of these conditions where no fluent atom is known.
+/// The greatest value of these conditions if no fluent atom is known.
 #[cycle(opening)]
-fn greatest_open_value(numbers: &[Option<u32>], start: &[bool], members: &[LCond]) -> Kleene
-    ensures { result ≡ greatest (map (table_value numbers.now start.now []) members.now) }
+fn greatest_open_value(table: &Table, members: &[LCond]) -> Kleene
+    ensures { result ≡ greatest (map (condition_value table.now.task.now []) members.now) }
 {
     let mut value = Kleene::No;
     for member in members {
-        value = greater(value, open_value(numbers, start, member));
+        value = greater(value, open_value(table, member));
     }
     value
 }
 
-/// Whether a condition is not surely false where no fluent atom is known.
-pub(crate) fn is_possible(numbers: &[Option<u32>], start: &[bool], condition: &LCond) -> bool
-    ensures { (count : ℕ) → result ≡ not (is_no (table_value numbers.now start.now (replicate count None) condition.now)) }
+/// Whether a condition may be true: it is not surely false if no fluent atom is known.
+pub(crate) fn is_possible(table: &Table, condition: &LCond) -> bool
+    ensures { (count : ℕ) → result ≡ not (is_no (condition_value table.now.task.now (replicate count None) condition.now)) }
 {
-    !matches!(open_value(numbers, start, condition), Kleene::No)
+    !matches!(open_value(table, condition), Kleene::No)
 }

@@ -13,7 +13,7 @@ use Rattle.fond_ast.specs.declared.form.LEffect.{LEffect}
 use Rattle.fond_lifted.specs.declared.outcome.Literal.{Literal}
 use Rattle.fond_lifted.specs.Outcomes.{change_of, pairs}
 
--- two changes are the same where they delete and add the same atoms
+-- two changes are the same if they delete and add the same atoms
 pub same_change : (a b : Change) → ((atom : Atom) → a.del atom ≡ b.del atom) → ((atom : Atom) → a.add atom ≡ b.add atom) → a ≡ b
 same_change a b dels adds = λ i. record { del = λ atom. dels atom i; add = λ atom. adds atom i }
 
@@ -48,7 +48,7 @@ map_same : (changes : List Change) → map (both no_change) changes ≡ changes
 map_same [] = refl
 map_same (c ∷ cs) = λ i. no_change-both c i ∷ map_same cs i
 
--- no change before a list of changes, and none behind it
+-- joining the empty change to a list of changes, before it or after it
 pub pairs-first : (changes : List Change) → pairs (no_change ∷ []) changes ≡ changes
 pairs-first changes = append-nil _ ∙ map_same changes
 

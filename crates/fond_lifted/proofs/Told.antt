@@ -1,4 +1,4 @@
--- The values that are kept and told stand for the successors.
+-- The values that are kept and printed are those of the successors.
 use Rattle.std.proofs.Common.{◌≡◌, ℕ, suc, ◌+◌, ◌<◌, ◌≤◌, ◌∙◌, ◌||◌, ◌&&◌, Bool, true, false, List, [], ◌∷◌, ◌++◌, Vec, Global, length, map, get_or, drop, refl, sym, ap, arith, nat_lt, add-one, zero, Some, slice_get}
 use Rattle.std.specs.Prelude.{◌==◌, codes, if◌then◌else◌}
 use Rattle.std.specs.Bool.{beq}
@@ -79,7 +79,7 @@ initial-at atoms count number [] within = initial-by atoms count number within (
 pub state-initial : (task : LiftedTask) → state_of (values_of (length task.predicates) (initial task)) ≡ initial task
 state-initial task = λ i atom. initial-at task.init (length task.predicates) atom.predicate atom.objects task.init_within i
 
--- values that are told once stand for states that are told once
+-- distinct values are those of distinct states
 same-beq : (a b : Bool) → beq a b ≡ is_same a b
 same-beq true true = refl
 same-beq true false = refl
@@ -125,7 +125,7 @@ text-values (item ∷ items) from s t h =
 state-text : (predicates : List LPredicate) (s : State) → state_text predicates (state_of (values_of (length predicates) s)) ≡ state_text predicates s
 state-text predicates s = ap (λ w. codes "state\n" ++ w) (text-values predicates 0 (state_of (values_of (length predicates) s)) s (λ k le lt. values-at (length predicates) s k (omega arith)))
 
--- what is kept of the outcomes is told as the successors
+-- the values kept of the outcomes are printed as the successors
 pub successors-told : (task : LiftedTask) (schema : LSchema) (values : List Bool) (all : List (List Literal)) (keys : List (Vec Bool Global)) → values ≡ values_of (length task.predicates) (initial task) → map change_of all ≡ choices schema.effect
     → map (λ v. v.items) keys ≡ distinct_values (length values) (map (after (state_of values)) (map change_of all))
     → flat_map (λ v. state_text task.predicates (state_of v.items)) keys ≡ successors_text task schema

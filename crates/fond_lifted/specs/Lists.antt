@@ -1,6 +1,6 @@
--- Lists that only had something put behind them.
+-- Lists that grow at the end.
 use Rattle.std.specs.Prelude.{◌≡◌, ℕ, List, ◌++◌}
 
--- a list with others behind it
+-- one list is another one with items appended
 abbrev pub Grew : List ℕ → List ℕ → Type 0
 Grew old new = (more : List ℕ) × (new ≡ old ++ more)

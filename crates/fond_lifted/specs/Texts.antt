@@ -1,4 +1,4 @@
--- How states are told.
+-- How states are printed.
 use Rattle.std.specs.Prelude.{ℕ, ◌&&◌, List, [], ◌++◌, codes, if◌then◌else◌}
 use Rattle.std.specs.List.{flat_map, enumerate_from}
 use Rattle.fond_ast.specs.declared.task.LPredicate.{LPredicate}
@@ -11,11 +11,11 @@ use Rattle.fond_meaning.specs.Successors.{initial, atom_of_number, successors}
 abbrev pub atom_line : LPredicate → List ℕ
 atom_line predicate = codes "(" ++ (predicate.name ++ codes ")\n")
 
--- a state is told by the line `state` and a line for each fluent atom that is true, in order of number
+-- the text of a state: the line `state` and a line for each fluent atom that is true, in order of number
 abbrev pub state_text : List LPredicate → State → List ℕ
 state_text predicates state =
     codes "state\n" ++ flat_map (λ item. if item.1.fluent && state (atom_of_number item.0) then atom_line item.1 else []) (enumerate_from 0 predicates)
 
--- the successors of the initial state, one after the other
+-- the text of the successors of the initial state, in order
 abbrev pub successors_text : LiftedTask → LSchema → List ℕ
 successors_text task schema = flat_map (state_text task.predicates) (successors task schema (initial task))

@@ -1,5 +1,5 @@
-//! Evaluating lifted tasks by plain recursion: whether an action is applicable in the initial state, and the
-//! text of its successors. It serves until tasks are grounded.
+//! The successors of the initial state by recursion over the lifted task: whether an action is applicable, and the
+//! text of its successors. The crate goes away once `succ` works on the ground task.
 #![tactic(auto)]
 
 mod outcome;

@@ -1,4 +1,4 @@
-//! The outcomes of an effect, each a list of literals.
+//! The outcomes of an effect, each as a list of literals.
 
 ghost use Rattle.fond_lifted.specs.Outcomes.{change_of, pairs};
 ghost use Rattle.fond_meaning.specs.Choices.{choices};
@@ -9,7 +9,7 @@ use fond_text::fault::NoMemory;
 use std::alloc::Global;
 use std::marker::Model;
 
-/// A predicate's atom, added or deleted.
+/// A literal: the atom of a predicate, to be added or deleted.
 #[derive(Clone, Copy)]
 pub(crate) struct Literal {
     pub predicate: u32,
@@ -32,7 +32,7 @@ impl Model for Outcome {
 }
 
 impl Outcome {
-    /// The outcome of no literal. Takes no memory.
+    /// The outcome without literals. It takes no memory.
     fn new(alloc: Global) -> Outcome
         ensures { result ≡ [] }
     {
@@ -41,7 +41,7 @@ impl Outcome {
         }
     }
 
-    /// The outcome of one literal.
+    /// The outcome with one literal.
     fn single(alloc: Global, literal: Literal) -> Result<Outcome, NoMemory>
         ensures { IfOk result (λ o. o ≡ literal ∷ []) }
     {
@@ -50,7 +50,7 @@ impl Outcome {
         Ok(Outcome { items })
     }
 
-    /// Its literals and then the other's.
+    /// A new outcome: the literals of this one, then those of the other.
     fn with(&self, alloc: Global, other: &Outcome) -> Result<Outcome, NoMemory>
         ensures { IfOk result (λ o. o ≡ self.now ++ other.now) }
     {
@@ -60,7 +60,7 @@ impl Outcome {
         Ok(Outcome { items })
     }
 
-    /// Puts the other's literals at the end.
+    /// Appends the literals of the other outcome.
     fn extend(&mut self, other: &Outcome) -> Result<(), NoMemory>
         ensures { OnOk result (self.new ≡ self.old ++ other.now) }
     {
@@ -76,7 +76,7 @@ impl Outcome {
     }
 }
 
-/// One outcome alone.
+/// The list of one outcome.
 fn alone(alloc: Global, outcome: Outcome) -> Result<Vec<Outcome>, NoMemory>
     ensures { IfOk result (λ v. v.items ≡ outcome ∷ []) }
 {
@@ -85,7 +85,7 @@ fn alone(alloc: Global, outcome: Outcome) -> Result<Vec<Outcome>, NoMemory>
     Ok(all)
 }
 
-/// The one outcome of a literal.
+/// The list of the one outcome of a literal.
 fn alone_literal(alloc: Global, atom: LAtom, is_added: bool) -> Result<Vec<Outcome>, NoMemory>
     ensures { IfOk result (λ v. v.items ≡ (record { predicate = atom.predicate; is_added = is_added } ∷ []) ∷ []) }
 {
@@ -96,7 +96,7 @@ fn alone_literal(alloc: Global, atom: LAtom, is_added: bool) -> Result<Vec<Outco
     alone(alloc, Outcome::single(alloc, literal)?)
 }
 
-/// Each outcome with the literals of `more` behind it, in place.
+/// Appends the literals of `more` to each outcome, in place.
 fn extended(mut all: Vec<Outcome>, more: &Outcome) -> Result<Vec<Outcome>, NoMemory>
     ensures { IfOk result (λ v. v.items ≡ map (λ o. o ++ more.now) all.items) }
 {
@@ -106,7 +106,7 @@ fn extended(mut all: Vec<Outcome>, more: &Outcome) -> Result<Vec<Outcome>, NoMem
     Ok(all)
 }
 
-/// Puts an outcome joined with each of `more` at the end of `all`.
+/// Appends to `all` the outcome joined with each of `more`.
 fn put_joined(
     alloc: Global,
     all: &mut Vec<Outcome>,
@@ -121,8 +121,8 @@ fn put_joined(
     Ok(())
 }
 
-/// Each outcome of the first list joined with each of the second, which varies faster. A single second
-/// outcome is joined in place, so that a conjunction of literals takes time by its length.
+/// Each outcome of the first list joined with each of the second, which varies faster. A single second outcome is
+/// joined in place, so that a conjunction of literals takes time proportional to its length.
 fn joined(alloc: Global, first: Vec<Outcome>, second: &[Outcome]) -> Result<Vec<Outcome>, NoMemory>
     ensures { IfOk result (λ v. map change_of v.items ≡ pairs (map change_of first.items) (map change_of second.now)) }
 {
@@ -136,9 +136,9 @@ fn joined(alloc: Global, first: Vec<Outcome>, second: &[Outcome]) -> Result<Vec<
     Ok(all)
 }
 
-/// The outcomes of an effect, in order: the last member of a conjunction varies fastest, and a choice has
-/// those of its members one after the other. Takes memory by the sum of their lengths, and time by that sum
-/// for each level of nesting.
+/// The outcomes of an effect, in order: the last member of a conjunction varies fastest, and a choice lists those of
+/// its members. Takes memory proportional to the sum of their lengths, and time proportional to that sum for each level
+/// of nesting.
 pub(crate) fn outcomes(alloc: Global, effect: &LEffect) -> Result<Vec<Outcome>, NoMemory>
     ensures { IfOk result (λ v. map change_of v.items ≡ choices effect.now) }
 {

@@ -26,8 +26,8 @@ pub fn is_applicable(alloc: Global, task: &LiftedTask, schema: &LSchema) -> Resu
     Ok(is_true(&values, &schema.pre))
 }
 
-/// The values after each outcome, each once. A hash tells whether a state came before, so the time is that
-/// of making the states.
+/// The values after each outcome, without repetition. States are compared by a hash, so the time is that of building
+/// them.
 fn distinct_states(
     alloc: Global,
     values: &[bool],
@@ -42,7 +42,7 @@ fn distinct_states(
     Ok(states)
 }
 
-/// Puts the line of a predicate's atom where it is fluent and true.
+/// Appends the line of a predicate's atom if the predicate is fluent and the atom true.
 fn put_atom(out: &mut Vec<u8>, predicate: &LPredicate, is_true: bool) -> Result<(), NoMemory>
     ensures ok { OnOk result (out.new.items ≡ out.old.items ++ (if predicate.now.fluent && is_true then atom_line predicate.now else [])) }
     ensures grew { Grew out.old.items out.new.items }
@@ -56,7 +56,7 @@ fn put_atom(out: &mut Vec<u8>, predicate: &LPredicate, is_true: bool) -> Result<
     Ok(())
 }
 
-/// Puts the text of a state.
+/// Appends the text of a state.
 fn put_state(out: &mut Vec<u8>, predicates: &LPredicates, values: &[bool]) -> Result<(), NoMemory>
     ensures ok { OnOk result (out.new.items ≡ out.old.items ++ state_text predicates.now (state_of values.now)) }
     ensures grew { Grew out.old.items out.new.items }
@@ -68,7 +68,7 @@ fn put_state(out: &mut Vec<u8>, predicates: &LPredicates, values: &[bool]) -> Re
     Ok(())
 }
 
-/// Puts the texts of states, one after the other.
+/// Appends the texts of states, in order.
 fn put_states(
     out: &mut Vec<u8>,
     predicates: &LPredicates,
@@ -83,8 +83,8 @@ fn put_states(
     Ok(())
 }
 
-/// Appends each distinct state that comes next, in the order of the first outcome that gives it. Keeps all
-/// outcomes and, for each distinct state, one value of each predicate.
+/// Appends each distinct state that may come next, in the order of the first outcome that leads to it. Keeps all
+/// outcomes and, for each distinct state, one value for each predicate.
 pub fn put_successors(
     alloc: Global,
     task: &LiftedTask,

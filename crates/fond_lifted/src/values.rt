@@ -1,4 +1,4 @@
-//! States as one truth value of each predicate.
+//! States as one truth value for each predicate.
 
 ghost use Rattle.fond_lifted.specs.Outcomes.{atoms_with, change_of};
 ghost use Rattle.fond_lifted.specs.Values.{state_of, values_of};
@@ -26,7 +26,7 @@ pub(crate) fn initial_values(alloc: Global, task: &LiftedTask) -> Result<Vec<boo
     Ok(values)
 }
 
-/// The value of this number. Where there is none it is false, as is what a state does not say.
+/// The value of the predicate of this number, or false if there is none.
 pub(crate) fn value(values: &[bool], number: usize) -> bool
     ensures { result ≡ slice_index_or values.now number false }
 {
@@ -48,7 +48,7 @@ pub(crate) fn is_true(values: &[bool], condition: &LCond) -> bool
     }
 }
 
-/// Whether each of the conditions holds.
+/// Whether each condition holds.
 #[cycle(truth)]
 fn are_all_true(values: &[bool], parts: &[LCond]) -> bool
     ensures { result ≡ list_all (λ part. part) (map (holds (state_of values.now)) parts.now) }
@@ -60,7 +60,7 @@ fn are_all_true(values: &[bool], parts: &[LCond]) -> bool
     all
 }
 
-/// Whether some one of the conditions holds.
+/// Whether some condition holds.
 #[cycle(truth)]
 fn is_any_true(values: &[bool], parts: &[LCond]) -> bool
     ensures { result ≡ list_any (λ part. part) (map (holds (state_of values.now)) parts.now) }
@@ -72,7 +72,7 @@ fn is_any_true(values: &[bool], parts: &[LCond]) -> bool
     any
 }
 
-/// Makes the literals of this sign true: their atoms get the sign as their value.
+/// Makes the literals of this sign true: gives each of their atoms the sign as its value.
 fn put(values: &mut Vec<bool>, literals: &[Literal], is_added: bool)
     ensures same_length { length values.new.items ≡ length values.old.items }
     ensures put { (k : ℕ) → k < length values.old.items → slice_index_or values.new.items k false
@@ -86,7 +86,7 @@ fn put(values: &mut Vec<bool>, literals: &[Literal], is_added: bool)
     }
 }
 
-/// The values after an outcome. Deleted atoms come first, so that an add wins.
+/// The values after an outcome. Deletes come first, so that an add wins.
 pub(crate) fn next_values(
     alloc: Global,
     values: &[bool],

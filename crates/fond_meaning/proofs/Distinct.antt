@@ -1,4 +1,4 @@
--- The successors that are told are each told once.
+-- No state occurs twice among the successors.
 use Rattle.std.proofs.Common.{◌≡◌, ℕ, ◌+◌, ◌||◌, inl, inr, Bool, true, false, List, [], ◌∷◌, ◌++◌, refl, sym, ap, ◌∙◌, map}
 use Rattle.std.specs.Prelude.{if◌then◌else◌}
 use Rattle.std.specs.List.{list_all, list_any, fold, enumerate_from}
@@ -30,7 +30,7 @@ member-passes p (other ∷ states) state (inr m) passes = from (p other) (member
     from true e = refl
     from false e = e
 
--- a list with a state behind it that is not in it
+-- a list of distinct states with a new one appended
 one-more : (states : List State) (state : State) → AreDistinct states → (Member states state → ⊥) → AreDistinct (states ++ state ∷ [])
 one-more [] state distinct new = (λ has. Member-from_Contains [] state has, tt)
 one-more (other ∷ states) state distinct new = (

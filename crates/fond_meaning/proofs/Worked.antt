@@ -62,7 +62,7 @@ module _ (parts : Vec LEffect Global) (two : parts.items ≡ Add heads ∷ Delet
   both-choices state =
       ap (map (λ change. after state change (atom_of_number 0))) (choices-And parts ∙ ap (λ ps. joined (map choices ps)) two ∙ (λ i. joined (choices-Add heads i ∷ choices-Delete heads i ∷ [])))
 
--- an atom holds where it is in the state
+-- an atom holds if it is in the state
 pub holds-Holds : (state : State) (atom : LAtom) → holds state (Holds atom) ≡ state (ground_atom atom)
 holds-Holds state atom = ap (holds state) (sym (rolls-Holds atom)) ∙ fold-roll-LCond Bool (holds_step state) (open_condition.Holds atom)
 

@@ -1,4 +1,4 @@
--- The order in which what an effect may give is told.
+-- The changes that an effect may give, in the order in which they are printed.
 use Rattle.std.specs.Prelude.{List, [], ◌∷◌, map}
 use Rattle.std.specs.List.{flat_map}
 use Rattle.fond_ast.specs.declared.form.LEffect.{LEffect}
@@ -8,7 +8,7 @@ use Rattle.fond_meaning.specs.States.{no_atoms, only}
 use Rattle.fond_meaning.specs.Conditions.{ground_atom}
 use Rattle.fond_meaning.specs.Effects.{Change, no_change, both}
 
--- one change of each list together, that of the last list varying fastest
+-- each union of one change from each list, the last list varying fastest
 abbrev pub joined : List (List Change) → List Change
 joined [] = no_change ∷ []
 joined (changes ∷ rest) = flat_map (λ change. map (both change) (joined rest)) changes
@@ -20,6 +20,7 @@ choices_step (Delete atom) = record { del = only (ground_atom atom); add = no_at
 choices_step (And parts) = joined parts.items
 choices_step (OneOf parts) = flat_map (λ part. part) parts.items
 
--- the changes that an effect may give, in order: those of a choice are its members' one after the other
+-- the changes that an effect may give, in order: a conjunction joins one change of each part, a choice lists those of
+-- its members
 abbrev pub choices : LEffect → List Change
 choices = fold-LEffect (List Change) choices_step

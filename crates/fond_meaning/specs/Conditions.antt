@@ -20,8 +20,8 @@ holds_step state (Or parts) = list_any (λ part. part) parts.items
 holds_step state (Not part) = not part.value
 holds_step state (Imply part other) = not part.value || other.value
 
--- whether a condition holds in a state: an atom where it is in the state, a conjunction where each part holds, a
--- disjunction where some part does, a negation where its part does not, and an implication where its first part
--- does not or its second one does
+-- whether a condition holds in a state: an atom holds if it is in the state, a conjunction if each part holds, a
+-- disjunction if some part holds, a negation if its part does not, and an implication if its first part does not hold
+-- or its second part does
 abbrev pub holds : State → LCond → Bool
 holds state = fold-LCond Bool (holds_step state)

@@ -1,4 +1,4 @@
--- The laws of meaning.
+-- The laws of the meaning of tasks.
 use Rattle.std.specs.Prelude.{◌↔◌, Contains}
 use Rattle.fond_ast.specs.declared.form.LEffect.{LEffect}
 use Rattle.fond_ast.specs.declared.task.LSchema.{LSchema}
@@ -13,10 +13,10 @@ use Rattle.fond_text.specs.Lists.{AreDistinct}
 abbrev pub ChoicesAreGiven : Type 0
 ChoicesAreGiven = (effect : LEffect) (change : Change) → Gives effect change ↔ Contains (choices effect) change
 
--- where a schema of a task is applicable at first, its successors are the states that come next
+-- the successors by a schema that is applicable in the initial state are the states that may come next
 abbrev pub SuccessorsComeNext : Type 0
 SuccessorsComeNext = (task : LiftedTask) (schema : LSchema) → Contains task.schemas schema → IsApplicable (initial task) schema → (next : State) → IsNext (initial task) schema next ↔ Contains (successors task schema (initial task)) next
 
--- no state is among the successors twice
+-- no state occurs twice among the successors
 abbrev pub SuccessorsAreDistinct : Type 0
 SuccessorsAreDistinct = (task : LiftedTask) (schema : LSchema) (state : State) → AreDistinct (successors task schema state)

@@ -4,15 +4,15 @@ use Rattle.std.specs.List.{list_any}
 use Rattle.std.specs.Str.{bytes_eq}
 use Rattle.fond_text.specs.declared.atom.Atom.{Atom}
 
--- a set of atoms says of each atom whether it is in it
+-- a set of atoms, as the test whether an atom is in it
 abbrev pub AtomSet : Type 0
 AtomSet = Atom → Bool
 
--- a state is the set of the atoms that are true; what is not in it is false
+-- a state is the set of its true atoms
 abbrev pub State : Type 0
 State = AtomSet
 
--- whether two atoms are the same: the predicate, and the objects in order
+-- whether two atoms have the same predicate and the same objects, in order
 abbrev pub is_atom : Atom → Atom → Bool
 is_atom atom other = atom.predicate == other.predicate && bytes_eq atom.objects other.objects
 

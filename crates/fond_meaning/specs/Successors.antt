@@ -1,4 +1,4 @@
--- The successors of a state, in the order in which they are told.
+-- The successors of a state, in the order in which they are printed.
 use Rattle.std.specs.Prelude.{ℕ, Bool, true, false, not, List, [], ◌∷◌, ◌++◌, map, fold, Contains, if◌then◌else◌}
 use Rattle.std.specs.List.{list_all, list_any, enumerate_from}
 use Rattle.fond_text.specs.Bools.{is_same}
@@ -18,14 +18,14 @@ initial task = atoms_of task.init
 abbrev pub atom_of_number : ℕ → Atom
 atom_of_number number = record { predicate = number; objects = [] }
 
--- whether two states say the same of each predicate
+-- whether two states agree on the atom of each predicate
 abbrev pub is_same_state : List LPredicate → State → State → Bool
 is_same_state predicates state other = list_all (λ item. is_same (state (atom_of_number item.0)) (other (atom_of_number item.0))) (enumerate_from 0 predicates)
 
--- each state once, where it stands first
+-- the states of a list without repetition, each at its first occurrence
 abbrev pub once : List LPredicate → List State → List State
 once predicates states = fold (λ before state. if list_any (is_same_state predicates state) before then before else before ++ state ∷ []) [] states
 
--- the states after the choices of a schema's effect, each once, in the order of the first choice that gives it
+-- the states to which the choices of a schema's effect lead, without repetition, in the order of the first choice
 abbrev pub successors : LiftedTask → LSchema → State → List State
 successors task schema state = once task.predicates (map (λ change. after state change) (choices schema.effect))

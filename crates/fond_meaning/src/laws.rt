@@ -1,18 +1,18 @@
-//! The laws of meaning, each the contract of a function that does nothing.
+//! The laws of the meaning of tasks, each as the contract of a function that does nothing.
 
 ghost use Rattle.fond_meaning.specs.Laws.{ChoicesAreGiven, SuccessorsComeNext, SuccessorsAreDistinct};
 
-/// The choices of an effect, in their order, are the changes that it may give.
+/// The choices of an effect are exactly the changes that it may give.
 pub fn choices_are_given()
     ensures { ChoicesAreGiven }
 {}
 
-/// The successors that are told are the states that come next, and no other.
+/// The successors of the initial state by an applicable schema are exactly the states that may come next.
 pub fn successors_come_next()
     ensures { SuccessorsComeNext }
 {}
 
-/// No state is told twice.
+/// No state occurs twice among the successors.
 pub fn successors_are_distinct()
     ensures { SuccessorsAreDistinct }
 {}

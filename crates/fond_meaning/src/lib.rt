@@ -1,5 +1,5 @@
-//! What tasks mean: which conditions hold in a state, what effects give, and which states come next. It
-//! knows sets of atoms and no list of outcomes but for the order in which they are told.
+//! The meaning of tasks: which conditions hold in a state, what effects give, and which states may come next. It
+//! speaks of sets of atoms; lists occur only to fix the order in which successors are printed.
 #![tactic(auto)]
 
 pub mod laws;

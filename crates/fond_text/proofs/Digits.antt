@@ -18,7 +18,7 @@ module _ (n start : ℕ) (bytes : List ℕ) (begins : start + length (decimal n)
   pub count : length (drop (20 - (20 - start)) bytes) ≡ 20 - start
   count = omega (arith, ap length digits)
 
-  -- zeros stand before the digits
+  -- zeros precede the digits
   pub padded : replicate (20 - length (drop (20 - (20 - start)) bytes)) 0 ++ drop (20 - (20 - start)) bytes ≡ bytes
   padded =
       let room : 20 - length (drop (20 - (20 - start)) bytes) ≡ start = omega (arith, count) in

@@ -1,4 +1,4 @@
--- The bytes of a text: blanks, what a leaf is made of, and letters that are lowered.
+-- The bytes of a text: blanks, the bytes of leaves, and lowered letters.
 use Rattle.std.specs.Prelude.{ℕ, ◌+◌, ◌==◌, nat_le, ◌&&◌, ◌||◌, not, Bool, if◌then◌else◌}
 
 -- a line feed
@@ -13,7 +13,7 @@ opening = 40
 abbrev pub closing : ℕ
 closing = 41
 
--- what starts a comment
+-- the byte that starts a comment
 abbrev pub semicolon : ℕ
 semicolon = 59
 

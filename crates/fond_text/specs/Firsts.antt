@@ -1,20 +1,20 @@
--- The first of some faults, and the earlier of two that were found.
+-- The first of several faults, and the earlier of two.
 use Rattle.std.specs.Prelude.{◌≡◌, ◌⊎◌, ℕ, Option, Some, None, IfSome}
 use Rattle.fond_text.specs.declared.place.Place.{Place}
 use Rattle.fond_text.specs.declared.first.Found.{Found}
 use Rattle.fond_text.specs.Faults.{IsNoLater}
 
--- something was found that is no later than a fault
+-- a fault was found, and it is no later than this one
 abbrev pub Covers : Option Found → Place → ℕ → Type 0
 Covers None place code = ⊥
 Covers (Some found) place code = IsNoLater found.place found.code place code
 
--- what was found stands and is no later than each fault that stands; nothing was found where none stands
-pub record IsFirst (stands : Place → ℕ → Type 0) (first : Option Found) : Type 0 where
-  pub one : IfSome first (λ found. stands found.place found.code)
-  pub covers : (place : Place) (code : ℕ) → stands place code → Covers first place code
+-- the first of some faults was found, or nothing was found because there is no fault
+pub record IsFirst (occurs : Place → ℕ → Type 0) (first : Option Found) : Type 0 where
+  pub one : IfSome first (λ found. occurs found.place found.code)
+  pub covers : (place : Place) (code : ℕ) → occurs place code → Covers first place code
 
--- one of two that were found, which is no later than what either of them is no later than
+-- one of two found faults, which is no later than any fault that either of them precedes
 pub record IsEarlier (one other first : Option Found) : Type 0 where
   pub from : (first ≡ one) ⊎ (first ≡ other)
   pub covers_one : (place : Place) (code : ℕ) → Covers one place code → Covers first place code

@@ -1,8 +1,8 @@
--- What the leaves of a text may be, and a leaf whose letters are lowered.
+-- Leaves, and names, which are leaves with their letters lowered.
 use Rattle.std.specs.Prelude.{◌≡◌, ℕ, ◌<◌, List, length, All, IsTrue}
 use Rattle.fond_text.specs.Bytes.{is_leaf_byte, lower}
 
--- a leaf has a byte, and all its bytes are those of leaves
+-- a leaf is not empty, and each of its bytes may occur in a leaf
 abbrev pub IsLeaf : List ℕ → Type 0
 IsLeaf bytes = (0 < length bytes) × All (λ b. IsTrue (is_leaf_byte b)) bytes
 

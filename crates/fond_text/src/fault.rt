@@ -24,7 +24,7 @@ impl<T: Drop> From<AllocFailed<T>> for NoMemory {
     }
 }
 
-/// A fault of a file: its place, and its code, the number behind the F in docs/FAULTS.md.
+/// A fault of a file: its place, and its code, the number that follows the F in docs/FAULTS.md.
 #[derive(Clone, Copy, Debug, PartialEq, Eq)]
 pub struct Fault {
     pub file: FileKind,
@@ -32,7 +32,7 @@ pub struct Fault {
     pub code: u8,
 }
 
-/// Why a file was not read.
+/// Why a file could not be read.
 #[derive(Clone, Copy, Debug, PartialEq, Eq, Error)]
 pub enum FrontError {
     #[error("the file has a fault")]

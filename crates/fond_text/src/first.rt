@@ -1,4 +1,4 @@
-//! The earlier of two faults that were found.
+//! The first of several faults: by place, and at one place by code.
 
 ghost use Rattle.fond_text.specs.Firsts.{IsFirst, IsEarlier};
 ghost use Rattle.fond_text.specs.Faults.{IsNoLater};
@@ -13,7 +13,7 @@ pub struct Found {
     pub code: u8,
 }
 
-/// Whether one fault is no later than another one.
+/// Whether one fault comes before another or is the same.
 fn is_no_later(one: Found, other: Found) -> bool
     ensures no_later { result ≡ true → IsNoLater one.place one.code other.place other.code }
     ensures later { result ≡ false → IsNoLater other.place other.code one.place one.code }
@@ -27,7 +27,7 @@ fn is_no_later(one: Found, other: Found) -> bool
     }
 }
 
-/// The earlier of two faults, or the one that was found where the other was not.
+/// The earlier of two faults, either of which may be missing.
 pub fn earlier(one: Option<Found>, other: Option<Found>) -> Option<Found>
     ensures { IsEarlier one other result }
 {
@@ -44,18 +44,18 @@ pub fn earlier(one: Option<Found>, other: Option<Found>) -> Option<Found>
     }
 }
 
-/// A fault of this code at a place, where it stands.
-pub fn found_if(stands: bool, place: Place, code: u8) -> Option<Found>
-    ensures { IsFirst (λ at number. (stands ≡ true) × (at ≡ place) × (number ≡ code)) result }
+/// A fault at a place with a code, if there is one.
+pub fn found_if(is_there: bool, place: Place, code: u8) -> Option<Found>
+    ensures { IsFirst (λ at number. (is_there ≡ true) × (at ≡ place) × (number ≡ code)) result }
 {
-    if stands {
+    if is_there {
         Some(Found { place, code })
     } else {
         None
     }
 }
 
-/// A fault at a place, where its code is there.
+/// A fault at a place, if it has a code.
 pub fn found_at(place: Place, code: Option<u8>) -> Option<Found>
     ensures { IsFirst (λ at number. (at ≡ place) × (code ≡ Some number)) result }
 {

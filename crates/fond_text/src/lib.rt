@@ -1,6 +1,6 @@
-//! The words, names and places that every other crate speaks of. A name is a lowered leaf by its type, a
-//! word is the bytes of a command line as they stand, and a place is a line and a column. Reading a text is
-//! left to the crates above.
+//! What every other crate speaks of: names, words, places, numbers, lists, and faults with their order. A `Name` is
+//! a lowered leaf by its type, a `Word` the bytes of a command line as given, and a `Place` a line and a column.
+//! Reading a text is left to the crates above.
 #![tactic(auto)]
 
 pub mod atom;

@@ -1,4 +1,4 @@
-//! Leaves of a text, lowered.
+//! Names: the leaves of a text with their letters lowered.
 
 ghost use Rattle.std.specs.Prelude.{◌≡◌, ℕ, List, map, IfOk};
 ghost use Rattle.fond_text.specs.Bytes.{lower};
@@ -23,7 +23,7 @@ impl Model for Name {
     ghost invariant = { λ n. IsName n.bytes.items };
 }
 
-/// A letter from A to Z lowered, and every other byte as it is.
+/// The byte with a letter A to Z lowered.
 fn lowered(b: u8) -> u8
     ensures { result ≡ lower b }
 {
@@ -41,7 +41,7 @@ impl Name {
         })
     }
 
-    /// The same name again.
+    /// A copy of the name.
     pub fn copy(&self, alloc: Global) -> Result<Name, NoMemory>
         ensures { IfOk result (λ n. n ≡ self.now) }
     {

@@ -6,7 +6,7 @@ ghost use Rattle.std.specs.Prelude.{◌≡◌, ◌≢◌, ◌++◌, ◌^◌, ◌
 use crate::fault::NoMemory;
 use std::marker::Model;
 
-/// The digits of a number, which stand at the end of an array of zeros: no number below 2^64 has more than 20.
+/// The decimal digits of a number, kept at the end of an array of 20 bytes: no number below 2^64 has more.
 #[derive(Clone, Copy)]
 pub struct Digits {
     bytes: [u8; 20],
@@ -41,7 +41,7 @@ impl Digits {
         }
     }
 
-    /// The digits, the first one first.
+    /// The digits, most significant first.
     pub fn bytes(&self) -> &[u8]
         ensures { result.now ≡ self.now }
     {
@@ -49,12 +49,12 @@ impl Digits {
     }
 }
 
-/// The number below 2^64 whose digits the bytes are: canonical, without a sign or a leading zero.
+/// The number below 2^64 that the bytes write in decimal digits, without a sign or a leading zero.
 pub fn read_number(b: &[u8]) -> Option<u64>
     ensures { MatchOption result ((n : ℕ) → n < 2 ^ 64 → b.now ≢ decimal n) (λ n. b.now ≡ decimal n) }
 {
     let number = std::str::from_utf8(b).ok()?.parse::<u64>().ok()?;
-    // parse also takes a sign and leading zeros, which no number has among its digits
+    // `parse` also accepts a sign and leading zeros, which are not canonical
     if b == Digits::of(number).bytes() {
         Some(number)
     } else {
@@ -62,7 +62,7 @@ pub fn read_number(b: &[u8]) -> Option<u64>
     }
 }
 
-/// Appends the digits of a number, or nothing where memory runs out.
+/// Appends the digits of a number, or nothing if memory runs out.
 pub fn put_number(out: &mut Vec<u8>, n: u64) -> Result<(), NoMemory>
     ensures ok { OnOk result (out.new.items ≡ out.old.items ++ decimal n) }
     ensures err { OnErr result (out.new.items ≡ out.old.items) }

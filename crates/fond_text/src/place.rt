@@ -1,4 +1,4 @@
-//! Where something stands in a file.
+//! Places in files.
 
 /// A line and a column, both counted from 1. Only a line feed ends a line, and each byte is one column.
 #[derive(Clone, Copy, Debug, PartialEq, Eq)]

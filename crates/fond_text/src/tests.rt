@@ -1,83 +1,56 @@
-use crate::atom::{Atom, Atoms, Objects};
 use crate::bytes::{Bytes, is_blank};
-use crate::name::{Name, Names};
-use crate::number::{Digits, put_number, read_number};
+use crate::first::{Found, earlier, found_at, found_if};
+use crate::list::List;
+use crate::name::Name;
+use crate::number::{put_number, read_number};
+use crate::place::Place;
 use crate::word::Word;
 use std::test::Fail;
 
 #[test]
-fn kept_texts(rt: HostRuntime) -> Result<(), Fail> {
+fn texts_are_kept(rt: HostRuntime) -> Result<(), Fail> {
     let name = Name::lower(rt.alloc(), b"Pick-Up").map_err(|_| "name")?;
-    assert_eq!(rt; name.bytes(), b"pick-up".as_slice());
     let again = name.copy(rt.alloc()).map_err(|_| "copy")?;
     assert_eq!(rt; again.bytes(), b"pick-up".as_slice());
     let word = Word::copy(rt.alloc(), b"(Flip C1)").map_err(|_| "word")?;
     assert_eq!(rt; word.bytes(), b"(Flip C1)".as_slice());
+    Ok(())
+}
+
+#[test]
+fn lists_grow(rt: HostRuntime) -> Result<(), Fail> {
     let mut bytes = Bytes::copy(rt.alloc(), b"ab").map_err(|_| "bytes")?;
     bytes.push(b'c').map_err(|_| "push")?;
     assert_eq!(rt; bytes.as_slice(), b"abc".as_slice());
-    Ok(())
-}
-
-#[test]
-fn kept_lists(rt: HostRuntime) -> Result<(), Fail> {
-    let mut names = Names::new(rt.alloc());
-    names
-        .push(Name::lower(rt.alloc(), b"a").map_err(|_| "name")?)
-        .map_err(|_| "names")?;
-    assert_eq!(rt; names.len(), 1);
-    let mut objects = Objects::new(rt.alloc());
-    objects.push(7).map_err(|_| "object")?;
-    assert_eq!(rt; objects.len(), 1);
-    let mut atoms = Atoms::new(rt.alloc());
-    atoms
-        .push(Atom {
-            predicate: 3,
-            objects,
-        })
-        .map_err(|_| "atom")?;
-    assert_eq!(rt; atoms.len(), 1);
-    Ok(())
-}
-
-#[test]
-fn blanks(rt: HostRuntime) {
-    for (byte, want) in [(8, false), (9, true), (13, true), (14, false), (32, true)] {
-        assert_eq!(rt; is_blank(byte), want, "at {byte}");
+    assert_eq!(rt; *bytes.get(1), b'b');
+    let mut pairs = List::new(rt.alloc());
+    pairs.push((1u32, 2u64)).map_err(|_| "pair")?;
+    assert_eq!(rt; pairs.len(), 1);
+    for (one, other) in &pairs {
+        assert_eq!(rt; u64::from(*one) + *other, 3);
     }
+    Ok(())
 }
 
 #[test]
-fn numbers(rt: HostRuntime) -> Result<(), Fail> {
-    let cases = [
-        (0, "0"),
-        (9, "9"),
-        (10, "10"),
-        (18_446_744_073_709_551_615, "18446744073709551615"),
-    ];
+fn numbers_are_read_and_put(rt: HostRuntime) -> Result<(), Fail> {
     let mut out = Vec::new(rt.alloc());
-    for (n, text) in cases {
-        assert_eq!(rt; Digits::of(n).bytes(), text.as_bytes());
-        assert_eq!(rt; read_number(text.as_bytes()), Some(n), "at {text}");
-        put_number(&mut out, n).map_err(|_| "put")?;
-    }
-    assert_eq!(rt; out.as_slice(), b"091018446744073709551615".as_slice());
+    put_number(&mut out, 18_446_744_073_709_551_615).map_err(|_| "put")?;
+    assert_eq!(rt; out.as_slice(), b"18446744073709551615".as_slice());
+    assert_eq!(rt; read_number(&out), Some(18_446_744_073_709_551_615));
+    assert_eq!(rt; read_number(b"01"), None);
+    assert!(rt; is_blank(b'\t'));
     Ok(())
 }
 
 #[test]
-fn other_texts_are_no_numbers(rt: HostRuntime) {
-    let texts = [
-        "",
-        "00",
-        "01",
-        "+1",
-        "-1",
-        "1 ",
-        "18446744073709551616",
-        "123456789012345678901234567890",
-    ];
-    for text in texts {
-        assert_eq!(rt; read_number(text.as_bytes()), None, "at {text}");
-    }
+fn the_earlier_fault_is_kept(rt: HostRuntime) {
+    let place = Place { line: 2, column: 1 };
+    let later = found_at(place, Some(7));
+    let first = found_if(true, Place { line: 1, column: 9 }, 8);
+    let want = Some(Found {
+        place: Place { line: 1, column: 9 },
+        code: 8,
+    });
+    assert_eq!(rt; earlier(later, first), want);
 }

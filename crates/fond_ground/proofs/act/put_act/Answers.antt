@@ -6,14 +6,16 @@ use Rattle.fond_ground.proofs.Acts.{kept_same}
 use Rattle.fond_ground.proofs.act.put_act.Goals as goal
 
 pub returns-then-not-is_possible : goal.returns-then-not-is_possible
-returns-then-not-is_possible c = λ task table.
+returns-then-not-is_possible c =
+    let task = c.args.table.now.task.now in
     let no_more : c.is_possible.result ≡ false = search (rules, common_steps) in
-    let kept : is_kept task c.args.schema.now ≡ false = kept_same task c.args.numbers.now c.args.start.now table c.args.schema.now c.is_possible.result c.is_possible.ensures ∙ no_more in
+    let kept : is_kept task c.args.schema.now ≡ false = kept_same task c.args.schema.now c.is_possible.result c.is_possible.ensures ∙ no_more in
     ([], sym (append-nil c.args.acts.now), subst (λ b. AreActsOf task (cond b ((c.args.number, c.args.schema.now) ∷ []) []) []) (sym kept) tt)
 
 pub returns : goal.returns
-returns c = λ task table.
+returns c =
+    let task = c.args.table.now.task.now in
     let one_more : c.is_possible.result ≡ true = search (rules, common_steps) in
-    let kept : is_kept task c.args.schema.now ≡ true = kept_same task c.args.numbers.now c.args.start.now table c.args.schema.now c.is_possible.result c.is_possible.ensures ∙ one_more in
+    let kept : is_kept task c.args.schema.now ≡ true = kept_same task c.args.schema.now c.is_possible.result c.is_possible.ensures ∙ one_more in
     let act = c.in_ok-act_of.field-0 in
-    (act ∷ [], c.in_ok-push.ensures.ok, subst (λ b. AreActsOf task (cond b ((c.args.number, c.args.schema.now) ∷ []) []) (act ∷ [])) (sym kept) (c.in_ok-act_of.ensures task table, tt))
+    (act ∷ [], c.in_ok-push.ensures.ok, subst (λ b. AreActsOf task (cond b ((c.args.number, c.args.schema.now) ∷ []) []) (act ∷ [])) (sym kept) (c.in_ok-act_of.ensures, tt))

@@ -1,9 +1,9 @@
 use Rattle.std.proofs.Common.{◌≡◌, ◌++◌, List, Bool, Option, map, drop}
 use Rattle.fond_task.specs.Values.{value}
 use Rattle.fond_ground.specs.Signs.{signed}
-use Rattle.fond_ground.specs.Tables.{table_value}
+use Rattle.fond_ground.specs.Values.{condition_value}
 use Rattle.fond_ground.proofs.value.+forming.Given as goal
 
 abbrev pub invariant-signed_forms-loop-member : goal.invariant-signed_forms-loop-member
 invariant-signed_forms-loop-member l =
-    (cube : List (Option Bool)) → map (value cube) l.parts.items ++ map (λ member. signed l.sign (table_value l.numbers l.start cube member)) (drop l.member-index l.members) ≡ map (λ member. signed l.sign (table_value l.numbers l.start cube member)) l.members
+    (cube : List (Option Bool)) → map (value cube) l.parts.items ++ map (λ member. signed l.sign (condition_value l.table.task.now cube member)) (drop l.member-index l.members) ≡ map (λ member. signed l.sign (condition_value l.table.task.now cube member)) l.members

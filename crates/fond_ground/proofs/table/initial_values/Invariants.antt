@@ -2,7 +2,7 @@ use Rattle.std.proofs.Common.{◌≡◌, ℕ, ◌||◌, false, get_or, length, d
 use Rattle.std.specs.Prelude.{◌==◌}
 use Rattle.std.specs.List.{list_any}
 use Rattle.fond_ground.specs.Numbers.{is_initial}
-use Rattle.fond_ground.proofs.table.start_values.Given as goal
+use Rattle.fond_ground.proofs.table.initial_values.Given as goal
 
 abbrev pub invariant-loop-i : goal.invariant-loop-i
 invariant-loop-i l = record {

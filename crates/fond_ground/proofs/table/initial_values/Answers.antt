@@ -1,7 +1,7 @@
 use Rattle.std.proofs.Common.{◌∙◌, arith}
 use Rattle.std.proofs.lemmas.List.{length-set}
 use Rattle.fond_ground.proofs.Atoms.{within_at, start-more}
-use Rattle.fond_ground.proofs.table.start_values.Goals as goal
+use Rattle.fond_ground.proofs.table.initial_values.Goals as goal
 
 pub index_mut-requires : goal.index_mut-requires
 index_mut-requires c =
