@@ -9,7 +9,8 @@ use Rattle.fond_ast.specs.declared.task.LSchema.{LSchema}
 use Rattle.fond_ast.specs.declared.task.LiftedTask.{LiftedTask}
 use Rattle.fond_ground.specs.Numbers.{fluent_numbers, fluent_atoms, is_initial}
 use Rattle.fond_ground.specs.Values.{condition_value, StandsFor}
-use Rattle.fond_ground.specs.Outcomes.{outcome_lists, AreOutcomesOf}
+use Rattle.fond_oneof.specs.Outcomes.{outcome_lists}
+use Rattle.fond_ground.specs.Outcomes.{AreOutcomesOf}
 
 -- whether a value is No
 abbrev pub is_no : Kleene → Bool

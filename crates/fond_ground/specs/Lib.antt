@@ -3,5 +3,4 @@ pub mod Values
 pub mod Outcomes
 pub mod Grounds
 pub mod Tables
-pub mod Puts
 pub mod Signs

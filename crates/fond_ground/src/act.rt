@@ -1,17 +1,17 @@
 //! The actions of the ground task.
 
 ghost use Rattle.fond_ground.specs.Grounds.{is_kept, IsActOf, AreActsOf};
-ghost use Rattle.fond_ground.specs.Outcomes.{outcome_lists, AreEntriesOf, AreOutcomesOf, IsEntryOf};
-ghost use Rattle.fond_ground.specs.Puts.{literal_of, literals_of};
+ghost use Rattle.fond_ground.specs.Outcomes.{AreEntriesOf, AreOutcomesOf, IsEntryOf};
+ghost use Rattle.fond_oneof.specs.Outcomes.{outcome_lists};
 ghost use Rattle.fond_task.specs.declared.task.Act.{Act};
 ghost use Rattle.std.specs.List.{enumerate_from};
 ghost use Rattle.std.specs.Prelude.{◌≡◌, ◌++◌, ◌∷◌, [], List, filter, IfOk, OnOk};
 
-use crate::outcome::{Put, outcomes};
 use crate::table::Table;
 use crate::value::{form_of, is_possible};
 use fond_ast::form::LEffect;
 use fond_ast::task::LSchema;
+use fond_oneof::outcome::{Literal, outcomes};
 use fond_task::form::Form;
 use fond_task::task::{Act, Acts, Entry, Outcome, Outcomes};
 use fond_text::atom::{GroundAction, Objects};
@@ -20,26 +20,26 @@ use std::alloc::Global;
 
 /// The entry of a literal, whose condition is always true. A literal of a static predicate has no entry, and then the
 /// call reports that memory ran out; no effect of a task that was read has such a literal.
-fn entry_of(table: &Table, put: Put) -> Result<Entry, NoMemory>
-    ensures { IfOk result (IsEntryOf table.now.task.now (literal_of put)) }
+fn entry_of(table: &Table, literal: Literal) -> Result<Entry, NoMemory>
+    ensures { IfOk result (IsEntryOf table.now.task.now literal) }
 {
-    match table.number(put.predicate) {
+    match table.number(literal.predicate) {
         None => Err(NoMemory),
         Some(atom) => Ok(Entry {
             cond: Form::Truth(true),
             atom,
-            add: put.add,
+            add: literal.add,
         }),
     }
 }
 
 /// The entries of an outcome, in order.
-fn entries_of(alloc: Global, table: &Table, puts: &[Put]) -> Result<Outcome, NoMemory>
-    ensures { IfOk result (AreEntriesOf table.now.task.now (literals_of puts.now)) }
+fn entries_of(alloc: Global, table: &Table, literals: &[Literal]) -> Result<Outcome, NoMemory>
+    ensures { IfOk result (AreEntriesOf table.now.task.now literals.now) }
 {
     let mut entries = Outcome::new(alloc);
-    for put in puts {
-        entries.push(entry_of(table, *put)?)?;
+    for literal in literals {
+        entries.push(entry_of(table, *literal)?)?;
     }
     Ok(entries)
 }
@@ -50,8 +50,8 @@ fn outcomes_of(alloc: Global, table: &Table, effect: &LEffect) -> Result<Outcome
 {
     let lists = outcomes(alloc, effect)?;
     let mut all = Outcomes::new(alloc);
-    for puts in &lists {
-        all.push(entries_of(alloc, table, puts.puts())?)?;
+    for literals in &lists {
+        all.push(entries_of(alloc, table, literals.as_slice())?)?;
     }
     Ok(all)
 }

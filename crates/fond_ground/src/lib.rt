@@ -4,7 +4,6 @@
 
 mod act;
 pub mod ground;
-mod outcome;
 mod table;
 #[cfg(test)]
 mod tests;

@@ -20,13 +20,13 @@ use Rattle.fond_meaning.specs.Effects.{after}
 use Rattle.fond_meaning.specs.Choices.{choices}
 use Rattle.fond_meaning.specs.Successors.{initial, atom_of_number, is_same_state, successors}
 use Rattle.fond_text.specs.Bools.{is_same}
-use Rattle.fond_lifted.specs.declared.outcome.Literal.{Literal}
-use Rattle.fond_lifted.specs.Outcomes.{change_of}
+use Rattle.fond_oneof.specs.declared.outcome.Literal.{Literal}
+use Rattle.fond_oneof.specs.Changes.{change_of}
 use Rattle.fond_lifted.specs.Lists.{Grew}
 use Rattle.fond_lifted.specs.Texts.{atom_line, state_text, successors_text}
 use Rattle.fond_lifted.specs.Values.{state_of, values_of, add_values, distinct_values}
 use Rattle.fond_lifted.proofs.Truths.{and_true}
-use Rattle.fond_lifted.proofs.Changes.{drop_more}
+use Rattle.fond_oneof.proofs.Lists.{drop_more}
 
 values-at : (count : ℕ) (state : State) (k : ℕ) → k < count → get_or (values_of count state) k false ≡ state (atom_of_number k)
 values-at count state k lt = get_or-map-range_with_len (λ number. state (atom_of_number number)) 0 count k k false lt (omega arith)

@@ -11,8 +11,8 @@ use Rattle.fond_text.specs.declared.atom.Atom.{Atom}
 use Rattle.fond_meaning.specs.States.{State, is_atom, atoms_of}
 use Rattle.fond_meaning.specs.Effects.{after}
 use Rattle.fond_meaning.specs.Successors.{atom_of_number}
-use Rattle.fond_lifted.specs.declared.outcome.Literal.{Literal}
-use Rattle.fond_lifted.specs.Outcomes.{atoms_with, change_of}
+use Rattle.fond_oneof.specs.declared.outcome.Literal.{Literal}
+use Rattle.fond_oneof.specs.Changes.{atoms_with, change_of}
 use Rattle.fond_lifted.specs.Values.{state_of, values_of}
 
 -- values that say of each predicate what a state says

@@ -1,4 +1,3 @@
 pub mod Values
 pub mod Lists
-pub mod Outcomes
 pub mod Texts

@@ -2,7 +2,6 @@
 //! text of its successors. The crate goes away once `succ` works on the ground task.
 #![tactic(auto)]
 
-mod outcome;
 pub mod succ;
 #[cfg(test)]
 mod tests;

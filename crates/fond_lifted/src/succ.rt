@@ -1,6 +1,6 @@
 //! The successors of the initial state by one action.
 
-ghost use Rattle.fond_lifted.specs.Outcomes.{change_of};
+ghost use Rattle.fond_oneof.specs.Changes.{change_of};
 ghost use Rattle.fond_lifted.specs.Lists.{Grew};
 ghost use Rattle.fond_lifted.specs.Texts.{atom_line, state_text, successors_text};
 ghost use Rattle.fond_lifted.specs.Values.{state_of, distinct_values};
@@ -10,9 +10,9 @@ ghost use Rattle.fond_meaning.specs.Successors.{initial};
 ghost use Rattle.std.specs.Prelude.{◌≡◌, ◌&&◌, [], ◌++◌, if◌then◌else◌, length, map, IfOk, OnOk, OnErr, Contains};
 ghost use Rattle.std.specs.List.{flat_map};
 
-use crate::outcome::{Outcome, outcomes};
 use crate::values::{initial_values, is_true, next_values, value};
 use fond_ast::task::{LPredicate, LPredicates, LSchema, LiftedTask};
+use fond_oneof::outcome::{Outcome, outcomes};
 use fond_text::fault::NoMemory;
 use indexmap::IndexSet;
 use std::alloc::Global;

@@ -1,6 +1,6 @@
 //! States as one truth value for each predicate.
 
-ghost use Rattle.fond_lifted.specs.Outcomes.{atoms_with, change_of};
+ghost use Rattle.fond_oneof.specs.Changes.{atoms_with, change_of};
 ghost use Rattle.fond_lifted.specs.Values.{state_of, values_of};
 ghost use Rattle.fond_meaning.specs.Conditions.{holds};
 ghost use Rattle.fond_meaning.specs.Effects.{after};
@@ -8,9 +8,9 @@ ghost use Rattle.fond_meaning.specs.Successors.{initial, atom_of_number};
 ghost use Rattle.std.specs.List.{list_all, list_any};
 ghost use Rattle.std.specs.Prelude.{◌≡◌, ◌<◌, ℕ, false, map, length, slice_index_or, IfOk, if◌then◌else◌};
 
-use crate::outcome::{Literal, Outcome};
 use fond_ast::form::LCond;
 use fond_ast::task::LiftedTask;
+use fond_oneof::outcome::{Literal, Outcome};
 use fond_text::fault::NoMemory;
 use std::alloc::Global;
 
@@ -80,7 +80,7 @@ fn put(values: &mut Vec<bool>, literals: &[Literal], is_added: bool)
 {
     for literal in literals {
         let number = literal.predicate as usize;
-        if literal.is_added == is_added && number < values.len() {
+        if literal.add == is_added && number < values.len() {
             values[number] = is_added;
         }
     }
@@ -95,7 +95,7 @@ pub(crate) fn next_values(
     ensures { IfOk result (λ v. v.items ≡ values_of (length values.now) (after (state_of values.now) (change_of outcome.now))) }
 {
     let mut next = Vec::from_slice(alloc, values)?;
-    let literals = outcome.literals();
+    let literals = outcome.as_slice();
     put(&mut next, literals, false);
     put(&mut next, literals, true);
     Ok(next)

@@ -76,6 +76,15 @@ impl<T: Copy> List<T> {
             items: Vec::from_slice(alloc, items)?,
         })
     }
+
+    /// Adds the items of a slice at the end, or leaves the list as it was if memory runs out.
+    pub fn extend(&mut self, more: &[T]) -> Result<(), NoMemory>
+        ensures ok { OnOk result (self.new ≡ self.old ++ more.now) }
+        ensures err { OnErr result (self.new ≡ self.old) }
+    {
+        self.items.extend_from_slice(more)?;
+        Ok(())
+    }
 }
 
 impl<'a, T> IntoIterator for &'a List<T> {

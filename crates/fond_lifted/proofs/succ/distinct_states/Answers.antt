@@ -1,5 +1,5 @@
 use Rattle.std.proofs.Common.{map}
-use Rattle.fond_lifted.specs.Outcomes.{change_of}
+use Rattle.fond_oneof.specs.Changes.{change_of}
 use Rattle.fond_lifted.specs.Values.{state_of, distinct_values}
 use Rattle.fond_meaning.specs.Effects.{after}
 use Rattle.std.proofs.Common.{length}
