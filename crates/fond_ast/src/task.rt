@@ -1,6 +1,6 @@
 //! Tasks whose names are resolved to numbers.
 
-ghost use Rattle.fond_ast.specs.Within.{is_condition_within, is_schema_within, is_atom_within};
+ghost use Rattle.fond_ast.specs.Within.{is_condition_within, is_schema_fluent, is_schema_within, is_atom_within};
 ghost use Rattle.std.specs.List.{list_all};
 ghost use Rattle.std.specs.Prelude.{◌<◌, ◌^◌, IsTrue, length};
 
@@ -32,7 +32,8 @@ pub struct LSchema {
 pub type LSchemas = List<LSchema>;
 
 /// A task: its predicates and schemas, the initial atoms, and the goal. By its facts, every number in it is that of a
-/// predicate, every `OneOf` has a member, and there are fewer than 2^32 predicates and schemas.
+/// predicate, every literal of an effect has a fluent predicate, every `OneOf` has a member, and there are fewer than
+/// 2^32 predicates and schemas.
 #[derive(Drop)]
 pub struct LiftedTask {
     pub predicates: LPredicates,
@@ -41,6 +42,7 @@ pub struct LiftedTask {
     pub goal: LCond,
     pub ghost few_predicates: { length predicates < 2 ^ 32 },
     pub ghost few_schemas: { length schemas < 2 ^ 32 },
+    pub ghost effects_fluent: { IsTrue (list_all (is_schema_fluent predicates) schemas) },
     pub ghost schemas_within: { IsTrue (list_all (is_schema_within (length predicates)) schemas) },
     pub ghost init_within: { IsTrue (list_all (is_atom_within (length predicates)) init) },
     pub ghost goal_within: { IsTrue (is_condition_within (length predicates) goal) },

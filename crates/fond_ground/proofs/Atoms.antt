@@ -1,5 +1,5 @@
 -- The atoms of predicates, their numbers and their initial values, as far as a loop has come.
-use Rattle.std.proofs.Common.{◌≡◌, ◌≢◌, ℕ, suc, zero, ◌+◌, add-one, ◌<◌, ◌≤◌, ◌∙◌, ◌&&◌, ◌||◌, cond, Bool, true, false, List, [], ◌∷◌, ◌++◌, Option, Some, None, length, get_or, set, slice_get, replicate, drop, map, filter, refl, sym, ap, subst, arith, nat_lt}
+use Rattle.std.proofs.Common.{◌≡◌, ◌≢◌, ℕ, suc, zero, ◌+◌, add-one, ◌<◌, ◌≤◌, ◌∙◌, ◌&&◌, ◌||◌, cond, Bool, true, false, List, [], ◌∷◌, ◌++◌, Option, Some, None, IfSome, IfNone, length, get_or, set, slice_get, replicate, drop, map, filter, refl, sym, ap, subst, arith, nat_lt}
 use Rattle.std.specs.Prelude.{◌==◌, if◌then◌else◌}
 use Rattle.std.specs.List.{list_all, list_any, enumerate_from}
 use Rattle.std.specs.List.{position_from}
@@ -10,7 +10,10 @@ use Rattle.fond_ast.specs.declared.task.LPredicate.{LPredicate}
 use Rattle.fond_ast.specs.declared.task.LiftedTask.{LiftedTask}
 use Rattle.fond_ast.specs.Within.{is_atom_within}
 use Rattle.fond_meaning.specs.Successors.{atom_of_number}
-use Rattle.fond_ground.specs.Numbers.{fluent_atoms}
+use Rattle.std.proofs.lemmas.Iterator.Adapters.{position_from-zero}
+use Rattle.std.proofs.lemmas.List.Quantifiers.{position-Some}
+use Rattle.fond_ast.specs.Within.{is_fluent}
+use Rattle.fond_ground.specs.Numbers.{fluent_atoms, fluent_numbers, atom_number}
 use Rattle.fond_ground.specs.Tables.{numbered, counted, numbers_from}
 
 -- the numbers of the fluent ones of predicates that are numbered from this one on
@@ -177,3 +180,34 @@ few_in (p ∷ ps) from =
 -- there are no more fluent atoms than predicates
 pub few_fluent : (task : LiftedTask) → length (fluent_atoms task) ≤ length task.predicates
 few_fluent task = rw length-map (few_in task.predicates 0)
+
+none_if_static : (ps : List LPredicate) (count p : ℕ) → get_or (numbers_from count ps) p None ≡ None → is_fluent ps p ≡ false
+none_if_static [] count zero h = refl
+none_if_static [] count (suc p) h = refl
+none_if_static (x ∷ xs) count zero h = by x.fluent h
+  where
+    by : (b : Bool) → numbered b count ≡ None → b ≡ false
+    by true e = absurd (cc)
+    by false e = refl
+none_if_static (x ∷ xs) count (suc p) h = none_if_static xs (counted x.fluent count) p h
+
+-- the number of an atom by the list of all numbers
+pub number_by_all : (task : LiftedTask) (predicate : ℕ) → get_or (numbers_from 0 task.predicates) predicate None ≡ atom_number task predicate
+number_by_all task predicate =
+    number_at task.predicates 0 0 predicate predicate (omega arith) ∙ sym (position_from-zero (λ number. number == predicate) (fluents 0 task.predicates))
+
+-- an atom without a number has a static predicate
+pub static_if_none : (task : LiftedTask) (predicate : ℕ) → atom_number task predicate ≡ None → is_fluent task.predicates predicate ≡ false
+static_if_none task predicate h = none_if_static task.predicates 0 predicate (number_by_all task predicate ∙ h)
+
+-- the number of an atom is one of the fluent atoms
+pub number_within : (task : LiftedTask) (predicate number : ℕ) → atom_number task predicate ≡ Some number → number < length (fluent_numbers task)
+number_within task predicate number h = (position-Some (λ n. n == predicate) (fluent_numbers task) number 0 h).0
+
+pub within_when : (task : LiftedTask) (predicate : ℕ) (found : Option ℕ) → found ≡ atom_number task predicate → IfSome found (λ number. number < length (fluent_numbers task))
+within_when task predicate None e = tt
+within_when task predicate (Some number) e = number_within task predicate number (sym e)
+
+pub static_when : (task : LiftedTask) (predicate : ℕ) (found : Option ℕ) → found ≡ atom_number task predicate → IfNone found (is_fluent task.predicates predicate ≡ false)
+static_when task predicate None e = static_if_none task predicate (sym e)
+static_when task predicate (Some number) e = tt

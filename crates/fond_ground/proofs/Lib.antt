@@ -2,3 +2,4 @@ pub mod Forms
 pub mod Atoms
 pub mod Acts
 pub mod Signs
+pub mod Withins

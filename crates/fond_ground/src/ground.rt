@@ -48,9 +48,8 @@ fn labels_of(alloc: Global, task: &LiftedTask) -> Result<Labels, NoMemory>
     })
 }
 
-/// The ground task of a task. Takes time and memory proportional to the sizes of the task and of the outcomes of
-/// its effects. If an effect has a literal of a static predicate, which no task that was read has, the call reports that
-/// memory ran out.
+/// The ground task of a task. Takes time and memory proportional to the sizes of the task and of the outcomes of its
+/// effects.
 pub fn ground(alloc: Global, task: &LiftedTask) -> Result<Task, NoMemory>
     ensures { IfOk result (IsGroundOf task.now) }
 {
@@ -60,8 +59,11 @@ pub fn ground(alloc: Global, task: &LiftedTask) -> Result<Task, NoMemory>
     let acts = acts_of(alloc, &table)?;
     let goal = form_of(alloc, &table, &task.goal)?;
     let labels = labels_of(alloc, task)?;
-    match Task::of_parts(atoms, acts, init, goal, labels) {
-        Some(ground) => Ok(ground),
-        None => Err(NoMemory),
-    }
+    Ok(Task {
+        atoms,
+        acts,
+        init,
+        goal,
+        labels,
+    })
 }

@@ -1,9 +1,10 @@
 //! The atom of each predicate: its number in the ground task and its initial truth value.
 
-ghost use Rattle.fond_ground.specs.Numbers.{fluent_atoms as all_atoms, atom_number, is_initial as is_true_first};
+ghost use Rattle.fond_ast.specs.Within.{is_fluent};
+ghost use Rattle.fond_ground.specs.Numbers.{fluent_atoms as all_atoms, fluent_numbers, atom_number, is_initial as is_true_first};
 ghost use Rattle.fond_ground.specs.Tables.{numbered as numbered_by, counted as counted_by};
 ghost use Rattle.fond_meaning.specs.Successors.{atom_of_number};
-ghost use Rattle.std.specs.Prelude.{◌≡◌, ◌+◌, ◌<◌, ◌^◌, ◌++◌, ◌∷◌, [], ℕ, false, None, map, length, slice_index_or, if◌then◌else◌, IfOk, OnOk};
+ghost use Rattle.std.specs.Prelude.{◌≡◌, ◌+◌, ◌<◌, ◌^◌, ◌++◌, ◌∷◌, [], ℕ, false, None, map, length, slice_index_or, if◌then◌else◌, IfOk, IfSome, IfNone, OnOk};
 
 use fond_ast::task::LiftedTask;
 use fond_state::state::State;
@@ -38,12 +39,11 @@ impl<'a> Table<'a> {
 
     /// The number of a predicate's atom, if the predicate is fluent.
     pub(crate) fn number(&self, predicate: u32) -> Option<u32>
-        ensures { result ≡ atom_number self.now.task.now predicate }
+        ensures number { result ≡ atom_number self.now.task.now predicate }
+        ensures within { IfSome result (λ number. number < length (fluent_numbers self.now.task.now)) }
+        ensures fluent { IfNone result (is_fluent self.now.task.now.predicates predicate ≡ false) }
     {
-        match self.numbers.get(predicate as usize) {
-            Some(number) => *number,
-            None => None,
-        }
+        number_at(&self.numbers, predicate)
     }
 
     /// Whether a predicate's atom is true initially.
@@ -54,6 +54,16 @@ impl<'a> Table<'a> {
             .get(predicate as usize)
             .copied()
             .unwrap_or(false)
+    }
+}
+
+/// The number at a place, if there is one.
+fn number_at(numbers: &[Option<u32>], at: u32) -> Option<u32>
+    ensures { result ≡ slice_index_or numbers.now at None }
+{
+    match numbers.get(at as usize) {
+        Some(number) => *number,
+        None => None,
     }
 }
 

@@ -1,11 +1,13 @@
 //! Ground conditions, and whether an action is kept.
 
 ghost use Rattle.fond_ground.specs.Grounds.{is_no};
-ghost use Rattle.fond_ground.specs.Numbers.{atom_number, is_initial as is_true_first};
+ghost use Rattle.fond_ground.specs.Numbers.{atom_number, fluent_numbers, is_initial as is_true_first};
 ghost use Rattle.fond_ground.specs.Signs.{signed, joined_value};
 ghost use Rattle.fond_ground.specs.Values.{condition_value, known_value, opposite as opposite_of};
+ghost use Rattle.fond_task.specs.Within.{is_form_within};
 ghost use Rattle.fond_task.specs.Values.{value, least, greatest, lesser as lesser_of, greater as greater_of};
-ghost use Rattle.std.specs.Prelude.{◌≡◌, [], ◌∷◌, ℕ, List, Bool, not, map, Option, None, replicate, IfOk};
+ghost use Rattle.std.specs.List.{list_all};
+ghost use Rattle.std.specs.Prelude.{◌≡◌, [], ◌∷◌, ℕ, List, Bool, true, not, length, map, Option, None, replicate, IfOk};
 
 use crate::table::Table;
 use fond_ast::form::LCond;
@@ -15,7 +17,8 @@ use std::alloc::Global;
 
 /// The literal of a predicate's atom with this sign. A static atom keeps its initial value.
 fn literal_form(table: &Table, predicate: u32, sign: bool) -> Form
-    ensures { (cube : List (Option Bool)) → value cube result ≡ signed sign (known_value (atom_number table.now.task.now predicate) (is_true_first table.now.task.now predicate) cube) }
+    ensures within { is_form_within (length (fluent_numbers table.now.task.now)) result ≡ true }
+    ensures value { (cube : List (Option Bool)) → value cube result ≡ signed sign (known_value (atom_number table.now.task.now predicate) (is_true_first table.now.task.now predicate) cube) }
 {
     match table.number(predicate) {
         Some(number) => Form::Lit(number, sign),
@@ -25,7 +28,8 @@ fn literal_form(table: &Table, predicate: u32, sign: bool) -> Form
 
 /// The conjunction or the disjunction of these parts.
 fn joined(parts: Forms, is_conjunction: bool) -> Form
-    ensures { (cube : List (Option Bool)) → value cube result ≡ joined_value is_conjunction (map (value cube) parts.items) }
+    ensures within { (count : ℕ) → list_all (is_form_within count) parts.items ≡ true → is_form_within count result ≡ true }
+    ensures value { (cube : List (Option Bool)) → value cube result ≡ joined_value is_conjunction (map (value cube) parts.items) }
 {
     if is_conjunction {
         Form::And(parts)
@@ -53,7 +57,8 @@ fn signed_form(
     condition: &LCond,
     sign: bool,
 ) -> Result<Form, NoMemory>
-    ensures { IfOk result (λ form. (cube : List (Option Bool)) → value cube form ≡ signed sign (condition_value table.now.task.now cube condition.now)) }
+    ensures within { IfOk result (λ form. is_form_within (length (fluent_numbers table.now.task.now)) form ≡ true) }
+    ensures value { IfOk result (λ form. (cube : List (Option Bool)) → value cube form ≡ signed sign (condition_value table.now.task.now cube condition.now)) }
 {
     match condition {
         LCond::Truth => Ok(Form::Truth(sign)),
@@ -83,7 +88,8 @@ fn signed_forms(
     members: &[LCond],
     sign: bool,
 ) -> Result<Forms, NoMemory>
-    ensures { IfOk result (λ forms. (cube : List (Option Bool)) → map (value cube) forms.items ≡ map (λ member. signed sign (condition_value table.now.task.now cube member)) members.now) }
+    ensures within { IfOk result (λ forms. list_all (is_form_within (length (fluent_numbers table.now.task.now))) forms.items ≡ true) }
+    ensures value { IfOk result (λ forms. (cube : List (Option Bool)) → map (value cube) forms.items ≡ map (λ member. signed sign (condition_value table.now.task.now cube member)) members.now) }
 {
     let mut parts = Vec::with_capacity(alloc, members.len())?;
     for member in members {
@@ -95,7 +101,8 @@ fn signed_forms(
 /// The ground condition of a condition, in which each static atom is replaced by its initial value. Takes time and
 /// memory proportional to the size of the condition.
 pub(crate) fn form_of(alloc: Global, table: &Table, condition: &LCond) -> Result<Form, NoMemory>
-    ensures { IfOk result (λ form. (cube : List (Option Bool)) → value cube form ≡ condition_value table.now.task.now cube condition.now) }
+    ensures within { IfOk result (λ form. is_form_within (length (fluent_numbers table.now.task.now)) form ≡ true) }
+    ensures value { IfOk result (λ form. (cube : List (Option Bool)) → value cube form ≡ condition_value table.now.task.now cube condition.now) }
 {
     signed_form(alloc, table, condition, true)
 }

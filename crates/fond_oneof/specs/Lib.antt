@@ -1,3 +1,5 @@
 pub mod Outcomes
 pub mod Changes
+pub mod Fluents
+pub mod Nonempty
 pub mod Laws

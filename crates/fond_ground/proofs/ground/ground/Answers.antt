@@ -10,18 +10,16 @@ use Rattle.fond_ground.specs.Values.{StandsFor}
 use Rattle.fond_ground.proofs.Acts.{init_same}
 use Rattle.fond_ground.proofs.ground.ground.Goals as goal
 
-pub returns-in-Some : goal.returns-in-Some
-returns-in-Some c =
+pub returns : goal.returns
+returns c =
     let task = c.args.task.now in
     let same : c.in_ok-table.table.task.now ≡ task = c.in_ok-table.ensures in
-    let parts = c.in-Some.ensures.parts in
     record {
-      atoms = parts.0 ∙ c.in_ok-atoms.ensures.named;
-      acts = subst (AreActsOf task (filter (λ item. is_kept task item.1) (enumerate_from 0 task.schemas))) (sym parts.1)
-          (subst (λ (t : LiftedTask). AreActsOf t (filter (λ item. is_kept t item.1) (enumerate_from 0 t.schemas)) c.in_ok-acts.acts) same c.in_ok-acts.ensures);
-      init = parts.2 ∙ c.in_ok-init.ensures ∙ (λ i. map (λ (atom : Atom). is_initial (same i) atom.predicate) (c.in_ok-atoms.ensures.named i)) ∙ init_same task (fluent_numbers task);
-      goal = λ cube. ap (value cube) parts.3 ∙ subst (λ (t : LiftedTask). StandsFor t task.goal c.in_ok-goal.goal) same c.in_ok-goal.ensures cube;
-      predicates = ap (λ (l : Labels). l.predicates) parts.4 ∙ c.in_ok-labels.ensures.0;
-      schemas = ap (λ (l : Labels). l.schemas) parts.4 ∙ c.in_ok-labels.ensures.1;
-      objects = ap (λ (l : Labels). l.objects) parts.4 ∙ c.in_ok-labels.ensures.2;
+      atoms = c.in_ok-atoms.ensures.named;
+      acts = subst (λ (t : LiftedTask). AreActsOf t (filter (λ item. is_kept t item.1) (enumerate_from 0 t.schemas)) c.in_ok-acts.acts) same c.in_ok-acts.ensures.acts;
+      init = c.in_ok-init.ensures ∙ (λ i. map (λ (atom : Atom). is_initial (same i) atom.predicate) (c.in_ok-atoms.ensures.named i)) ∙ init_same task (fluent_numbers task);
+      goal = λ cube. subst (λ (t : LiftedTask). StandsFor t task.goal c.in_ok-goal.goal) same c.in_ok-goal.ensures.value cube;
+      predicates = c.in_ok-labels.ensures.0;
+      schemas = c.in_ok-labels.ensures.1;
+      objects = c.in_ok-labels.ensures.2;
     }

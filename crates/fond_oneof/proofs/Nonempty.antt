@@ -1,0 +1,66 @@
+-- An effect in which each choice has a member has an outcome.
+use Rattle.std.proofs.Common.{◌≡◌, ℕ, suc, ◌+◌, ◌<◌, ◌∙◌, ◌&&◌, not, Bool, true, false, List, [], ◌∷◌, ◌++◌, length, map, refl, sym, ap, subst, arith, length-append}
+use Rattle.std.specs.Prelude.{◌==◌}
+use Rattle.std.specs.List.{list_all, flat_map}
+use Rattle.std.proofs.lemmas.List.{length-map}
+use Rattle.fond_ast.specs.declared.form.LEffect.{LEffect, Nothing, Add, Delete, And', OneOf', Row_of-LEffect, end_of-LEffect, more_of-LEffect}
+use Rattle.fond_ast.specs.declared.form.LEffect.TheBlock.{items-the_row-LEffect, items_shown-the_row-LEffect-0}
+use Rattle.fond_ast.specs.declared.form.LEffect.TheViews.{outs-And', outs-OneOf'}
+use Rattle.fond_ast.specs.declared.form.LEffect.TheFolds.{fold_out-LEffect, map-LEffect}
+use Rattle.fond_ast.specs.Within.{is_effect_within, effect_within_step}
+use Rattle.fond_oneof.specs.declared.outcome.Literal.{Literal}
+use Rattle.fond_oneof.specs.Outcomes.{outcome_lists, concatenations, pairs}
+use Rattle.fond_oneof.specs.Nonempty.{EffectsHaveOutcomes}
+use Rattle.fond_oneof.proofs.Lists.{outcome_lists-Nothing, outcome_lists-Add, outcome_lists-Delete, outcome_lists-And', outcome_lists-OneOf'}
+
+and_true : (a b : Bool) → (a && b) ≡ true → (a ≡ true) × (b ≡ true)
+and_true true b h = (refl, h)
+and_true false b h = cc
+
+module _ (count : ℕ) where
+  within-And' : (shape : _) (row : Row_of-LEffect _) → is_effect_within count (And' shape row) ≡ list_all (λ part. part) (map (is_effect_within count) (items-the_row-LEffect _ row))
+  within-And' shape row =
+      fold_out-LEffect Bool (effect_within_step count) (And' shape row) ∙ ap (λ layer. effect_within_step count (map-LEffect LEffect Bool (is_effect_within count) layer)) (outs-And' shape row)
+      ∙ ap (λ parts. list_all (λ part. part) (map (is_effect_within count) parts)) (items_shown-the_row-LEffect-0 shape row)
+
+  within-OneOf' : (shape : _) (row : Row_of-LEffect _) → is_effect_within count (OneOf' shape row)
+      ≡ (not (length (map (is_effect_within count) (items-the_row-LEffect _ row)) == 0) && list_all (λ part. part) (map (is_effect_within count) (items-the_row-LEffect _ row)))
+  within-OneOf' shape row =
+      fold_out-LEffect Bool (effect_within_step count) (OneOf' shape row) ∙ ap (λ layer. effect_within_step count (map-LEffect LEffect Bool (is_effect_within count) layer)) (outs-OneOf' shape row)
+      ∙ ap (λ parts. not (length (map (is_effect_within count) parts) == 0) && list_all (λ part. part) (map (is_effect_within count) parts)) (items_shown-the_row-LEffect-0 shape row)
+
+  some-pairs : (first second : List (List Literal)) → 0 < length first → 0 < length second → 0 < length (pairs first second)
+  some-pairs [] second h k = absurd (omega arith)
+  some-pairs (one ∷ first) second h k =
+      let long = length-append (map (λ (more : List Literal). one ++ more) second) (pairs first second) in
+      let same : length (map (λ (more : List Literal). one ++ more) second) ≡ length second = length-map second (λ more. one ++ more) in
+      omega (arith, long, same, k)
+
+  mutual
+    pub some_outcome : (effect : LEffect) → is_effect_within count effect ≡ true → 0 < length (outcome_lists effect)
+    some_outcome Nothing h = subst (λ lists. 0 < length lists) (sym outcome_lists-Nothing) (omega arith)
+    some_outcome (Add atom) h = subst (λ lists. 0 < length lists) (sym (outcome_lists-Add atom)) (omega arith)
+    some_outcome (Delete atom) h = subst (λ lists. 0 < length lists) (sym (outcome_lists-Delete atom)) (omega arith)
+    some_outcome (And' shape row) h = subst (λ lists. 0 < length lists) (sym (outcome_lists-And' shape row)) (some_of_each row (sym (within-And' shape row) ∙ h))
+    some_outcome (OneOf' shape row) h = subst (λ lists. 0 < length lists) (sym (outcome_lists-OneOf' shape row)) (some_of_some row (sym (within-OneOf' shape row) ∙ h))
+
+    some_of_each : {m : _} (row : Row_of-LEffect m) → list_all (λ part. part) (map (is_effect_within count) (items-the_row-LEffect m row)) ≡ true
+        → 0 < length (concatenations (map outcome_lists (items-the_row-LEffect m row)))
+    some_of_each end_of-LEffect h = omega arith
+    some_of_each (more_of-LEffect part rest) h =
+        let both = and_true (is_effect_within count part) (list_all (λ one. one) (map (is_effect_within count) (items-the_row-LEffect _ rest))) h in
+        some-pairs (outcome_lists part) (concatenations (map outcome_lists (items-the_row-LEffect _ rest))) (some_outcome part both.0) (some_of_each rest both.1)
+
+    some_of_some : {m : _} (row : Row_of-LEffect m)
+        → (not (length (map (is_effect_within count) (items-the_row-LEffect m row)) == 0) && list_all (λ part. part) (map (is_effect_within count) (items-the_row-LEffect m row))) ≡ true
+        → 0 < length (flat_map (λ part. part) (map outcome_lists (items-the_row-LEffect m row)))
+    some_of_some end_of-LEffect h = absurd (cc)
+    some_of_some (more_of-LEffect part rest) h =
+        let all = (and_true (not (length (map (is_effect_within count) (items-the_row-LEffect _ (more_of-LEffect part rest))) == 0)) (list_all (λ one. one) (map (is_effect_within count) (items-the_row-LEffect _ (more_of-LEffect part rest)))) h).1 in
+        let both = and_true (is_effect_within count part) (list_all (λ one. one) (map (is_effect_within count) (items-the_row-LEffect _ rest))) all in
+        let here = some_outcome part both.0 in
+        let long = length-append (outcome_lists part) (flat_map (λ one. one) (map outcome_lists (items-the_row-LEffect _ rest))) in
+        omega (arith, long, here)
+
+pub some_outcome_lem : EffectsHaveOutcomes
+some_outcome_lem count effect h = some_outcome count effect h
