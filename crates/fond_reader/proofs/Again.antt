@@ -9,12 +9,13 @@ use Rattle.std.proofs.Math.Bool.{or-true}
 use Rattle.std.proofs.lemmas.Slice.Eq.{bytes_eq-Decides}
 use Rattle.fond_text.specs.declared.place.Place.{Place}
 use Rattle.fond_tree.specs.declared.tree.Tree.{Tree}
-use Rattle.fond_reader.specs.Words.{is_one_of, place_of}
+use Rattle.fond_reader.specs.Words.{is_one_of}
+use Rattle.fond_tree.specs.Trees.{place_of}
 use Rattle.fond_reader.specs.Faults.{Repeats}
 use Rattle.fond_text.specs.declared.first.Found.{Found}
 use Rattle.fond_text.specs.Firsts.{IsFirst, IsEarlier}
 use Rattle.fond_reader.specs.Forms.{is_word as is_word_leaf}
-use Rattle.fond_reader.proofs.Earliest.{IsFirstSoFar, all_found, first_with, first_along, first_of_both}
+use Rattle.fond_text.proofs.Earliest.{IsFirstSoFar, all_found, first_with, first_along, first_of_both}
 
 -- ---- an element of a list
 

@@ -9,7 +9,8 @@ use Rattle.fond_reader.specs.declared.role.Role.{Role}
 use Rattle.fond_reader.specs.declared.role.Role.TheVariants as role
 use Rattle.fond_reader.specs.declared.role.Keyword.{Keyword}
 use Rattle.fond_reader.specs.Forms.{is_word}
-use Rattle.fond_reader.specs.Words.{is_name, is_variable, is_one_of, place_of, leaf_of, leaf_step, members_of, members_step}
+use Rattle.fond_reader.specs.Words.{is_name, is_variable, is_one_of}
+use Rattle.fond_tree.specs.Trees.{members_step, leaf_step, members_of, leaf_of, place_of}
 use Rattle.fond_reader.specs.Roles.{Expected, Members, node_expected, leaf_code, is_unbuilt, has_term, is_leaf_of, is_term, atom, word, action_keys, is_headed_by}
 use Rattle.fond_reader.specs.Parts.{Part, part, parts, part_at, expected_parts}
 use Rattle.fond_text.specs.Faults.{IsClean}

@@ -7,7 +7,7 @@ use Rattle.fond_tree.specs.declared.tree.Tree.{Tree}
 use Rattle.fond_reader.specs.declared.role.Role.{Role}
 use Rattle.fond_reader.specs.declared.role.Role.TheVariants as role
 use Rattle.fond_reader.specs.declared.role.Rest.TheVariants.{Pairs}
-use Rattle.fond_reader.specs.Words.{leaf_of, members_of, head_of}
+use Rattle.fond_tree.specs.Trees.{head_of, members_of, leaf_of}
 use Rattle.fond_reader.specs.Roles.{shape, Members, domain_section, action_keys, is_headed_by}
 use Rattle.fond_reader.specs.Parts.{Part, part, value, value_role, pairs, are_pairs}
 use Rattle.fond_reader.specs.Faults.{keys}

@@ -9,7 +9,8 @@ use Rattle.fond_tree.specs.declared.tree.Tree.TheFolds.{fold_out-Tree, map-Tree}
 use Rattle.fond_reader.specs.declared.role.Role.{Role}
 use Rattle.fond_reader.specs.declared.role.Role.TheVariants as role
 use Rattle.fond_reader.specs.declared.role.Rest.TheVariants.{NoMore, Each}
-use Rattle.fond_reader.specs.Words.{is_name, reserved, is_one_of, leaf_of, members_of, members_step, is_node}
+use Rattle.fond_reader.specs.Words.{is_name, reserved, is_one_of}
+use Rattle.fond_tree.specs.Trees.{members_step, is_node, members_of, leaf_of}
 use Rattle.fond_reader.specs.Roles.{shape, Members, Refused, node_expected, atom, atom_or_refused, form, condition, has_term, is_unbuilt_form, condition_operator}
 use Rattle.fond_reader.specs.Parts.{part}
 use Rattle.fond_reader.specs.Files.{is_name_leaf}

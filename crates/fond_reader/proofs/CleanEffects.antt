@@ -8,7 +8,8 @@ use Rattle.fond_tree.specs.declared.tree.Tree.{Tree}
 use Rattle.fond_reader.specs.declared.role.Role.{Role}
 use Rattle.fond_reader.specs.declared.role.Role.TheVariants as role
 use Rattle.fond_reader.specs.declared.role.Rest.TheVariants.{NoMore, Each}
-use Rattle.fond_reader.specs.Words.{is_name, leaf_of, members_of}
+use Rattle.fond_reader.specs.Words.{is_name}
+use Rattle.fond_tree.specs.Trees.{members_of, leaf_of}
 use Rattle.fond_reader.specs.Roles.{shape, Members, node_expected, atom, atom_or_refused, choice, form, effect, initial, is_unbuilt, is_unbuilt_form, effect_operator, initial_operator}
 use Rattle.fond_reader.specs.Files.{is_name_leaf}
 use Rattle.fond_reader.specs.Forms.{is_only}

@@ -11,7 +11,8 @@ use Rattle.fond_reader.specs.declared.role.Role.TheVariants as role
 use Rattle.fond_reader.specs.declared.role.Keyword.{Keyword}
 use Rattle.fond_reader.specs.declared.role.Keyword.TheVariants as keyword
 use Rattle.fond_reader.specs.declared.role.Rest.TheVariants.{NoMore, Each, Typed, Pairs, Unread}
-use Rattle.fond_reader.specs.Words.{is_name, is_variable, is_one_of, place_of, leaf_of, members_of, front, head_of}
+use Rattle.fond_reader.specs.Words.{is_name, is_variable, is_one_of}
+use Rattle.fond_tree.specs.Trees.{head_of, front, members_of, leaf_of, place_of}
 use Rattle.fond_reader.specs.Roles.{shape, Expected, Members, Refused, node_expected, domain_section, problem_section, word, is_leaf_of, names_with, is_unbuilt, is_headed_by, has_more, passed_over}
 use Rattle.fond_reader.specs.Parts.{part}
 use Rattle.fond_text.specs.Faults.{IsClean}

@@ -9,7 +9,8 @@ use Rattle.fond_tree.specs.declared.tree.Tree.{Tree}
 use Rattle.fond_reader.specs.declared.role.Role.{Role}
 use Rattle.fond_reader.specs.declared.role.Role.TheVariants as role
 use Rattle.fond_reader.specs.declared.role.Rest.TheVariants.{Unread}
-use Rattle.fond_reader.specs.Words.{is_name, is_one_of, place_of, leaf_of, members_of, front, head_of}
+use Rattle.fond_reader.specs.Words.{is_name, is_one_of}
+use Rattle.fond_tree.specs.Trees.{head_of, front, members_of, leaf_of, place_of}
 use Rattle.fond_reader.specs.Roles.{shape, Expected, Members, node_expected, leaf_code, section}
 use Rattle.fond_reader.specs.Parts.{part}
 use Rattle.fond_reader.specs.Faults.{Repeats}

@@ -4,12 +4,12 @@ use Rattle.std.specs.Prelude.{codes}
 use Rattle.std.specs.Bool.{Decides}
 use Rattle.fond_text.specs.declared.place.Place.{Place}
 use Rattle.fond_tree.specs.declared.tree.Tree.{Tree}
-use Rattle.fond_reader.specs.Words.{place_of, members_of}
+use Rattle.fond_tree.specs.Trees.{members_of, place_of}
 use Rattle.fond_reader.specs.declared.role.Role.TheVariants.{ProblemFile}
 use Rattle.fond_text.specs.declared.first.Found.{Found}
 use Rattle.fond_reader.specs.Faults.{Lacks, IsIncomplete, behind_header}
 use Rattle.fond_text.specs.Firsts.{IsFirst}
-use Rattle.fond_reader.proofs.Earliest.{first_along}
+use Rattle.fond_text.proofs.Earliest.{first_along}
 
 abbrev LacksSome : List Tree → Type 0
 LacksSome members = Lacks (codes ":domain") (behind_header members) ⊎ Lacks (codes ":goal") (behind_header members)

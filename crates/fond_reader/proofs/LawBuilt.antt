@@ -3,6 +3,7 @@ use Rattle.std.proofs.Common.{◌≡◌, ℕ, suc, ◌≤◌, ◌&&◌, ◌==◌
 use Rattle.std.specs.List.{list_all}
 use Rattle.std.specs.Str.{bytes_eq}
 use Rattle.std.proofs.lemmas.Bool.Decides.{nat_tests}
+use Rattle.fond_text.specs.Lists.{each_passes}
 use Rattle.fond_text.specs.declared.place.Place.{Place}
 use Rattle.fond_ast.specs.declared.names.ReadAtom.{ReadAtom}
 use Rattle.fond_ast.specs.declared.files.Declared.{Declared}
@@ -12,8 +13,9 @@ use Rattle.fond_ast.specs.declared.syntax.Cond.TheFolds.{fold-roll-Cond, map-Con
 use Rattle.fond_tree.specs.declared.tree.Tree.{Tree, out-Tree, roll-Tree, out-roll-Tree}
 use Rattle.fond_tree.specs.declared.tree.Tree.TheOpen.{Tree-F, Leaf, Node}
 use Rattle.fond_tree.specs.declared.tree.Tree.TheFolds.{fold_out-Tree, map-Tree, ind-Tree}
-use Rattle.fond_reader.specs.Words.{is_name, place_of, leaf_of, members_of, members_step}
-use Rattle.fond_reader.specs.Forms.{is_word, is_place, is_named, is_empty, is_only, is_atom, are_read, are_operands, is_form, condition_step as reads_condition, is_condition, inner}
+use Rattle.fond_reader.specs.Words.{is_name}
+use Rattle.fond_tree.specs.Trees.{members_step, members_of, leaf_of, place_of}
+use Rattle.fond_reader.specs.Forms.{is_word, is_place, is_named, is_empty, is_only, is_atom, are_operands, is_form, condition_step as reads_condition, is_condition, inner}
 use Rattle.fond_reader.specs.Files.{is_name_leaf, is_declared}
 use Rattle.fond_reader.specs.CleanForms.{fits_atom, SeenCondition, seen_condition, fits_condition, condition_of_members, condition_behind, condition_step}
 use Rattle.fond_reader.proofs.Clean.{true_is_false}
@@ -83,7 +85,7 @@ alone_fits tree head h behind is leaf named none =
     ap (is_only is_name_leaf) (is ∙ ap (λ ts. Some (head ∷ ts)) none) ∙ both_hold _ _ name refl
 
 -- a node of a word and operands that are read is read as a form
-pub form_read : (word : List ℕ) (reads : List (Tree → Bool)) (tree head : Tree) (behind : List Tree) (h : List ℕ) → members_of tree ≡ Some (head ∷ behind) → leaf_of head ≡ Some h → bytes_eq h word ≡ true → are_read reads behind ≡ true → is_form word reads tree ≡ true
+pub form_read : (word : List ℕ) (reads : List (Tree → Bool)) (tree head : Tree) (behind : List Tree) (h : List ℕ) → members_of tree ≡ Some (head ∷ behind) → leaf_of head ≡ Some h → bytes_eq h word ≡ true → each_passes reads behind ≡ true → is_form word reads tree ≡ true
 form_read word reads tree head behind h is leaf same read = ap (are_operands word reads) is ∙ both_hold _ _ (ap (is_word word) leaf ∙ same) read
 
 -- where there are as many as are wanted
@@ -111,11 +113,11 @@ condition_read : (layer : open_condition.Cond-F Cond) (tree : Tree) → reads_co
 condition_read layer tree is = (roll-Cond layer, ap (λ reads. reads tree) (fold-roll-Cond (Tree → Bool) reads_condition layer) ∙ is)
 
 conditions_built : (trees : List Tree) → Each IsBuilt trees → list_all (λ (s : SeenCondition). s.fits) (map seen_condition trees) ≡ true →
-    (conditions : List Cond) × (length conditions ≡ length trees) × (are_read (map is_condition conditions) trees ≡ true)
+    (conditions : List Cond) × (length conditions ≡ length trees) × (each_passes (map is_condition conditions) trees ≡ true)
 conditions_built [] each all = ([], refl, refl)
 conditions_built (t ∷ ts) each all =
     let here : IsSomeCondition t = each.0 (first_of_both _ _ all) in
-    let rest : (conditions : List Cond) × (length conditions ≡ length ts) × (are_read (map is_condition conditions) ts ≡ true) = conditions_built ts each.1 (second_of_both (fits_condition t) _ all) in
+    let rest : (conditions : List Cond) × (length conditions ≡ length ts) × (each_passes (map is_condition conditions) ts ≡ true) = conditions_built ts each.1 (second_of_both (fits_condition t) _ all) in
     (here.0 ∷ rest.0, ap (λ n. suc n) rest.1, both_hold _ _ here.1 rest.2)
 
 -- a form of a condition, by the tests on its head in their order
@@ -142,7 +144,7 @@ module _ (tree head : Tree) (h : List ℕ) (behind : List Tree) (is : members_of
       let P : List Tree → Type 0 = λ ts. Each IsBuilt ts × (list_all (λ (s : SeenCondition). s.fits) (map seen_condition ts) ≡ true) in
       let both : P (one.0 ∷ []) = subst P one.1 (each, second_of_both (length (map seen_condition behind) == 1) _ all) in
       let part : IsSomeCondition one.0 = both.0.0 (first_of_both _ _ both.1) in
-      let read : are_read (is_condition part.0 ∷ []) behind ≡ true = ap (are_read (is_condition part.0 ∷ [])) one.1 ∙ both_hold _ _ part.1 refl in
+      let read : each_passes (is_condition part.0 ∷ []) behind ≡ true = ap (each_passes (is_condition part.0 ∷ [])) one.1 ∙ both_hold _ _ part.1 refl in
       condition_read (open_condition.Not (box_with own.0 part.0)) tree (form_read (codes "not") (is_condition part.0 ∷ []) tree head behind h is leaf same read)
 
   implication_built : bytes_eq h (codes "imply") ≡ true → (length (map seen_condition behind) == 2 && fit) ≡ true → IsSomeCondition tree
@@ -152,8 +154,8 @@ module _ (tree head : Tree) (h : List ℕ) (behind : List Tree) (is : members_of
       let both : P (two.0 ∷ two.1 ∷ []) = subst P two.2 (each, second_of_both (length (map seen_condition behind) == 2) _ all) in
       let part : IsSomeCondition two.0 = both.0.0 (first_of_both _ _ both.1) in
       let other : IsSomeCondition two.1 = both.0.1.0 (first_of_both _ _ (second_of_both (fits_condition two.0) _ both.1)) in
-      let read : are_read (is_condition part.0 ∷ is_condition other.0 ∷ []) behind ≡ true =
-      ap (are_read (is_condition part.0 ∷ is_condition other.0 ∷ [])) two.2 ∙ both_hold _ _ part.1 (both_hold _ _ other.1 refl) in
+      let read : each_passes (is_condition part.0 ∷ is_condition other.0 ∷ []) behind ≡ true =
+      ap (each_passes (is_condition part.0 ∷ is_condition other.0 ∷ [])) two.2 ∙ both_hold _ _ part.1 (both_hold _ _ other.1 refl) in
       condition_read (open_condition.Imply (box_with own.0 part.0) (box_with own.0 other.0)) tree (form_read (codes "imply") (is_condition part.0 ∷ is_condition other.0 ∷ []) tree head behind h is leaf same read)
 
   holds_built : (is_name h && length (map seen_condition behind) == 0) ≡ true → IsSomeCondition tree

@@ -2,6 +2,7 @@
 use Rattle.std.proofs.Common.{◌≡◌, ◌&&◌, ◌==◌, not, Bool, true, false, List, [], ◌∷◌, map, length, codes, refl, sym, ap, ◌∙◌, subst}
 use Rattle.std.specs.List.{list_all}
 use Rattle.std.proofs.lemmas.List.{length-map}
+use Rattle.fond_text.specs.Lists.{each_passes}
 use Rattle.fond_ast.specs.Read.{chooses_step, has_choices, is_schema_with_choices}
 use Rattle.fond_ast.specs.declared.files.Schema.{Schema}
 use Rattle.fond_ast.specs.declared.syntax.Effect.{Effect, roll-Effect}
@@ -10,7 +11,7 @@ use Rattle.fond_ast.specs.declared.syntax.Effect.TheOpen as open_effect
 use Rattle.fond_ast.specs.declared.syntax.Effect.TheFolds.{fold-roll-Effect, map-Effect, ind-Effect}
 use Rattle.fond_tree.specs.declared.tree.Tree.{Tree}
 use Rattle.fond_reader.specs.Files.{IsWholeEffect, AreSchemasOf, values}
-use Rattle.fond_reader.specs.Forms.{are_read, inner, is_form, effect_step, is_effect}
+use Rattle.fond_reader.specs.Forms.{inner, is_form, effect_step, is_effect}
 use Rattle.fond_reader.proofs.Clean.{true_is_false}
 use Rattle.fond_reader.proofs.LawForms.{form_there}
 use Rattle.fond_reader.proofs.ReadLists.{first_of_both, second_of_both}
@@ -27,7 +28,7 @@ chooses_of : (layer : open_effect.Effect-F Effect) →
 chooses_of layer step whole tree is =
     fold-roll-Effect Bool chooses_step layer ∙ step whole tree (sym (ap (λ reads. reads whole tree) (fold-roll-Effect (Bool → Tree → Bool) effect_step layer)) ∙ is)
 
-parts_choose : (parts : List ((effect : Effect) × Chooses effect)) (trees : List Tree) → are_read (inner (map is_effect (map (λ part. part.0) parts))) trees ≡ true →
+parts_choose : (parts : List ((effect : Effect) × Chooses effect)) (trees : List Tree) → each_passes (inner (map is_effect (map (λ part. part.0) parts))) trees ≡ true →
     list_all (λ b. b) (map has_choices (map (λ part. part.0) parts)) ≡ true
 parts_choose [] trees is = refl
 parts_choose (part ∷ parts) [] is = absurd (true_is_false (sym is))

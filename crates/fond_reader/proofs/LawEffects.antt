@@ -3,6 +3,7 @@ use Rattle.std.proofs.Common.{◌≡◌, ℕ, suc, ◌&&◌, ◌||◌, ◌==◌,
 use Rattle.std.specs.List.{list_all}
 use Rattle.std.specs.Str.{bytes_eq}
 use Rattle.std.proofs.lemmas.List.{length-map}
+use Rattle.fond_text.specs.Lists.{each_passes}
 use Rattle.fond_ast.specs.declared.names.ReadAtom.{ReadAtom}
 use Rattle.fond_ast.specs.declared.syntax.Effect.{Effect, roll-Effect}
 use Rattle.fond_ast.specs.declared.syntax.Effect.TheOpen as open_effect
@@ -10,8 +11,9 @@ use Rattle.fond_ast.specs.declared.syntax.Effect.TheFolds.{fold-roll-Effect, map
 use Rattle.fond_tree.specs.declared.tree.Tree.{Tree, out-Tree}
 use Rattle.fond_tree.specs.declared.tree.Tree.TheOpen.{Tree-F, Leaf, Node}
 use Rattle.fond_tree.specs.declared.tree.Tree.TheFolds.{fold_out-Tree, map-Tree}
-use Rattle.fond_reader.specs.Words.{is_name, leaf_of, members_of, members_step}
-use Rattle.fond_reader.specs.Forms.{is_empty, is_atom, are_read, inner, effect_step as reads_effect, is_effect}
+use Rattle.fond_reader.specs.Words.{is_name}
+use Rattle.fond_tree.specs.Trees.{members_step, members_of, leaf_of}
+use Rattle.fond_reader.specs.Forms.{is_empty, is_atom, inner, effect_step as reads_effect, is_effect}
 use Rattle.fond_reader.specs.CleanForms.{fits_atom, SeenEffect, seen_effect, fits_effect, fits_choice, fits_whole_effect, effect_of_members, effect_behind, choice_behind, effect_step, initial_of_members, initial_behind, fits_initial}
 use Rattle.fond_reader.proofs.Clean.{true_is_false}
 use Rattle.fond_reader.proofs.CleanForms.{effect_leaf, effect_node, effect_atom}
@@ -30,11 +32,11 @@ effect_read : (layer : open_effect.Effect-F Effect) (whole : Bool) (tree : Tree)
 effect_read layer whole tree is = (roll-Effect layer, ap (λ reads. reads whole tree) (fold-roll-Effect (Bool → Tree → Bool) reads_effect layer) ∙ is)
 
 effects_built : (trees : List Tree) → Each IsBuilt trees → list_all (λ (s : SeenEffect). s.fits) (map seen_effect trees) ≡ true →
-    (effects : List Effect) × (length effects ≡ length trees) × (are_read (inner (map is_effect effects)) trees ≡ true)
+    (effects : List Effect) × (length effects ≡ length trees) × (each_passes (inner (map is_effect effects)) trees ≡ true)
 effects_built [] each all = ([], refl, refl)
 effects_built (t ∷ ts) each all =
     let here : IsSomeEffect false t = each.0 (first_of_both _ _ all) false in
-    let rest : (effects : List Effect) × (length effects ≡ length ts) × (are_read (inner (map is_effect effects)) ts ≡ true) = effects_built ts each.1 (second_of_both (fits_effect t) _ all) in
+    let rest : (effects : List Effect) × (length effects ≡ length ts) × (each_passes (inner (map is_effect effects)) ts ≡ true) = effects_built ts each.1 (second_of_both (fits_effect t) _ all) in
     (here.0 ∷ rest.0, ap (λ n. suc n) rest.1, both_hold _ _ here.1 rest.2)
 
 -- a form of an effect, by the tests on its head in their order
@@ -56,7 +58,7 @@ module _ (tree head : Tree) (h : List ℕ) (behind : List Tree) (is : members_of
       let P : List Tree → Type 0 = λ ts. list_all (λ (s : SeenEffect). s.atom) (map seen_effect ts) ≡ true in
       let fits : P (one.0 ∷ []) = subst P one.1 (second_of_both (length (map seen_effect behind) == 1) _ all) in
       let atom : (atom : ReadAtom) × (is_atom atom one.0 ≡ true) = atom_built one.0 (sym (effect_atom one.0) ∙ first_of_both _ _ fits) in
-      let read : are_read (is_atom atom.0 ∷ []) behind ≡ true = ap (are_read (is_atom atom.0 ∷ [])) one.1 ∙ both_hold _ _ atom.1 refl in
+      let read : each_passes (is_atom atom.0 ∷ []) behind ≡ true = ap (each_passes (is_atom atom.0 ∷ [])) one.1 ∙ both_hold _ _ atom.1 refl in
       effect_read (open_effect.Delete atom.0) whole tree (form_read (codes "not") (is_atom atom.0 ∷ []) tree head behind h is leaf same read)
 
   addition_built : (is_name h && length (map seen_effect behind) == 0) ≡ true → (whole : Bool) → IsSomeEffect whole tree
@@ -138,7 +140,7 @@ initial_built tree fits = from (members_of tree) refl fits where
       let P : List Tree → Type 0 = λ ts. list_all fits_atom ts ≡ true in
       let fit : P (one.0 ∷ []) = subst P one.1 (second_of_both (length behind == 1) _ all) in
       let atom : (atom : ReadAtom) × (is_atom atom one.0 ≡ true) = atom_built one.0 (first_of_both _ _ fit) in
-      let read : are_read (is_atom atom.0 ∷ []) behind ≡ true = ap (are_read (is_atom atom.0 ∷ [])) one.1 ∙ both_hold _ _ atom.1 refl in
+      let read : each_passes (is_atom atom.0 ∷ []) behind ≡ true = ap (each_passes (is_atom atom.0 ∷ [])) one.1 ∙ both_hold _ _ atom.1 refl in
       (record { positive = false; atom = atom.0 }, form_read (codes "not") (is_atom atom.0 ∷ []) tree head behind h is leaf same read)
 
   by_word : (head : Tree) (h : List ℕ) (behind : List Tree) → members_of tree ≡ Some (head ∷ behind) → leaf_of head ≡ Some h → (a : Bool) → bytes_eq h (codes "not") ≡ a →

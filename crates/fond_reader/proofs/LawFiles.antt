@@ -3,6 +3,7 @@ use Rattle.std.proofs.Common.{◌≡◌, ◌⊎◌, inl, inr, ℕ, suc, ◌≤�
 use Rattle.std.specs.List.{list_all, filter_map, flat_map}
 use Rattle.std.specs.Str.{bytes_eq}
 use Rattle.std.proofs.lemmas.Slice.Eq.{bytes_eq-Decides}
+use Rattle.fond_text.specs.Lists.{each_passes}
 use Rattle.fond_text.specs.declared.place.Place.{Place}
 use Rattle.fond_ast.specs.declared.files.Declared.{Declared}
 use Rattle.fond_ast.specs.declared.files.Domain.{Domain}
@@ -15,11 +16,12 @@ use Rattle.fond_reader.specs.declared.role.Keyword.TheVariants as keyword
 use Rattle.fond_reader.specs.declared.role.Role.{Role}
 use Rattle.fond_reader.specs.declared.role.Role.TheVariants as role
 use Rattle.fond_reader.specs.declared.role.Rest.TheVariants.{NoMore, Each as EachOf, Typed}
-use Rattle.fond_reader.specs.Words.{is_name, is_one_of, leaf_of, members_of, front, head_of}
+use Rattle.fond_reader.specs.Words.{is_name, is_one_of}
+use Rattle.fond_tree.specs.Trees.{head_of, front, members_of, leaf_of}
 use Rattle.fond_reader.specs.Roles.{shape, Members, none, atom, form_of, condition, effect, initial, section, domain_section, problem_section, word, has_term, has_parameter, has_more, is_headed_by, action_keys, is_unbuilt_form, condition_operator, effect_operator, initial_operator}
 use Rattle.fond_text.specs.Faults.{IsClean}
 use Rattle.fond_reader.specs.Faults.{IsIncomplete, Repeats, Lacks, behind_header, single_in_domain, single_in_problem, StandsInDomain, StandsInProblem}
-use Rattle.fond_reader.specs.Forms.{is_word, is_only, is_named, are_read, is_condition, is_initial}
+use Rattle.fond_reader.specs.Forms.{is_word, is_only, is_named, is_condition, is_initial}
 use Rattle.fond_reader.specs.Files.{is_name_leaf, IsFile, has_head, headed, content, contents, AreSingle, is_domain_section, is_problem_section, is_declared, IsSchemaOf, AreSchemasOf, IsDomainOf, IsProblemOf}
 use Rattle.fond_reader.specs.CleanForms.{fits_atom}
 use Rattle.fond_reader.proofs.Clean.{leaf_or_node, true_is_false, code_unless}
@@ -79,7 +81,7 @@ module _ (head : List ℕ) where
           rw is (suc found.0, omega (arith, found.1), found.2)
 
 -- trees that are read one by one
-each_predicate : (predicates : List Declared) (trees : List Tree) → are_read (map is_declared predicates) trees ≡ true → Each (λ t. fits_atom t ≡ true) trees
+each_predicate : (predicates : List Declared) (trees : List Tree) → each_passes (map is_declared predicates) trees ≡ true → Each (λ t. fits_atom t ≡ true) trees
 each_predicate [] [] is = tt
 each_predicate [] (t ∷ ts) is = absurd (true_is_false (sym is))
 each_predicate (d ∷ ds) [] is = absurd (true_is_false (sym is))
@@ -88,7 +90,7 @@ each_predicate (d ∷ ds) (t ∷ ts) is =
     let o : Only (is_named d.place d.name) (members_of t) = only (is_named d.place d.name) (members_of t) (first_of_both _ _ here) in
     (ap (is_only is_name_leaf) o.alone ∙ both_hold _ _ (named_leaf d.place d.name o.tree o.passes) refl, each_predicate ds ts (second_of_both (is_declared d t) _ is))
 
-each_initial : (initials : List InitAtom) (trees : List Tree) → are_read (map is_initial initials) trees ≡ true → Each IsSomeInitial trees
+each_initial : (initials : List InitAtom) (trees : List Tree) → each_passes (map is_initial initials) trees ≡ true → Each IsSomeInitial trees
 each_initial [] [] is = tt
 each_initial [] (t ∷ ts) is = absurd (true_is_false (sym is))
 each_initial (a ∷ as') [] is = absurd (true_is_false (sym is))

@@ -5,6 +5,7 @@ use Rattle.std.specs.Str.{bytes_eq}
 use Rattle.std.proofs.lemmas.List.{length-map}
 use Rattle.std.proofs.lemmas.Bool.Decides.{nat_tests}
 use Rattle.std.proofs.lemmas.Slice.Eq.{bytes_eq-Decides}
+use Rattle.fond_text.specs.Lists.{each_passes}
 use Rattle.fond_text.specs.declared.place.Place.{Place}
 use Rattle.fond_ast.specs.declared.names.ReadAtom.{ReadAtom}
 use Rattle.fond_ast.specs.declared.syntax.Cond.{Cond, out-Cond}
@@ -17,10 +18,11 @@ use Rattle.fond_tree.specs.declared.tree.Tree.{Tree}
 use Rattle.fond_reader.specs.declared.role.Role.{Role}
 use Rattle.fond_reader.specs.declared.role.Role.TheVariants as role
 use Rattle.fond_reader.specs.declared.role.Rest.TheVariants.{NoMore, Each as EachOf}
-use Rattle.fond_reader.specs.Words.{is_name, is_variable, is_keyword, is_one_of, reserved, leaf_of, members_of, is_node}
+use Rattle.fond_reader.specs.Words.{is_name, is_variable, is_keyword, is_one_of, reserved}
+use Rattle.fond_tree.specs.Trees.{is_node, members_of, leaf_of}
 use Rattle.fond_reader.specs.Roles.{shape, Shape, Expected, Members, Refused, none, atom, atom_or_refused, form, form_of, condition, effect, choice, initial, is_unbuilt_form, condition_operator, effect_operator, initial_operator, has_term, is_leaf_of}
 use Rattle.fond_reader.specs.Parts.{part, is_counted, shape_parts}
-use Rattle.fond_reader.specs.Forms.{is_word, is_place, is_named, is_unit, is_empty, is_only, is_atom, are_read, are_operands, is_form, condition_step, is_condition, inner, effect_step, is_effect}
+use Rattle.fond_reader.specs.Forms.{is_word, is_place, is_named, is_unit, is_empty, is_only, is_atom, are_operands, is_form, condition_step, is_condition, inner, effect_step, is_effect}
 use Rattle.fond_reader.specs.Files.{is_name_leaf}
 use Rattle.fond_reader.specs.CleanForms.{fits_atom}
 use Rattle.fond_reader.proofs.Clean.{leaf_or_node, true_is_false}
@@ -76,7 +78,7 @@ pub record Form (word : List ℕ) (reads : List (Tree → Bool)) (tree : Tree) :
   pub behind : List Tree
   pub whole : members_of tree ≡ Some (head ∷ behind)
   pub leaf : leaf_of head ≡ Some word
-  pub read : are_read reads behind ≡ true
+  pub read : each_passes reads behind ≡ true
 
 pub form_there : (word : List ℕ) (reads : List (Tree → Bool)) (tree : Tree) → is_form word reads tree ≡ true → Form word reads tree
 form_there word reads tree is = from (members_of tree) refl is where
@@ -92,12 +94,12 @@ form_there word reads tree is = from (members_of tree) refl is where
   }
 
 -- operands that are one or two
-pub one_operand : (read : Tree → Bool) (trees : List Tree) → are_read (read ∷ []) trees ≡ true → (tree : Tree) × (trees ≡ tree ∷ []) × (read tree ≡ true)
+pub one_operand : (read : Tree → Bool) (trees : List Tree) → each_passes (read ∷ []) trees ≡ true → (tree : Tree) × (trees ≡ tree ∷ []) × (read tree ≡ true)
 one_operand read [] is = absurd (true_is_false (sym is))
 one_operand read (t ∷ []) is = (t, refl, first_of_both _ _ is)
 one_operand read (t ∷ u ∷ us) is = absurd (true_is_false (sym (second_of_both (read t) _ is)))
 
-pub two_operands : (read other : Tree → Bool) (trees : List Tree) → are_read (read ∷ other ∷ []) trees ≡ true → (tree : Tree) × (second : Tree) × (trees ≡ tree ∷ second ∷ []) × (read tree ≡ true) × (other second ≡ true)
+pub two_operands : (read other : Tree → Bool) (trees : List Tree) → each_passes (read ∷ other ∷ []) trees ≡ true → (tree : Tree) × (second : Tree) × (trees ≡ tree ∷ second ∷ []) × (read tree ≡ true) × (other second ≡ true)
 two_operands read other [] is = absurd (true_is_false (sym is))
 two_operands read other (t ∷ ts) is =
     let rest : (u : Tree) × (ts ≡ u ∷ []) × (other u ≡ true) = one_operand other ts (second_of_both (read t) _ is) in
@@ -259,13 +261,13 @@ module _ (empty : Shape) (by_head : List ℕ → List Tree → Expected) (operat
       }
 
 -- the operands of a condition and of an effect are read
-each_condition : (conditions : List Cond) (trees : List Tree) → are_read (map is_condition conditions) trees ≡ true → AllRead (map (part role.Condition) trees)
+each_condition : (conditions : List Cond) (trees : List Tree) → each_passes (map is_condition conditions) trees ≡ true → AllRead (map (part role.Condition) trees)
 each_condition [] [] is = tt
 each_condition [] (t ∷ ts) is = absurd (true_is_false (sym is))
 each_condition (c ∷ cs) [] is = absurd (true_is_false (sym is))
 each_condition (c ∷ cs) (t ∷ ts) is = ((c, first_of_both _ _ is), each_condition cs ts (second_of_both (is_condition c t) _ is))
 
-each_effect : (effects : List Effect) (trees : List Tree) → are_read (inner (map is_effect effects)) trees ≡ true → AllRead (map (part role.Effect) trees)
+each_effect : (effects : List Effect) (trees : List Tree) → each_passes (inner (map is_effect effects)) trees ≡ true → AllRead (map (part role.Effect) trees)
 each_effect [] [] is = tt
 each_effect [] (t ∷ ts) is = absurd (true_is_false (sym is))
 each_effect (e ∷ es) [] is = absurd (true_is_false (sym is))
@@ -330,7 +332,7 @@ choice_expected : (behind : List Tree) → (length behind == 0) ≡ false → ch
 choice_expected [] some = absurd (true_is_false some)
 choice_expected (t ∷ ts) some = refl
 
-some_read : (reads : List (Tree → Bool)) (behind : List Tree) → (length reads == 0) ≡ false → are_read reads behind ≡ true → (length behind == 0) ≡ false
+some_read : (reads : List (Tree → Bool)) (behind : List Tree) → (length reads == 0) ≡ false → each_passes reads behind ≡ true → (length behind == 0) ≡ false
 some_read [] behind some is = absurd (true_is_false some)
 some_read (r ∷ rs) [] some is = absurd (true_is_false (sym is))
 some_read (r ∷ rs) (t ∷ ts) some is = grind (arith, nat_tests)

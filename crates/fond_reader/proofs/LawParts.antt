@@ -10,7 +10,7 @@ use Rattle.fond_ast.specs.declared.syntax.Effect.{Effect}
 use Rattle.fond_tree.specs.declared.tree.Tree.{Tree}
 use Rattle.fond_reader.specs.declared.role.Role.{Role}
 use Rattle.fond_reader.specs.declared.role.Role.TheVariants as role
-use Rattle.fond_reader.specs.Words.{leaf_of, members_of}
+use Rattle.fond_tree.specs.Trees.{members_of, leaf_of}
 use Rattle.fond_reader.specs.Roles.{Shape, Expected, Members, node_expected, leaf_code, word, is_unbuilt, action_keys, is_headed_by}
 use Rattle.fond_reader.specs.Parts.{Part, part, parts, part_at, expected_parts, shape_parts, is_counted}
 use Rattle.fond_reader.specs.Faults.{tree_code, node_code, IsOwnFault, IsRepeated, IsIncomplete}

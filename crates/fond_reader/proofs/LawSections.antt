@@ -8,7 +8,8 @@ use Rattle.fond_reader.specs.declared.role.Keyword.{Keyword}
 use Rattle.fond_reader.specs.declared.role.Role.{Role}
 use Rattle.fond_reader.specs.declared.role.Role.TheVariants as role
 use Rattle.fond_reader.specs.declared.role.Rest.TheVariants.{NoMore, Each as EachOf, Typed, Pairs, Unread}
-use Rattle.fond_reader.specs.Words.{is_name, is_one_of, leaf_of, members_of, front, head_of}
+use Rattle.fond_reader.specs.Words.{is_name, is_one_of}
+use Rattle.fond_tree.specs.Trees.{head_of, front, members_of, leaf_of}
 use Rattle.fond_reader.specs.Roles.{shape, Shape, Expected, Members, atom, section, domain_section, problem_section, passed_over, word, has_term, has_parameter, has_more, is_leaf_of, is_headed_by, action_keys}
 use Rattle.fond_reader.specs.Parts.{is_counted, shape_parts}
 use Rattle.fond_reader.specs.Faults.{IsRepeated, Repeats, behind_header, keys}

@@ -4,7 +4,7 @@ use Rattle.std.proofs.Math.Bool.{and-false}
 use Rattle.fond_tree.specs.declared.tree.Tree.{Tree}
 use Rattle.fond_reader.specs.declared.role.Role.{Role}
 use Rattle.fond_reader.specs.declared.role.Rest.{Rest}
-use Rattle.fond_reader.specs.declared.walk.Left.{Left}
+use Rattle.fond_reader.specs.declared.walk.Pending.{Pending}
 use Rattle.fond_reader.specs.Parts.{part, is_dash, typed, rest_parts, shape_parts}
 use Rattle.fond_reader.specs.Walks.{behind_dash, rest_left, roles_left}
 
@@ -32,7 +32,7 @@ module _ (leaf type : Role) (untyped : Bool) (tree : Tree) where
   typed_at_last (next ∷ trees) last = absurd (omega arith)
 
 -- the first members are the same whatever stands behind them
-pub roles_then_rest : (rest : Rest) (left : Left) → ((trees : List Tree) → rest_left left trees ≡ rest_parts rest trees) →
+pub roles_then_rest : (rest : Rest) (left : Pending) → ((trees : List Tree) → rest_left left trees ≡ rest_parts rest trees) →
     (roles : List Role) (trees : List Tree) → roles_left roles left trees ≡ shape_parts roles rest trees
 roles_then_rest rest left same [] trees = same trees
 roles_then_rest rest left same (role ∷ roles) [] = refl

@@ -3,9 +3,10 @@ use Rattle.std.proofs.Common.{◌≡◌, ℕ, zero, suc, ◌+◌, ◌-◌, ◌<�
 use Rattle.std.specs.List.{list_all}
 use Rattle.std.proofs.lemmas.Grind.{common_steps}
 use Rattle.std.proofs.lemmas.List.{take_more, map-append}
+use Rattle.fond_text.specs.Lists.{each_passes}
 use Rattle.fond_tree.specs.declared.tree.Tree.{Tree}
 use Rattle.fond_ast.specs.declared.syntax.Effect.{Effect}
-use Rattle.fond_reader.specs.Forms.{are_read, is_effect, inner}
+use Rattle.fond_reader.specs.Forms.{is_effect, inner}
 
 -- where both of two tests hold, each does
 pub first_of_both : (here rest : Bool) → (here && rest) ≡ true → here ≡ true
@@ -57,18 +58,18 @@ all_behind fits trees i below all = rw (add-one i) (from trees i below all) wher
   from (t ∷ ts) (suc j) within h = from ts j (omega arith) h
 
 -- one more tree at the end, which is read too
-pub are_read_more : (reads : List (Tree → Bool)) (trees : List Tree) (read : Tree → Bool) (tree : Tree) → are_read reads trees ≡ true → read tree ≡ true → are_read (reads ++ read ∷ []) (trees ++ tree ∷ []) ≡ true
+pub are_read_more : (reads : List (Tree → Bool)) (trees : List Tree) (read : Tree → Bool) (tree : Tree) → each_passes reads trees ≡ true → read tree ≡ true → each_passes (reads ++ read ∷ []) (trees ++ tree ∷ []) ≡ true
 are_read_more [] [] read tree all one = ap (λ b. b && true) one
 are_read_more [] (t ∷ ts) read tree all one = cc
 are_read_more (r ∷ rs) [] read tree all one = cc
-are_read_more (r ∷ rs) (t ∷ ts) read tree all one = step (r t) (are_read rs ts) (are_read (rs ++ read ∷ []) (ts ++ tree ∷ [])) all (λ h. are_read_more rs ts read tree h one) where
+are_read_more (r ∷ rs) (t ∷ ts) read tree all one = step (r t) (each_passes rs ts) (each_passes (rs ++ read ∷ []) (ts ++ tree ∷ [])) all (λ h. are_read_more rs ts read tree h one) where
   step : (here rest more : Bool) → (here && rest) ≡ true → (rest ≡ true → more ≡ true) → (here && more) ≡ true
   step true rest more all so = so all
   step false rest more all so = all
 
 -- the trees before an index were read, and so is the one there
 pub read_more : {X : Type 0} (read : X → Tree → Bool) (xs : List X) (x : X) (trees : List Tree) (i : ℕ) (tree : Tree) → i < length trees → tree ≡ get_or trees i tree →
-    are_read (map read xs) (take i trees) ≡ true → read x tree ≡ true → are_read (map read (xs ++ x ∷ [])) (take (i + 1) trees) ≡ true
+    each_passes (map read xs) (take i trees) ≡ true → read x tree ≡ true → each_passes (map read (xs ++ x ∷ [])) (take (i + 1) trees) ≡ true
 read_more read xs x trees i tree below at all one =
     let reads : map read (xs ++ x ∷ []) ≡ map read xs ++ read x ∷ [] = map-append read xs (x ∷ []) in
     let passed : take (i + 1) trees ≡ take i trees ++ tree ∷ [] = take_more trees i tree below ∙ ap (λ t. take i trees ++ t ∷ []) (sym at) in
@@ -76,7 +77,7 @@ read_more read xs x trees i tree below at all one =
 
 -- the same for effects, which are read as parts of another one
 pub effects_more : (xs : List Effect) (x : Effect) (trees : List Tree) (i : ℕ) (tree : Tree) → i < length trees → tree ≡ get_or trees i tree →
-    are_read (inner (map is_effect xs)) (take i trees) ≡ true → is_effect x false tree ≡ true → are_read (inner (map is_effect (xs ++ x ∷ []))) (take (i + 1) trees) ≡ true
+    each_passes (inner (map is_effect xs)) (take i trees) ≡ true → is_effect x false tree ≡ true → each_passes (inner (map is_effect (xs ++ x ∷ []))) (take (i + 1) trees) ≡ true
 effects_more xs x trees i tree below at all one =
     let reads : inner (map is_effect (xs ++ x ∷ [])) ≡ inner (map is_effect xs) ++ is_effect x false ∷ [] =
     ap inner (map-append is_effect xs (x ∷ [])) ∙ map-append (λ (part : Bool → Tree → Bool). part false) (map is_effect xs) (is_effect x ∷ []) in

@@ -6,7 +6,8 @@ use Rattle.std.proofs.lemmas.Slice.Eq.{bytes_eq-Decides}
 use Rattle.fond_text.specs.declared.place.Place.{Place}
 use Rattle.fond_ast.specs.declared.files.Schema.{Schema}
 use Rattle.fond_tree.specs.declared.tree.Tree.{Tree}
-use Rattle.fond_reader.specs.Words.{is_name, leaf_of, place_of, members_of}
+use Rattle.fond_reader.specs.Words.{is_name}
+use Rattle.fond_tree.specs.Trees.{members_of, leaf_of, place_of}
 use Rattle.fond_reader.specs.Roles.{action_keys, is_headed_by}
 use Rattle.fond_reader.specs.Parts.{are_pairs}
 use Rattle.fond_reader.specs.Faults.{keys}

@@ -5,18 +5,18 @@ use Rattle.fond_tree.specs.declared.tree.Tree.{Tree}
 use Rattle.fond_tree.specs.declared.tree.Tree.TheVariants as made
 use Rattle.fond_text.specs.declared.first.Found.{Found}
 use Rattle.fond_reader.specs.declared.role.Role.{Role}
-use Rattle.fond_reader.specs.Words.{members_of, members_step}
+use Rattle.fond_tree.specs.Trees.{members_step, members_of}
 use Rattle.fond_reader.specs.Roles.{node_expected}
 use Rattle.fond_reader.specs.Parts.{Part, part, parts, expected_parts}
 use Rattle.fond_reader.specs.Walks.{part_if, rest_left, roles_left, parts_left}
 use Rattle.fond_reader.specs.declared.walk.Walk.{Walk}
-use Rattle.fond_reader.specs.declared.walk.Left.{Left}
-use Rattle.fond_reader.specs.declared.walk.Left.TheVariants.{Unread, Each, Typed, TypeNext, Key, Value}
+use Rattle.fond_reader.specs.declared.walk.Pending.{Pending}
+use Rattle.fond_reader.specs.declared.walk.Pending.TheVariants.{Unread, Each, Typed, TypeNext, Key, Value}
 use Rattle.fond_reader.specs.Faults.{Stands, IsOwnFault}
 use Rattle.fond_text.specs.Faults.{IsLeast, IsClean}
 use Rattle.fond_text.specs.Firsts.{IsFirst, IsEarlier}
 use Rattle.fond_reader.proofs.Among.{Among, stands_down, stands_up}
-use Rattle.fond_reader.proofs.Earliest.{IsFirstSoFar, first_if_least, first_so_far, first_with, all_found}
+use Rattle.fond_text.proofs.Earliest.{IsFirstSoFar, first_if_least, first_so_far, first_with, all_found}
 
 -- the members of a node, of which a leaf has none
 pub node_members : (tree : Tree) (place : Place) (members : Vec Tree Global) → tree ≡ made.Node place members → members_of tree ≡ Some members.items
@@ -64,7 +64,7 @@ module _ (role : Role) (tree : Tree) where
       IsFirstSoFar (Stands role tree) (Among left) first → IsFirstSoFar (Stands role tree) (Among rest) first
   member_passed_over left rest member split first h = subst (λ (ps : List Part). IsFirstSoFar (Stands role tree) (Among ps) first) split h
 
-behind_nothing : (left : Left) → rest_left left [] ≡ []
+behind_nothing : (left : Pending) → rest_left left [] ≡ []
 behind_nothing Unread = refl
 behind_nothing (Each role) = refl
 behind_nothing (Typed leaf type untyped) = refl
@@ -72,7 +72,7 @@ behind_nothing (TypeNext leaf type) = refl
 behind_nothing Key = refl
 behind_nothing (Value role) = refl
 
-at_end : (roles : List Role) (left : Left) → roles_left roles left [] ≡ []
+at_end : (roles : List Role) (left : Pending) → roles_left roles left [] ≡ []
 at_end [] left = behind_nothing left
 at_end (role ∷ roles) left = refl
 

@@ -2,7 +2,7 @@
 use Rattle.std.specs.Prelude.{◌≡◌, ◌==◌, ◌&&◌, Bool, true, false, List, [], ◌∷◌, length, Option, Some, None, codes}
 use Rattle.std.specs.List.{list_all}
 use Rattle.fond_tree.specs.declared.tree.Tree.{Tree}
-use Rattle.fond_reader.specs.Words.{leaf_of, members_of}
+use Rattle.fond_tree.specs.Trees.{members_of, leaf_of}
 use Rattle.fond_reader.specs.Roles.{action_keys, is_headed_by}
 use Rattle.fond_reader.specs.Parts.{are_pairs}
 use Rattle.fond_reader.specs.Faults.{behind_header, keys, single_in_domain, single_in_problem}

@@ -2,19 +2,21 @@
 -- node that is itself refused with F8, F11 or F12 are not looked at.
 use Rattle.std.specs.Prelude.{◌≡◌, ◌⊎◌, ℕ, true, List, [], ◌∷◌, ◌++◌, Contains, Option, Some, None, codes, if◌then◌else◌}
 use Rattle.std.specs.List.{filter_map}
+use Rattle.fond_text.specs.declared.code.TheConstants.{MISFIT, REPEATED_SECTION, MISSING_SECTION, UNSUPPORTED}
 use Rattle.fond_text.specs.declared.place.Place.{Place}
 use Rattle.fond_tree.specs.declared.tree.Tree.{Tree}
-use Rattle.fond_reader.specs.Words.{is_one_of, place_of, leaf_of, members_of, head_of}
+use Rattle.fond_reader.specs.Words.{is_one_of}
+use Rattle.fond_tree.specs.Trees.{head_of, members_of, leaf_of, place_of}
 use Rattle.fond_reader.specs.declared.role.Role.{Role}
 use Rattle.fond_reader.specs.declared.role.Role.TheVariants.{DomainFile, ProblemFile, DomainSection}
 use Rattle.fond_reader.specs.Roles.{Expected, Members, Refused, node_expected, leaf_code, action_keys, is_unbuilt}
 use Rattle.fond_reader.specs.Parts.{Part, part, part_at, is_counted}
 
--- the code with which a node is refused, if it is: 7 where a leaf is expected, or where a member is missing or one is
--- too many, and else that of its form
+-- the code with which a node is refused, if it is: it is a misfit if a leaf is expected, or if it has too few or too
+-- many members; otherwise its form decides
 abbrev pub node_code : Option Expected → List Tree → Option ℕ
-node_code None members = Some 7
-node_code (Some (Members shape)) members = if is_counted shape.first shape.rest members then None else Some 7
+node_code None members = Some MISFIT
+node_code (Some (Members shape)) members = if is_counted shape.first shape.rest members then None else Some MISFIT
 node_code (Some (Refused code)) members = Some code
 
 -- the code with which a tree of a role is refused, if it is
@@ -69,7 +71,7 @@ IsRepeated role tree place = ⊥
 
 -- a problem has no section of this head
 abbrev pub Lacks : List ℕ → List Tree → Type 0
-Lacks head sections = Contains (filter_map head_of sections) head → ⊥
+Lacks head sections = ¬ Contains (filter_map head_of sections) head
 
 -- a problem has no domain or no goal
 abbrev pub IsIncomplete : Role → Tree → Place → Type 0
@@ -85,9 +87,9 @@ IsUnbuilt at place = (members : List Tree) × (members_of at.tree ≡ Some membe
 abbrev pub IsOwnFault : Part → Place → ℕ → Type 0
 IsOwnFault at place code =
     Misfits at place code
-    ⊎ (IsRepeated at.role at.tree place × (code ≡ 9))
-    ⊎ (IsIncomplete at.role at.tree place × (code ≡ 10))
-    ⊎ (IsUnbuilt at place × (code ≡ 24))
+    ⊎ (IsRepeated at.role at.tree place × (code ≡ REPEATED_SECTION))
+    ⊎ (IsIncomplete at.role at.tree place × (code ≡ MISSING_SECTION))
+    ⊎ (IsUnbuilt at place × (code ≡ UNSUPPORTED))
 
 -- a fault stands in a tree of a role: some part of it has that fault
 pub record Stands (role : Role) (tree : Tree) (place : Place) (code : ℕ) : Type 0 where
@@ -96,9 +98,10 @@ pub record Stands (role : Role) (tree : Tree) (place : Place) (code : ℕ) : Typ
   pub reached : part_at (part role tree) path ≡ Some at
   pub own : IsOwnFault at place code
 
--- a fault stands in a domain, and in a problem
+-- a fault occurs in a domain
 abbrev pub StandsInDomain : Tree → Place → ℕ → Type 0
 StandsInDomain tree place code = Stands DomainFile tree place code
 
+-- a fault occurs in a problem
 abbrev pub StandsInProblem : Tree → Place → ℕ → Type 0
 StandsInProblem tree place code = Stands ProblemFile tree place code

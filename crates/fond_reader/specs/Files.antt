@@ -1,6 +1,7 @@
 -- Which domain and which problem a tree is read as.
 use Rattle.std.specs.Prelude.{◌≡◌, ℕ, ◌==◌, ◌&&◌, ◌≤◌, Bool, true, false, List, [], ◌∷◌, map, filter, length, Contains, Option, Some, None, codes, if◌then◌else◌}
-use Rattle.std.specs.List.{list_all, flat_map}
+use Rattle.std.specs.List.{AllZip, list_all, flat_map}
+use Rattle.fond_text.specs.Lists.{each_passes}
 use Rattle.fond_tree.specs.declared.tree.Tree.{Tree}
 use Rattle.fond_ast.specs.declared.files.Declared.{Declared}
 use Rattle.fond_ast.specs.declared.files.Domain.{Domain}
@@ -8,11 +9,12 @@ use Rattle.fond_ast.specs.declared.files.Problem.{Problem}
 use Rattle.fond_ast.specs.declared.files.Schema.{Schema}
 use Rattle.fond_ast.specs.declared.syntax.Cond.{Cond, Truth}
 use Rattle.fond_ast.specs.declared.syntax.Effect.{Effect, Nothing}
-use Rattle.fond_reader.specs.Words.{is_name, place_of, leaf_of, members_of, head_of}
+use Rattle.fond_reader.specs.Words.{is_name}
+use Rattle.fond_tree.specs.Trees.{head_of, members_of, leaf_of, place_of}
 use Rattle.fond_reader.specs.Roles.{passed_over, action_keys, is_headed_by}
 use Rattle.fond_reader.specs.Parts.{are_pairs}
 use Rattle.fond_reader.specs.Faults.{keys, single_in_domain, single_in_problem}
-use Rattle.fond_reader.specs.Forms.{is_word, is_named, is_only, is_unit, are_read, is_condition, is_effect, is_initial}
+use Rattle.fond_reader.specs.Forms.{is_word, is_named, is_only, is_unit, is_condition, is_effect, is_initial}
 
 -- whether a tree is a leaf that is a name
 abbrev pub is_name_leaf : Tree → Bool
@@ -113,10 +115,7 @@ pub record IsSchemaOf (tree : Tree) (schema : Schema) : Type 0 where
 
 -- trees are read as schemas, one by one
 abbrev pub AreSchemasOf : List Tree → List Schema → Type 0
-AreSchemasOf [] [] = Unit {0}
-AreSchemasOf [] (schema ∷ schemas) = ⊥
-AreSchemasOf (tree ∷ trees) [] = ⊥
-AreSchemasOf (tree ∷ trees) (schema ∷ schemas) = IsSchemaOf tree schema × AreSchemasOf trees schemas
+AreSchemasOf = AllZip IsSchemaOf
 
 -- a tree is read as a domain. So far it has no types and no constants
 pub record IsDomainOf (tree : Tree) (domain : Domain) : Type 0 where
@@ -129,7 +128,7 @@ pub record IsDomainOf (tree : Tree) (domain : Domain) : Type 0 where
   pub no_types : domain.kinds ≡ []
   pub constants : contents (codes ":constants") sections ≡ []
   pub no_constants : domain.constants ≡ []
-  pub predicates : are_read (map is_declared domain.predicates) (contents (codes ":predicates") sections) ≡ true
+  pub predicates : each_passes (map is_declared domain.predicates) (contents (codes ":predicates") sections) ≡ true
   pub schemas : AreSchemasOf (headed (codes ":action") sections) domain.schemas
 
 -- a tree is read as a problem. So far it has no objects
@@ -142,5 +141,5 @@ pub record IsProblemOf (tree : Tree) (problem : Problem) : Type 0 where
   pub domain : is_only is_name_leaf (Some (contents (codes ":domain") sections)) ≡ true
   pub objects : contents (codes ":objects") sections ≡ []
   pub no_objects : problem.objects ≡ []
-  pub init : are_read (map is_initial problem.init) (contents (codes ":init") sections) ≡ true
-  pub goal : are_read (is_condition problem.goal ∷ []) (contents (codes ":goal") sections) ≡ true
+  pub init : each_passes (map is_initial problem.init) (contents (codes ":init") sections) ≡ true
+  pub goal : each_passes (is_condition problem.goal ∷ []) (contents (codes ":goal") sections) ≡ true

@@ -2,6 +2,7 @@
 use Rattle.std.specs.Prelude.{ℕ, ◌&&◌, ◌||◌, nat_lt, Bool, true, false, not, List, [], ◌∷◌, length, Option, Some, None, codes, if◌then◌else◌}
 use Rattle.std.specs.Str.{bytes_eq}
 use Rattle.std.specs.List.{list_any}
+use Rattle.fond_text.specs.declared.code.TheConstants.{MISFIT, UNKNOWN_SECTION, MISPLACED_OPERATOR, NO_CHOICE}
 use Rattle.fond_tree.specs.declared.tree.Tree.{Tree}
 use Rattle.fond_reader.specs.declared.role.Keyword.{Keyword}
 use Rattle.fond_reader.specs.declared.role.Keyword.TheVariants as keyword
@@ -9,7 +10,8 @@ use Rattle.fond_reader.specs.declared.role.Role.{Role}
 use Rattle.fond_reader.specs.declared.role.Role.TheVariants.{DomainFile, ProblemFile, Word, Header, Head, Name, Variable, Term, DomainSection, ProblemSection, Predicate, Key, Parameters, Variables, VariableType, Condition, WholeEffect, Effect, Initial, Atom}
 use Rattle.fond_reader.specs.declared.role.Rest.{Rest}
 use Rattle.fond_reader.specs.declared.role.Rest.TheVariants.{NoMore, Each, Typed, Pairs, Unread}
-use Rattle.fond_reader.specs.Words.{reserved, is_one_of, is_name, is_variable, leaf_of, front, is_node}
+use Rattle.fond_reader.specs.Words.{reserved, is_one_of, is_name, is_variable}
+use Rattle.fond_tree.specs.Trees.{is_node, front, leaf_of}
 
 -- the members that are expected of a node: the first of them one by one, and the rest
 pub record Shape : Type 0 where
@@ -39,7 +41,7 @@ domain_section head =
     else if bytes_eq head (codes ":constants") then Members (shape (Head ∷ []) (Typed Name Name))
     else if bytes_eq head (codes ":predicates") then Members (shape (Head ∷ []) (Each Predicate))
     else if bytes_eq head (codes ":action") then Members (shape (Head ∷ Name ∷ []) Pairs)
-    else Refused 8
+    else Refused UNKNOWN_SECTION
 
 -- the sections of a problem that are passed over
 abbrev pub passed_over : List (List ℕ)
@@ -54,7 +56,7 @@ problem_section head =
     else if bytes_eq head (codes ":init") then Members (shape (Head ∷ []) (Each Initial))
     else if bytes_eq head (codes ":goal") then Members (shape (Head ∷ Condition ∷ []) NoMore)
     else if is_one_of passed_over head then Members (shape (Head ∷ []) Unread)
-    else Refused 8
+    else Refused UNKNOWN_SECTION
 
 -- an atom: a name and terms
 abbrev pub atom : Shape
@@ -63,7 +65,7 @@ atom = shape (Name ∷ []) (Each Term)
 -- an atom where operators may stand, by its head, which is no operator there: a reserved word is refused, and so is
 -- a name behind which a node stands
 abbrev pub atom_or_refused : List ℕ → List Tree → Expected
-atom_or_refused head behind = if is_one_of reserved head || (is_name head && list_any is_node behind) then Refused 11 else Members atom
+atom_or_refused head behind = if is_one_of reserved head || (is_name head && list_any is_node behind) then Refused MISPLACED_OPERATOR else Members atom
 
 -- a condition, by its head
 abbrev pub condition : List ℕ → List Tree → Expected
@@ -77,7 +79,7 @@ condition head behind =
 
 -- a choice has at least one member
 abbrev pub choice : List Tree → Expected
-choice [] = Refused 12
+choice [] = Refused NO_CHOICE
 choice (tree ∷ trees) = Members (shape (Head ∷ []) (Each Effect))
 
 -- an effect, by its head
@@ -117,16 +119,10 @@ none = shape [] NoMore
 abbrev pub node_expected : Role → List Tree → Option Expected
 node_expected DomainFile members = Some (Members (shape (Word keyword.Define ∷ Header keyword.Domain ∷ []) (Each DomainSection)))
 node_expected ProblemFile members = Some (Members (shape (Word keyword.Define ∷ Header keyword.Problem ∷ []) (Each ProblemSection)))
-node_expected (Word keyword) members = None
 node_expected (Header keyword) members = Some (Members (shape (Word keyword ∷ Name ∷ []) NoMore))
-node_expected Head members = None
-node_expected Name members = None
-node_expected Variable members = None
-node_expected Term members = None
 node_expected DomainSection members = Some (section domain_section (front members))
 node_expected ProblemSection members = Some (section problem_section (front members))
 node_expected Predicate members = Some (Members (shape (Name ∷ []) (Typed Variable VariableType)))
-node_expected Key members = None
 node_expected Parameters members = Some (Members (shape [] (Typed Variable VariableType)))
 node_expected Variables members = Some (Members (shape [] (Typed Variable VariableType)))
 node_expected VariableType members = Some (Members (shape (Word keyword.Either ∷ Name ∷ []) (Each Name)))
@@ -135,6 +131,7 @@ node_expected WholeEffect members = Some (form_of none effect members)
 node_expected Effect members = Some (form_of none effect members)
 node_expected Initial members = Some (form_of atom initial members)
 node_expected Atom members = Some (Members atom)
+node_expected leaf members = None
 
 -- the keys of an action
 abbrev pub action_keys : List (List ℕ)
@@ -144,28 +141,16 @@ action_keys = codes ":parameters" ∷ codes ":precondition" ∷ codes ":effect" 
 abbrev pub is_term : List ℕ → Bool
 is_term leaf = is_name leaf || is_variable leaf
 
--- the code with which a leaf is refused, if it is: 8 for an unknown key of an action, and else 7
+-- the code with which a leaf is refused, if it is: an unknown key of an action has a code of its own
 abbrev pub leaf_code : Role → List ℕ → Option ℕ
-leaf_code DomainFile leaf = Some 7
-leaf_code ProblemFile leaf = Some 7
-leaf_code (Word keyword) leaf = if bytes_eq leaf (word keyword) then None else Some 7
-leaf_code (Header keyword) leaf = Some 7
 leaf_code Head leaf = None
-leaf_code Name leaf = if is_name leaf then None else Some 7
-leaf_code Variable leaf = if is_variable leaf then None else Some 7
-leaf_code Term leaf = if is_term leaf then None else Some 7
-leaf_code DomainSection leaf = Some 7
-leaf_code ProblemSection leaf = Some 7
-leaf_code Predicate leaf = Some 7
-leaf_code Key leaf = if is_one_of action_keys leaf then None else Some 8
-leaf_code Parameters leaf = Some 7
-leaf_code Variables leaf = Some 7
-leaf_code VariableType leaf = if is_name leaf then None else Some 7
-leaf_code Condition leaf = Some 7
-leaf_code WholeEffect leaf = Some 7
-leaf_code Effect leaf = Some 7
-leaf_code Initial leaf = Some 7
-leaf_code Atom leaf = Some 7
+leaf_code (Word keyword) leaf = if bytes_eq leaf (word keyword) then None else Some MISFIT
+leaf_code Name leaf = if is_name leaf then None else Some MISFIT
+leaf_code Variable leaf = if is_variable leaf then None else Some MISFIT
+leaf_code Term leaf = if is_term leaf then None else Some MISFIT
+leaf_code VariableType leaf = if is_name leaf then None else Some MISFIT
+leaf_code Key leaf = if is_one_of action_keys leaf then None else Some UNKNOWN_SECTION
+leaf_code node leaf = Some MISFIT
 
 -- whether a node has more members than one
 abbrev pub has_more : List Tree → Bool
@@ -233,23 +218,13 @@ is_headed_by heads (Some head) = is_one_of heads head
 -- with a member; a predicate with a parameter; parameters of an action with a member; an atom with a term; a condition that is an
 -- equality or quantified; an effect that is conditional or quantified, or a choice that is not the whole effect
 abbrev pub is_unbuilt : Role → List Tree → Bool
-is_unbuilt DomainFile members = false
-is_unbuilt ProblemFile members = false
-is_unbuilt (Word keyword) members = false
-is_unbuilt (Header keyword) members = false
-is_unbuilt Head members = false
-is_unbuilt Name members = false
-is_unbuilt Variable members = false
-is_unbuilt Term members = false
 is_unbuilt DomainSection members = is_headed_by (codes ":types" ∷ codes ":constants" ∷ []) (front members) && has_more members
 is_unbuilt ProblemSection members = is_headed_by (codes ":objects" ∷ []) (front members) && has_more members
 is_unbuilt Predicate members = has_parameter members
-is_unbuilt Key members = false
 is_unbuilt Parameters members = nat_lt 0 (length members)
-is_unbuilt Variables members = false
-is_unbuilt VariableType members = false
 is_unbuilt Condition members = is_unbuilt_form condition_operator members
 is_unbuilt WholeEffect members = is_unbuilt_form (effect_operator true) members
 is_unbuilt Effect members = is_unbuilt_form (effect_operator false) members
 is_unbuilt Initial members = is_unbuilt_form initial_operator members
 is_unbuilt Atom members = has_term members
+is_unbuilt role members = false

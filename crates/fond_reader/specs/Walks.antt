@@ -6,8 +6,8 @@ use Rattle.fond_reader.specs.Roles.{Expected, Members, Refused, shape}
 use Rattle.fond_reader.specs.Parts.{Part, part, typed, pairs}
 use Rattle.fond_reader.specs.declared.expected.Expected.{Expected as Known}
 use Rattle.fond_reader.specs.declared.expected.Expected.TheVariants.{Members as KnownMembers, Refused as KnownRefused}
-use Rattle.fond_reader.specs.declared.walk.Left.{Left}
-use Rattle.fond_reader.specs.declared.walk.Left.TheVariants.{Unread, Each, Typed, TypeNext, Key, Value}
+use Rattle.fond_reader.specs.declared.walk.Pending.{Pending}
+use Rattle.fond_reader.specs.declared.walk.Pending.TheVariants.{Unread, Each, Typed, TypeNext, Key, Value}
 use Rattle.fond_reader.specs.declared.walk.Walk.{Walk}
 
 -- what is expected, as the code has it
@@ -30,7 +30,7 @@ behind_key role [] = []
 behind_key role (tree ∷ trees) = part_if role tree ++ pairs trees
 
 -- the parts of the trees behind the first members
-abbrev pub rest_left : Left → List Tree → List Part
+abbrev pub rest_left : Pending → List Tree → List Part
 rest_left Unread trees = []
 rest_left (Each role) trees = map (part role) trees
 rest_left (Typed leaf type untyped) trees = typed leaf type untyped trees
@@ -39,7 +39,7 @@ rest_left Key trees = pairs trees
 rest_left (Value role) trees = behind_key role trees
 
 -- the parts of the trees that are left, of which the first have these roles
-abbrev pub roles_left : List Role → Left → List Tree → List Part
+abbrev pub roles_left : List Role → Pending → List Tree → List Part
 roles_left [] left trees = rest_left left trees
 roles_left (role ∷ roles) left [] = []
 roles_left (role ∷ roles) left (tree ∷ trees) = part role tree ∷ roles_left roles left trees

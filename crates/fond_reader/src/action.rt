@@ -3,7 +3,7 @@
 ghost use Rattle.fond_reader.specs.CleanFiles.{is_none_or_one, fits_pairs, fits_action};
 ghost use Rattle.fond_reader.specs.CleanForms.{fits_condition, fits_whole_effect};
 ghost use Rattle.fond_reader.specs.Files.{is_name_leaf, values, IsPrecondition, IsWholeEffect, IsSchemaOf};
-ghost use Rattle.fond_reader.specs.Words.{members_of};
+ghost use Rattle.fond_tree.specs.Trees.{members_of};
 ghost use Rattle.fond_tree.specs.declared.tree.Tree.{Tree};
 ghost use Rattle.std.specs.Option.{option_copied};
 ghost use Rattle.std.specs.Prelude.{◌≡◌, ◌∷◌, Some, true, codes, slice_get, IfOk};
@@ -11,7 +11,6 @@ ghost use Rattle.std.specs.Prelude.{◌≡◌, ◌∷◌, Some, true, codes, sli
 use crate::atom::name_of;
 use crate::condition::read_condition;
 use crate::effect::read_whole_effect;
-use crate::leaves::place_of;
 use crate::section::{behind, is_leaf};
 use fond_ast::files::Schema;
 use fond_ast::names::TypedNames;
@@ -65,7 +64,7 @@ fn schema_of(alloc: Global, name: &Tree, pairs: &[Tree]) -> Result<Schema, NoMem
     let pre = read_precondition(alloc, pairs)?;
     let effect = read_keyed_effect(alloc, pairs)?;
     Ok(Schema {
-        place: place_of(name),
+        place: name.place(),
         name: name_of(name).copy(alloc)?,
         parameters: TypedNames::new(alloc),
         pre,

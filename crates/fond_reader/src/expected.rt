@@ -4,13 +4,14 @@
 ghost use Rattle.fond_reader.specs.Roles.{Members, shape, atom as atom_shape, none as no_members, domain_section as domain_section_of, problem_section as problem_section_of, condition as condition_of, effect as effect_of, initial as initial_of, choice as choice_of, atom_or_refused as atom_or_refused_of, section, form_of, node_expected};
 ghost use Rattle.fond_reader.specs.Parts.{is_counted as is_counted_shape, is_rest as is_rest_of};
 ghost use Rattle.fond_reader.specs.Walks.{seen};
-ghost use Rattle.fond_reader.specs.Words.{front as front_of, is_node as is_node_tree};
+ghost use Rattle.fond_tree.specs.Trees.{is_node as is_node_tree, front as front_of};
 ghost use Rattle.std.specs.List.{list_any};
 ghost use Rattle.std.specs.Prelude.{◌≡◌, ◌∷◌, [], option_map};
 
-use crate::leaves::{front, is_name, is_node, is_passed_over, is_reserved, is_word};
+use crate::leaves::{is_name, is_passed_over, is_reserved, is_word};
 use crate::role::{Keyword, Rest, Role};
-use fond_tree::tree::Tree;
+use fond_text::code::{MISPLACED_OPERATOR, NO_CHOICE, UNKNOWN_SECTION};
+use fond_tree::tree::{Tree, front};
 
 /// The members that are expected of a node: the first of them one by one, and the rest.
 #[derive(Clone, Copy)]
@@ -46,7 +47,7 @@ fn domain_section(head: &[u8]) -> Expected
     } else if is_word(head, b":action") {
         members(&[Role::Head, Role::Name], Rest::Pairs)
     } else {
-        Expected::Refused(8)
+        Expected::Refused(UNKNOWN_SECTION)
     }
 }
 
@@ -67,7 +68,7 @@ fn problem_section(head: &[u8]) -> Expected
     } else if is_passed_over(head) {
         members(&[Role::Head], Rest::Unread)
     } else {
-        Expected::Refused(8)
+        Expected::Refused(UNKNOWN_SECTION)
     }
 }
 
@@ -89,7 +90,7 @@ fn nothing() -> Expected
 fn has_node(trees: &[Tree]) -> bool
     ensures { result ≡ list_any is_node_tree trees.now }
 {
-    trees.iter().any(|tree| is_node(tree))
+    trees.iter().any(|tree| tree.is_node())
 }
 
 /// An atom where operators may stand, by its head, which is no operator there. A reserved word is refused, and so is
@@ -98,7 +99,7 @@ fn atom_or_refused(head: &[u8], behind: &[Tree]) -> Expected
     ensures { seen result ≡ atom_or_refused_of head.now behind.now }
 {
     if is_reserved(head) || (is_name(head) && has_node(behind)) {
-        Expected::Refused(11)
+        Expected::Refused(MISPLACED_OPERATOR)
     } else {
         atom()
     }
@@ -134,7 +135,7 @@ fn choice(behind: &[Tree]) -> Expected
     ensures { seen result ≡ choice_of behind.now }
 {
     match behind {
-        [] => Expected::Refused(12),
+        [] => Expected::Refused(NO_CHOICE),
         [_, ..] => members(&[Role::Head], Rest::Each(Role::Effect)),
     }
 }
@@ -272,7 +273,7 @@ pub fn expected_of(role: Role, trees: &[Tree]) -> Option<Expected>
         Role::WholeEffect | Role::Effect => Some(effect_of(trees)),
         Role::Initial => Some(initial_of(trees)),
         Role::Atom => Some(atom()),
-        Role::Word(_) | Role::Head | Role::Name | Role::Variable | Role::Term | Role::Key => None,
+        _ => None,
     }
 }
 

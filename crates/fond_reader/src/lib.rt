@@ -10,8 +10,6 @@ pub mod domain;
 mod effect;
 mod expected;
 pub mod fault;
-#[cfg(test)]
-mod fault_tests;
 mod initial;
 pub mod laws;
 mod leaves;
@@ -19,6 +17,7 @@ pub mod problem;
 mod repeats;
 pub mod role;
 mod section;
-pub mod side;
+#[cfg(test)]
+mod tests;
 mod unbuilt;
 mod walk;

@@ -3,7 +3,7 @@
 ghost use Rattle.fond_reader.specs.CleanFiles.{sections_of as sections_of_file};
 ghost use Rattle.fond_reader.specs.Files.{has_head, headed, content, contents};
 ghost use Rattle.fond_reader.specs.Forms.{is_word as is_word_leaf};
-ghost use Rattle.fond_reader.specs.Words.{leaf_of};
+ghost use Rattle.fond_tree.specs.Trees.{leaf_of};
 ghost use Rattle.std.specs.Prelude.{◌≡◌, ◌≤◌, length};
 
 use crate::leaves::is_word;

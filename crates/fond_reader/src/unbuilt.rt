@@ -1,13 +1,14 @@
 //! The forms that are not built yet.
 
 ghost use Rattle.fond_reader.specs.Roles.{has_more as has_more_members, is_term as is_term_word, is_leaf_of, has_term as has_term_behind, has_parameter as has_parameter_behind, condition_operator as condition_operator_of, effect_operator as effect_operator_of, initial_operator as initial_operator_of, is_unbuilt_form, is_headed_by, is_unbuilt as is_unbuilt_node};
-ghost use Rattle.fond_reader.specs.Words.{front as front_of, is_name as is_name_word, is_variable as is_variable_word};
+ghost use Rattle.fond_reader.specs.Words.{is_name as is_name_word, is_variable as is_variable_word};
+ghost use Rattle.fond_tree.specs.Trees.{front as front_of};
 ghost use Rattle.std.specs.List.{list_any};
 ghost use Rattle.std.specs.Prelude.{◌≡◌, ◌∷◌, [], codes};
 
-use crate::leaves::{front, is_name, is_term, is_variable, is_word};
+use crate::leaves::{is_name, is_term, is_variable, is_word};
 use crate::role::Role;
-use fond_tree::tree::Tree;
+use fond_tree::tree::{Tree, front};
 
 /// Whether a node has more members than one.
 fn has_more(members: &[Tree]) -> bool
@@ -182,16 +183,6 @@ pub fn is_unbuilt(role: Role, members: &[Tree]) -> bool
         Role::WholeEffect => is_unbuilt_effect(true, members),
         Role::Effect => is_unbuilt_effect(false, members),
         Role::Initial => is_unbuilt_initial(members),
-        Role::DomainFile
-        | Role::ProblemFile
-        | Role::Word(_)
-        | Role::Header(_)
-        | Role::Head
-        | Role::Name
-        | Role::Variable
-        | Role::Term
-        | Role::Key
-        | Role::Variables
-        | Role::VariableType => false,
+        _ => false,
     }
 }

@@ -3,7 +3,7 @@
 
 ghost use Rattle.fond_reader.specs.Parts.{typed, rest_parts, shape_parts, expected_parts, value_role as value_role_of};
 ghost use Rattle.fond_reader.specs.Walks.{seen, part_if, rest_left, parts_left};
-ghost use Rattle.fond_reader.specs.Words.{leaf_of as leaf_of_tree};
+ghost use Rattle.fond_tree.specs.Trees.{leaf_of as leaf_of_tree};
 ghost use Rattle.fond_tree.specs.declared.tree.Tree.{Tree as TreeValue};
 ghost use Rattle.std.specs.Prelude.{◌≡◌, ◌∷◌, ◌++◌, List, option_map, option_and_then};
 
@@ -14,7 +14,7 @@ use fond_tree::tree::Tree;
 
 /// What is expected of the members behind the first ones.
 #[derive(Clone, Copy)]
-enum Left {
+enum Pending {
     /// They are not looked at.
     Unread,
     Each(Role),
@@ -32,7 +32,7 @@ enum Left {
 #[derive(Clone, Copy)]
 pub struct Walk {
     first: &'static [Role],
-    left: Left,
+    left: Pending,
 }
 
 /// What is expected of the value of a key, where it is looked at.
@@ -61,18 +61,18 @@ fn role_behind(key: &Tree) -> Option<Role>
 }
 
 /// What is expected at first of the members behind the first ones.
-fn rest_of(rest: Rest) -> Left
+fn rest_of(rest: Rest) -> Pending
     ensures { (trees : List TreeValue) → rest_left result trees ≡ rest_parts rest trees }
 {
     match rest {
-        Rest::Each(role) => Left::Each(role),
-        Rest::Typed(leaf, types) => Left::Typed(leaf, types, false),
-        Rest::Pairs => Left::Key,
-        Rest::NoMore | Rest::Unread => Left::Unread,
+        Rest::Each(role) => Pending::Each(role),
+        Rest::Typed(leaf, types) => Pending::Typed(leaf, types, false),
+        Rest::Pairs => Pending::Key,
+        Rest::NoMore | Rest::Unread => Pending::Unread,
     }
 }
 
-impl Left {
+impl Pending {
     /// What is expected of the next tree of a typed list: nothing where it is a `-` that fits.
     fn next_typed(
         &mut self,
@@ -86,10 +86,10 @@ impl Left {
     {
         let dash = is_dash(tree);
         if untyped && dash && !behind.is_empty() {
-            *self = Left::TypeNext(leaf, types);
+            *self = Pending::TypeNext(leaf, types);
             None
         } else {
-            *self = Left::Typed(leaf, types, !dash);
+            *self = Pending::Typed(leaf, types, !dash);
             Some(leaf)
         }
     }
@@ -99,21 +99,21 @@ impl Left {
         ensures { rest_left self.old (tree.now ∷ behind.now) ≡ part_if result tree.now ++ rest_left self.new behind.now }
     {
         match *self {
-            Left::Unread => None,
-            Left::Each(role) => Some(role),
-            Left::Typed(leaf, types, untyped) => self.next_typed(
+            Pending::Unread => None,
+            Pending::Each(role) => Some(role),
+            Pending::Typed(leaf, types, untyped) => self.next_typed(
                 leaf, types, untyped, tree, behind,
             ),
-            Left::TypeNext(leaf, types) => {
-                *self = Left::Typed(leaf, types, false);
+            Pending::TypeNext(leaf, types) => {
+                *self = Pending::Typed(leaf, types, false);
                 Some(types)
             }
-            Left::Key => {
-                *self = Left::Value(role_behind(tree));
+            Pending::Key => {
+                *self = Pending::Value(role_behind(tree));
                 Some(Role::Key)
             }
-            Left::Value(role) => {
-                *self = Left::Key;
+            Pending::Value(role) => {
+                *self = Pending::Key;
                 role
             }
         }
@@ -139,7 +139,7 @@ impl Walk {
             Some(Expected::Members(shape)) => Walk::over_shape(shape),
             Some(Expected::Refused(_)) | None => Walk {
                 first: &[],
-                left: Left::Unread,
+                left: Pending::Unread,
             },
         }
     }

@@ -1,7 +1,7 @@
 use Rattle.std.proofs.Common.{◌≡◌, Some, List, ◌∷◌, length, ◌∙◌, ◌-◌, sym, take, drop}
 use Rattle.fond_tree.specs.declared.tree.Tree.{Tree}
 use Rattle.fond_reader.specs.Files.{IsSchemaOf, but_first}
-use Rattle.fond_reader.specs.Words.{members_of}
+use Rattle.fond_tree.specs.Trees.{members_of}
 use Rattle.fond_reader.proofs.ReadLists.{first_and_rest}
 use Rattle.fond_reader.proofs.ReadSchemas.{with_head}
 use Rattle.fond_reader.proofs.ReadValues.{if_ok}

@@ -1,10 +1,10 @@
 use Rattle.std.proofs.Common.{◌≡◌, ◌∙◌, ◌+◌, ◌-◌, ◌++◌, ◌∷◌, [], Some, length, take, drop, ap, sym, arith}
 use Rattle.std.proofs.lemmas.Grind.{common_steps}
-use Rattle.fond_reader.specs.Words.{members_of}
+use Rattle.fond_tree.specs.Trees.{members_of}
 use Rattle.fond_reader.specs.Parts.{expected_parts}
 use Rattle.fond_reader.specs.Walks.{part_if, parts_left}
 use Rattle.fond_reader.specs.Faults.{Stands}
-use Rattle.fond_reader.proofs.Earliest.{least_found, clean_if_none}
+use Rattle.fond_text.proofs.Earliest.{least_found, clean_if_none}
 use Rattle.fond_reader.proofs.Steps.{node_members, leaf_members, all_left, none_left, nothing_left, leaf_first, part_looked_at, member_passed_over}
 use Rattle.fond_reader.proofs.fault.+first_fault.Goals as goal
 use Rattle.fond_reader.proofs.fault.+first_fault.Goals.{in-Some, in_default-inner}

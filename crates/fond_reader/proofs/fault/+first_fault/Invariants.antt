@@ -2,7 +2,7 @@ use Rattle.std.proofs.Common.{drop}
 use Rattle.fond_reader.specs.Faults.{Stands}
 use Rattle.fond_reader.specs.Walks.{parts_left}
 use Rattle.fond_reader.proofs.Among.{Among}
-use Rattle.fond_reader.proofs.Earliest.{IsFirstSoFar}
+use Rattle.fond_text.proofs.Earliest.{IsFirstSoFar}
 use Rattle.fond_reader.proofs.fault.+first_fault.Given as goal
 
 -- the first so far of the faults of the tree, where those of the parts that are left were not looked for

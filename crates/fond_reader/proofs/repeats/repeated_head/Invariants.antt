@@ -1,7 +1,7 @@
 use Rattle.std.proofs.Common.{false, drop}
-use Rattle.fond_reader.specs.Words.{head_of}
+use Rattle.fond_tree.specs.Trees.{head_of}
 use Rattle.fond_reader.proofs.Again.{Again}
-use Rattle.fond_reader.proofs.Earliest.{IsFirstSoFar}
+use Rattle.fond_text.proofs.Earliest.{IsFirstSoFar}
 use Rattle.fond_reader.proofs.repeats.repeated_head.Given as goal
 
 -- the first so far of the sections that stand again

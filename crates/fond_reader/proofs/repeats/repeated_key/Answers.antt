@@ -2,9 +2,9 @@ use Rattle.std.proofs.Common.{◌≡◌, ◌≤◌, ◌<◌, ◌-◌, ◌||◌, 
 use Rattle.std.proofs.lemmas.Grind.{common_steps}
 use Rattle.fond_tree.specs.declared.tree.Tree.{Tree}
 use Rattle.fond_reader.specs.Faults.{keys}
-use Rattle.fond_reader.specs.Words.{leaf_of}
+use Rattle.fond_tree.specs.Trees.{leaf_of}
 use Rattle.fond_reader.proofs.Again.{Again, again_step, all_repeated}
-use Rattle.fond_reader.proofs.Earliest.{IsFirstSoFar}
+use Rattle.fond_text.proofs.Earliest.{IsFirstSoFar}
 use Rattle.fond_reader.proofs.repeats.repeated_key.Goals as goal
 use Rattle.fond_reader.proofs.repeats.repeated_key.Goals.{then-seen, else-seen}
 

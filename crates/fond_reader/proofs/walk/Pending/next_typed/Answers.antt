@@ -2,8 +2,8 @@ use Rattle.std.proofs.Common.{◌≡◌, ◌≤◌, true, false, length, arith}
 use Rattle.std.proofs.lemmas.Bool.Decides.{nat_tests}
 use Rattle.fond_reader.specs.Parts.{is_dash}
 use Rattle.fond_reader.proofs.Members.{typed_at_dash, typed_behind_type, typed_at_leaf, typed_at_last}
-use Rattle.fond_reader.proofs.walk.Left.next_typed.Goals as goal
-use Rattle.fond_reader.proofs.walk.Left.next_typed.Goals.{else-untyped-via-then-untyped+then-dash+else-not-is_empty, else-untyped-via-then-untyped+else-dash, else-untyped-via-else-untyped}
+use Rattle.fond_reader.proofs.walk.Pending.next_typed.Goals as goal
+use Rattle.fond_reader.proofs.walk.Pending.next_typed.Goals.{else-untyped-via-then-untyped+then-dash+else-not-is_empty, else-untyped-via-then-untyped+else-dash, else-untyped-via-else-untyped}
 
 pub returns-then-not-is_empty : goal.returns-then-not-is_empty
 returns-then-not-is_empty c =
