@@ -17,7 +17,7 @@ use Rattle.fond_reader.proofs.LawForms.{form_there}
 use Rattle.fond_reader.proofs.ReadLists.{first_of_both, second_of_both}
 use Rattle.fond_reader.proofs.ReadSchemas.{both_hold}
 
--- where an effect is read, its choices have members
+-- the choices of an effect that is read have members
 abbrev Chooses : Effect → Type 0
 Chooses effect = (whole : Bool) (tree : Tree) → is_effect effect whole tree ≡ true → has_choices effect ≡ true
 
@@ -42,7 +42,7 @@ layer_chooses open_effect.Nothing whole tree is = refl
 layer_chooses (open_effect.Add atom) whole tree is = refl
 layer_chooses (open_effect.Delete atom) whole tree is = refl
 layer_chooses (open_effect.And parts) whole tree is =
-    let form = form_there (codes "and") (inner (map is_effect (map (λ part. part.0) parts.items))) tree is in parts_choose parts.items form.behind form.read
+    let form = form_there (codes "and") (inner (map is_effect (map (λ part. part.0) parts.items))) tree is in parts_choose parts.items form.after form.read
 layer_chooses (open_effect.Forall names part) whole tree is = absurd (true_is_false (sym is))
 layer_chooses (open_effect.When condition part) whole tree is = absurd (true_is_false (sym is))
 layer_chooses (open_effect.OneOf parts) whole tree is =
@@ -50,7 +50,7 @@ layer_chooses (open_effect.OneOf parts) whole tree is =
     let chosen = first_of_both (whole && not (length (map is_effect effects) == 0)) _ is in
     let form = form_there (codes "oneof") (inner (map is_effect effects)) tree (second_of_both (whole && not (length (map is_effect effects) == 0)) _ is) in
     let some : not (length (map has_choices effects) == 0) ≡ true = ap (λ n. not (n == 0)) (length-map effects has_choices ∙ sym (length-map effects is_effect)) ∙ second_of_both whole _ chosen in
-    both_hold _ _ some (parts_choose parts.items form.behind form.read)
+    both_hold _ _ some (parts_choose parts.items form.after form.read)
 
 -- the choices of an effect that is read have members
 read_chooses : (effect : Effect) → Chooses effect

@@ -8,7 +8,7 @@ use Rattle.fond_tree.specs.declared.tree.Tree.{Tree}
 use Rattle.fond_ast.specs.declared.syntax.Effect.{Effect}
 use Rattle.fond_reader.specs.Forms.{is_effect, inner}
 
--- where both of two tests hold, each does
+-- if both of two tests hold, each does
 pub first_of_both : (here rest : Bool) → (here && rest) ≡ true → here ≡ true
 first_of_both true rest both = refl
 first_of_both false rest both = both
@@ -17,13 +17,13 @@ pub second_of_both : (here rest : Bool) → (here && rest) ≡ true → rest ≡
 second_of_both true rest both = both
 second_of_both false rest both = cc
 
--- what stands at an index below the length
+-- the item at an index below the length
 pub stands_at : {X : Type 0} (xs : List X) (i : ℕ) (x : X) → i < length xs → x ≡ get_or xs i x → slice_get xs i ≡ Some x
 stands_at [] i x below same = absurd (omega arith)
 stands_at (y ∷ ys) zero x below same = ap (λ z. Some z) (sym same)
 stands_at (y ∷ ys) (suc i) x below same = stands_at ys i x (omega arith) same
 
--- what is left from an index on is what stands there and what is left behind it
+-- the items from an index on are the one there and the rest
 pub left_at : {X : Type 0} (xs : List X) (i : ℕ) (x : X) → i < length xs → x ≡ get_or xs i x → drop i xs ≡ x ∷ drop (i + 1) xs
 left_at xs i x below same = rw (add-one i) (from xs i below same) where
   from : (ys : List _) (j : ℕ) → j < length ys → x ≡ get_or ys j x → drop j ys ≡ x ∷ drop (suc j) ys
@@ -31,27 +31,27 @@ left_at xs i x below same = rw (add-one i) (from xs i below same) where
   from (y ∷ ys) zero within is = ap (λ z. z ∷ ys) (sym is)
   from (y ∷ ys) (suc j) within is = from ys j (omega arith) is
 
--- a list is its first element and what stands behind it
+-- a list is its first item and the rest
 pub first_and_rest : {X : Type 0} (xs : List X) (x : X) → 1 ≤ length xs → x ≡ get_or xs 0 x → xs ≡ x ∷ take (length xs - 1) (drop 1 xs)
 first_and_rest [] x some same = absurd (omega arith)
 first_and_rest (y ∷ ys) x some same = let rest : take (length (y ∷ ys) - 1) ys ≡ ys = grind (arith, common_steps) in rw rest (ap (λ z. z ∷ ys) (sym same))
 
--- where all trees fit, each does
+-- if all trees fit, each does
 pub fits_at : {S : Type 0} (fits : S → Bool) (seen : Tree → S) (trees : List Tree) (i : ℕ) (tree : Tree) → i < length trees → tree ≡ get_or trees i tree → list_all fits (map seen trees) ≡ true → fits (seen tree) ≡ true
 fits_at fits seen [] i tree below same all = absurd (omega arith)
 fits_at fits seen (t ∷ ts) zero tree below same all = ap (λ t. fits (seen t)) same ∙ first_of_both _ _ all
 fits_at fits seen (t ∷ ts) (suc i) tree below same all = fits_at fits seen ts i tree (omega arith) same (second_of_both _ _ all)
 
--- where all trees from an index on fit, those behind it do
-pub fits_behind : {S : Type 0} (fits : S → Bool) (seen : Tree → S) (trees : List Tree) (i : ℕ) → i < length trees → list_all fits (map seen (drop i trees)) ≡ true → list_all fits (map seen (drop (i + 1) trees)) ≡ true
-fits_behind fits seen trees i below all = rw (add-one i) (from trees i below all) where
+-- if all trees from an index on fit, those after it do
+pub fits_after : {S : Type 0} (fits : S → Bool) (seen : Tree → S) (trees : List Tree) (i : ℕ) → i < length trees → list_all fits (map seen (drop i trees)) ≡ true → list_all fits (map seen (drop (i + 1) trees)) ≡ true
+fits_after fits seen trees i below all = rw (add-one i) (from trees i below all) where
   from : (ts : List Tree) (j : ℕ) → j < length ts → list_all fits (map seen (drop j ts)) ≡ true → list_all fits (map seen (drop (suc j) ts)) ≡ true
   from [] j within h = absurd (omega arith)
   from (t ∷ ts) zero within h = second_of_both (fits (seen t)) _ h
   from (t ∷ ts) (suc j) within h = from ts j (omega arith) h
 
-pub all_behind : (fits : Tree → Bool) (trees : List Tree) (i : ℕ) → i < length trees → list_all fits (drop i trees) ≡ true → list_all fits (drop (i + 1) trees) ≡ true
-all_behind fits trees i below all = rw (add-one i) (from trees i below all) where
+pub all_after : (fits : Tree → Bool) (trees : List Tree) (i : ℕ) → i < length trees → list_all fits (drop i trees) ≡ true → list_all fits (drop (i + 1) trees) ≡ true
+all_after fits trees i below all = rw (add-one i) (from trees i below all) where
   from : (ts : List Tree) (j : ℕ) → j < length ts → list_all fits (drop j ts) ≡ true → list_all fits (drop (suc j) ts) ≡ true
   from [] j within h = absurd (omega arith)
   from (t ∷ ts) zero within h = second_of_both (fits t) _ h

@@ -42,7 +42,7 @@ module _ (role : Role) (tree : Tree) where
   all_left members are left same first own =
       subst (λ (ps : List Part). IsFirstSoFar (Stands role tree) (Among ps) first) (parts_of_node role tree members are ∙ sym same) (own_so_far first own)
 
-  -- where no part is left, the first fault was found
+  -- if no part is left, the first fault was found
   pub none_left : (left : List Part) → left ≡ [] → (first : Option Found) → IsFirstSoFar (Stands role tree) (Among left) first → IsFirst (Stands role tree) first
   none_left left empty first h =
       all_found (Stands role tree) (Among left) first h (λ place code a. subst (λ (ps : List Part). Among ps place code) empty a)
@@ -51,7 +51,7 @@ module _ (role : Role) (tree : Tree) where
   pub leaf_first : members_of tree ≡ None → (first : Option Found) → IsFirst (IsOwnFault (part role tree)) first → IsFirst (Stands role tree) first
   leaf_first leaf first own = none_left (parts (part role tree)) (parts_of_leaf role tree leaf) first (own_so_far first own)
 
-  -- one more part was looked at
+  -- one more part was checked
   pub part_looked_at : (left rest : List Part) (inner : Role) (member : Tree) → left ≡ part_if (Some inner) member ++ rest → (before other first : Option Found) →
       IsFirstSoFar (Stands role tree) (Among left) before → IfSome other (λ found. IsLeast (Stands inner member) found.place found.code) → IfNone other (IsClean (Stands inner member)) →
       IsEarlier before other first → IsFirstSoFar (Stands role tree) (Among rest) first
@@ -64,18 +64,18 @@ module _ (role : Role) (tree : Tree) where
       IsFirstSoFar (Stands role tree) (Among left) first → IsFirstSoFar (Stands role tree) (Among rest) first
   member_passed_over left rest member split first h = subst (λ (ps : List Part). IsFirstSoFar (Stands role tree) (Among ps) first) split h
 
-behind_nothing : (left : Pending) → rest_left left [] ≡ []
-behind_nothing Unread = refl
-behind_nothing (Each role) = refl
-behind_nothing (Typed leaf type untyped) = refl
-behind_nothing (TypeNext leaf type) = refl
-behind_nothing Key = refl
-behind_nothing (Value role) = refl
+after_nothing : (left : Pending) → rest_left left [] ≡ []
+after_nothing Unread = refl
+after_nothing (Each role) = refl
+after_nothing (Typed leaf type untyped) = refl
+after_nothing (TypeNext leaf type) = refl
+after_nothing Key = refl
+after_nothing (Value role) = refl
 
 at_end : (roles : List Role) (left : Pending) → roles_left roles left [] ≡ []
-at_end [] left = behind_nothing left
+at_end [] left = after_nothing left
 at_end (role ∷ roles) left = refl
 
--- where none of the trees is left, no part is
+-- if none of the trees is left, no part is
 pub nothing_left : (walk : Walk) (trees : List Tree) → trees ≡ [] → parts_left walk trees ≡ []
 nothing_left walk trees empty = ap (parts_left walk) empty ∙ at_end walk.first.now walk.left

@@ -1,4 +1,4 @@
--- Which conditions and effects a tree is read as. So far atoms have no terms, and nothing is quantified or conditional.
+-- Which conditions and effects a tree is read as. Terms, quantifiers and conditional effects are not supported yet.
 use Rattle.std.specs.Prelude.{ℕ, ◌==◌, ◌&&◌, Bool, true, false, not, List, [], ◌∷◌, map, length, Option, Some, None, codes, if◌then◌else◌}
 use Rattle.std.specs.Str.{bytes_eq}
 use Rattle.fond_text.specs.Lists.{each_passes}
@@ -51,12 +51,13 @@ is_atom atom tree = is_place atom.place (place_of tree) && is_only (is_named ato
 abbrev pub are_operands : List ℕ → List (Tree → Bool) → Option (List Tree) → Bool
 are_operands word rest None = false
 are_operands word rest (Some []) = false
-are_operands word rest (Some (head ∷ behind)) = is_word word (leaf_of head) && each_passes rest behind
+are_operands word rest (Some (head ∷ after)) = is_word word (leaf_of head) && each_passes rest after
 
 -- whether a tree is a node of this operator and operands that are read as these
 abbrev pub is_form : List ℕ → List (Tree → Bool) → Tree → Bool
 is_form word operands tree = are_operands word operands (members_of tree)
 
+-- a condition is read from a tree by its operator and the trees of its parts
 abbrev pub condition_step : condition.Cond-F (Tree → Bool) → Tree → Bool
 condition_step condition.Truth tree = is_unit tree
 condition_step (condition.Holds atom) tree = is_atom atom tree
@@ -76,6 +77,7 @@ is_condition = fold-Cond (Tree → Bool) condition_step
 abbrev pub inner : List (Bool → Tree → Bool) → List (Tree → Bool)
 inner parts = map (λ part. part false) parts
 
+-- an effect is read from a tree, as a whole effect or as an operand, by its operator and the trees of its parts
 abbrev pub effect_step : effect.Effect-F (Bool → Tree → Bool) → Bool → Tree → Bool
 effect_step effect.Nothing whole tree = is_unit tree
 effect_step (effect.Add atom) whole tree = is_atom atom tree

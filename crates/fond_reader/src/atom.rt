@@ -1,4 +1,4 @@
-//! Names and atoms in which no fault stands.
+//! Reading names and atoms that have no fault.
 
 ghost use Rattle.fond_reader.specs.Files.{is_name_leaf};
 ghost use Rattle.fond_reader.specs.Forms.{is_atom};

@@ -1,4 +1,4 @@
-//! Conditions in which no fault stands.
+//! Reading conditions that have no fault.
 
 ghost use Rattle.fond_text.specs.Lists.{each_passes};
 ghost use Rattle.fond_reader.specs.CleanForms.{fits_condition, seen_condition};
@@ -24,18 +24,18 @@ pub(crate) fn read_condition(alloc: Global, tree: &Tree) -> Result<Cond, NoMemor
         Tree::Node(_, members) => match members.as_slice() {
             [] => Ok(Cond::Truth),
             [Tree::Node(_, _), ..] => unreachable!(),
-            [Tree::Leaf(_, head), behind @ ..] => {
+            [Tree::Leaf(_, head), after @ ..] => {
                 if is_word(head.bytes(), b"and") {
-                    return Ok(Cond::And(read_conditions(alloc, behind)?));
+                    return Ok(Cond::And(read_conditions(alloc, after)?));
                 }
                 if is_word(head.bytes(), b"or") {
-                    return Ok(Cond::Or(read_conditions(alloc, behind)?));
+                    return Ok(Cond::Or(read_conditions(alloc, after)?));
                 }
                 if is_word(head.bytes(), b"not") {
-                    return Ok(Cond::Not(read_only(alloc, behind)?));
+                    return Ok(Cond::Not(read_only(alloc, after)?));
                 }
                 if is_word(head.bytes(), b"imply") {
-                    let (part, other) = read_both(alloc, behind)?;
+                    let (part, other) = read_both(alloc, after)?;
                     return Ok(Cond::Imply(part, other));
                 }
                 Ok(Cond::Holds(read_atom(alloc, tree)?))

@@ -1,4 +1,4 @@
-//! Effects in which no fault stands.
+//! Reading effects that have no fault.
 
 ghost use Rattle.fond_text.specs.Lists.{each_passes};
 ghost use Rattle.fond_reader.specs.CleanForms.{fits_effect, fits_choice, fits_whole_effect, seen_effect};
@@ -26,12 +26,12 @@ pub(crate) fn read_effect(alloc: Global, tree: &Tree) -> Result<Effect, NoMemory
         Tree::Node(_, members) => match members.as_slice() {
             [] => Ok(Effect::Nothing),
             [Tree::Node(_, _), ..] => unreachable!(),
-            [Tree::Leaf(_, head), behind @ ..] => {
+            [Tree::Leaf(_, head), after @ ..] => {
                 if is_word(head.bytes(), b"and") {
-                    return Ok(Effect::And(read_effects(alloc, behind)?));
+                    return Ok(Effect::And(read_effects(alloc, after)?));
                 }
                 if is_word(head.bytes(), b"not") {
-                    return Ok(Effect::Delete(read_only_atom(alloc, behind)?));
+                    return Ok(Effect::Delete(read_only_atom(alloc, after)?));
                 }
                 Ok(Effect::Add(read_atom(alloc, tree)?))
             }
@@ -87,7 +87,7 @@ fn read_choice(alloc: Global, tree: &Tree) -> Result<Effect, NoMemory>
         Tree::Leaf(_, _) => unreachable!(),
         Tree::Node(_, members) => match members.as_slice() {
             [] => unreachable!(),
-            [_, behind @ ..] => Ok(Effect::OneOf(read_effects(alloc, behind)?)),
+            [_, after @ ..] => Ok(Effect::OneOf(read_effects(alloc, after)?)),
         },
     }
 }

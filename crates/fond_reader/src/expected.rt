@@ -1,5 +1,4 @@
-//! What is expected of a node, by its role and, where forms have heads, by its head. Each table stands in a function
-//! of its own.
+//! The form that is expected of a node, by its role and its head. Each table is a function of its own.
 
 ghost use Rattle.fond_reader.specs.Roles.{Members, shape, atom as atom_shape, none as no_members, domain_section as domain_section_of, problem_section as problem_section_of, condition as condition_of, effect as effect_of, initial as initial_of, choice as choice_of, atom_or_refused as atom_or_refused_of, section, form_of, node_expected};
 ghost use Rattle.fond_reader.specs.Parts.{is_counted as is_counted_shape, is_rest as is_rest_of};
@@ -93,12 +92,12 @@ fn has_node(trees: &[Tree]) -> bool
     trees.iter().any(|tree| tree.is_node())
 }
 
-/// An atom where operators may stand, by its head, which is no operator there. A reserved word is refused, and so is
-/// a name behind which a node stands.
-fn atom_or_refused(head: &[u8], behind: &[Tree]) -> Expected
-    ensures { seen result ≡ atom_or_refused_of head.now behind.now }
+/// An atom at a place where operators are allowed, by its head, which is no operator there. A reserved word is refused,
+/// and so is a name that a node follows.
+fn atom_or_refused(head: &[u8], after: &[Tree]) -> Expected
+    ensures { seen result ≡ atom_or_refused_of head.now after.now }
 {
-    if is_reserved(head) || (is_name(head) && has_node(behind)) {
+    if is_reserved(head) || (is_name(head) && has_node(after)) {
         Expected::Refused(MISPLACED_OPERATOR)
     } else {
         atom()
@@ -106,8 +105,8 @@ fn atom_or_refused(head: &[u8], behind: &[Tree]) -> Expected
 }
 
 /// A condition, by its head.
-fn condition(head: &[u8], behind: &[Tree]) -> Expected
-    ensures { seen result ≡ condition_of head.now behind.now }
+fn condition(head: &[u8], after: &[Tree]) -> Expected
+    ensures { seen result ≡ condition_of head.now after.now }
 {
     if is_word(head, b"and") || is_word(head, b"or") {
         members(&[Role::Head], Rest::Each(Role::Condition))
@@ -126,23 +125,23 @@ fn condition(head: &[u8], behind: &[Tree]) -> Expected
     } else if is_word(head, b"=") {
         members(&[Role::Head, Role::Term, Role::Term], Rest::NoMore)
     } else {
-        atom_or_refused(head, behind)
+        atom_or_refused(head, after)
     }
 }
 
 /// A choice has at least one member.
-fn choice(behind: &[Tree]) -> Expected
-    ensures { seen result ≡ choice_of behind.now }
+fn choice(after: &[Tree]) -> Expected
+    ensures { seen result ≡ choice_of after.now }
 {
-    match behind {
+    match after {
         [] => Expected::Refused(NO_CHOICE),
         [_, ..] => members(&[Role::Head], Rest::Each(Role::Effect)),
     }
 }
 
 /// An effect, by its head.
-fn effect(head: &[u8], behind: &[Tree]) -> Expected
-    ensures { seen result ≡ effect_of head.now behind.now }
+fn effect(head: &[u8], after: &[Tree]) -> Expected
+    ensures { seen result ≡ effect_of head.now after.now }
 {
     if is_word(head, b"and") {
         members(&[Role::Head], Rest::Each(Role::Effect))
@@ -153,20 +152,20 @@ fn effect(head: &[u8], behind: &[Tree]) -> Expected
     } else if is_word(head, b"when") {
         members(&[Role::Head, Role::Condition, Role::Effect], Rest::NoMore)
     } else if is_word(head, b"oneof") {
-        choice(behind)
+        choice(after)
     } else {
-        atom_or_refused(head, behind)
+        atom_or_refused(head, after)
     }
 }
 
 /// An initial atom, by its head.
-fn initial(head: &[u8], behind: &[Tree]) -> Expected
-    ensures { seen result ≡ initial_of head.now behind.now }
+fn initial(head: &[u8], after: &[Tree]) -> Expected
+    ensures { seen result ≡ initial_of head.now after.now }
 {
     if is_word(head, b"not") {
         members(&[Role::Head, Role::Atom], Rest::NoMore)
     } else {
-        atom_or_refused(head, behind)
+        atom_or_refused(head, after)
     }
 }
 
@@ -203,7 +202,7 @@ fn condition_of(trees: &[Tree]) -> Expected
 {
     match trees {
         [] => nothing(),
-        [Tree::Leaf(_, head), behind @ ..] => condition(head.bytes(), behind),
+        [Tree::Leaf(_, head), after @ ..] => condition(head.bytes(), after),
         [Tree::Node(_, _), ..] => atom(),
     }
 }
@@ -214,7 +213,7 @@ fn effect_of(trees: &[Tree]) -> Expected
 {
     match trees {
         [] => nothing(),
-        [Tree::Leaf(_, head), behind @ ..] => effect(head.bytes(), behind),
+        [Tree::Leaf(_, head), after @ ..] => effect(head.bytes(), after),
         [Tree::Node(_, _), ..] => atom(),
     }
 }
@@ -224,7 +223,7 @@ fn initial_of(trees: &[Tree]) -> Expected
     ensures { seen result ≡ form_of atom_shape initial_of trees.now }
 {
     match trees {
-        [Tree::Leaf(_, head), behind @ ..] => initial(head.bytes(), behind),
+        [Tree::Leaf(_, head), after @ ..] => initial(head.bytes(), after),
         _ => atom(),
     }
 }
@@ -241,7 +240,7 @@ fn header(keyword: Keyword) -> Expected
     }
 }
 
-/// What is expected of the node of these members, where one may stand: none where a leaf is expected.
+/// What is expected of the node of these members: none if a leaf is expected.
 pub fn expected_of(role: Role, trees: &[Tree]) -> Option<Expected>
     ensures { option_map seen result ≡ node_expected role trees.now }
 {

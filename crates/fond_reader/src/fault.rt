@@ -1,5 +1,5 @@
-//! The first fault of a tree. The grammar stands in two tables: what is expected of a node, and of its members one by
-//! one; a fault is looked for in each part of the tree, and the earliest one is kept.
+//! The first fault of a tree. The grammar is given by two tables: what is expected of a node, and of its members one
+//! by one. Each part of the tree is checked, and the earliest fault is kept.
 
 ghost use Rattle.fond_reader.specs.Faults.{Stands, Misfits, IsUnbuilt, IsOwnFault, node_code as node_code_of, tree_code as tree_code_of};
 ghost use Rattle.fond_text.specs.Firsts.{IsFirst};
@@ -56,7 +56,7 @@ fn misfit(role: Role, tree: &Tree) -> Option<Found>
     found_at(tree.place(), tree_code(role, tree))
 }
 
-/// A node of a form that is not built yet.
+/// A node of a form that is not supported yet.
 fn unbuilt(role: Role, tree: &Tree) -> Option<Found>
     ensures { IsFirst (λ place code. IsUnbuilt (part role tree.now) place × (code ≡ UNSUPPORTED)) result }
 {

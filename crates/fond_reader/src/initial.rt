@@ -1,4 +1,4 @@
-//! Initial atoms and declared predicates in which no fault stands.
+//! Reading initial atoms and declared predicates that have no fault.
 
 ghost use Rattle.fond_text.specs.Lists.{each_passes};
 ghost use Rattle.fond_reader.specs.CleanForms.{fits_atom, fits_initial};
@@ -24,7 +24,7 @@ fn read_initial(alloc: Global, tree: &Tree) -> Result<InitAtom, NoMemory>
         unreachable!()
     };
     match members.as_slice() {
-        [Tree::Leaf(_, head), behind @ ..] if is_word(head.bytes(), b"not") => match behind {
+        [Tree::Leaf(_, head), after @ ..] if is_word(head.bytes(), b"not") => match after {
             [atom] => Ok(InitAtom {
                 positive: false,
                 atom: read_atom(alloc, atom)?,

@@ -1,6 +1,5 @@
-//! From trees to declarations: the domain or the problem that a tree is read as, or its first fault; and the side list
-//! that a text is read as. The crates above learn what was read, or exactly which fault stands first. What names
-//! mean is left to them.
+//! From trees to declarations: the domain or the problem that a tree is read as, or its first fault. The crates above
+//! learn what was read, or which fault comes first. What names mean is left to them.
 #![tactic(auto)]
 
 mod action;

@@ -1,6 +1,6 @@
-//! Sections and keys that stand a second time, and sections that a problem lacks.
+//! Sections and keys that occur a second time, and sections that a problem lacks.
 
-ghost use Rattle.fond_reader.specs.Faults.{Repeats, IsRepeated, Lacks, IsIncomplete, single_in_domain, single_in_problem, behind_header as behind_header_of, keys};
+ghost use Rattle.fond_reader.specs.Faults.{Repeats, IsRepeated, Lacks, IsIncomplete, single_in_domain, single_in_problem, after_header as after_header_of, keys};
 ghost use Rattle.fond_text.specs.Firsts.{IsFirst};
 ghost use Rattle.fond_text.specs.declared.code.TheConstants.{REPEATED_SECTION, MISSING_SECTION};
 ghost use Rattle.fond_reader.specs.Forms.{is_word as is_word_leaf};
@@ -16,14 +16,14 @@ use fond_text::code::{MISSING_SECTION, REPEATED_SECTION};
 use fond_text::first::{Found, earlier, found_if};
 use fond_tree::tree::Tree;
 
-/// A tree that stands again: one of its head was seen before it.
+/// A tree that repeats a head: one with its head was seen before it.
 fn again(seen: bool, headed: bool, tree: &Tree) -> Option<Found>
     ensures { IsFirst (λ place code. (seen ≡ true) × (headed ≡ true) × (place ≡ place_of_tree tree.now) × (code ≡ REPEATED_SECTION)) result }
 {
     found_if(seen && headed, tree.place(), REPEATED_SECTION)
 }
 
-/// The first section that stands behind another one of this head.
+/// The first section that follows another one with this head.
 fn repeated_head(sections: &[Tree], head: &[u8]) -> Option<Found>
     ensures { IsFirst (λ place code. Repeats head_of_tree (head.now ∷ []) sections.now place × (code ≡ REPEATED_SECTION)) result }
 {
@@ -37,33 +37,33 @@ fn repeated_head(sections: &[Tree], head: &[u8]) -> Option<Found>
     first
 }
 
-/// The trees behind the first one.
-fn behind_first(trees: &[Tree]) -> &[Tree]
+/// The trees after the first one.
+fn after_first(trees: &[Tree]) -> &[Tree]
     ensures { result.now ≡ drop 1 trees.now }
 {
     match trees {
         [] => &[],
-        [_, behind @ ..] => behind,
+        [_, after @ ..] => after,
     }
 }
 
-/// The first key that stands behind another one that is this leaf.
+/// The first key that is this leaf and follows another one that is.
 fn repeated_key(pairs: &[Tree], key: &[u8]) -> Option<Found>
     ensures { IsFirst (λ place code. Repeats leaf_of_tree (key.now ∷ []) (keys pairs.now) place × (code ≡ REPEATED_SECTION)) result }
 {
     let mut first = None;
     let mut seen = false;
     let mut rest = pairs;
-    while let [one, behind @ ..] = rest {
+    while let [one, after @ ..] = rest {
         let headed = is_leaf(one, key);
         first = earlier(first, again(seen, headed, one));
         seen = seen || headed;
-        rest = behind_first(behind);
+        rest = after_first(after);
     }
     first
 }
 
-/// The first section of a domain that stands at most once and is repeated.
+/// The first section of a domain that may occur only once and is repeated.
 fn repeated_in_domain(sections: &[Tree]) -> Option<Found>
     ensures { IsFirst (λ place code. Repeats head_of_tree single_in_domain sections.now place × (code ≡ REPEATED_SECTION)) result }
 {
@@ -73,7 +73,7 @@ fn repeated_in_domain(sections: &[Tree]) -> Option<Found>
     earlier(repeated_head(sections, b":requirements"), types)
 }
 
-/// The first section of a problem that stands at most once and is repeated.
+/// The first section of a problem that may occur only once and is repeated.
 fn repeated_in_problem(sections: &[Tree]) -> Option<Found>
     ensures { IsFirst (λ place code. Repeats head_of_tree single_in_problem sections.now place × (code ≡ REPEATED_SECTION)) result }
 {
@@ -93,12 +93,12 @@ fn repeated_in_action(pairs: &[Tree]) -> Option<Found>
     earlier(repeated_key(pairs, b":parameters"), precondition)
 }
 
-/// The members of a file behind its header, and those of an action behind its name.
-fn behind_header(members: &[Tree]) -> &[Tree]
-    ensures { result.now ≡ behind_header_of members.now }
+/// The members of a file after its header, and those of an action after its name.
+fn after_header(members: &[Tree]) -> &[Tree]
+    ensures { result.now ≡ after_header_of members.now }
 {
     match members {
-        [_, _, behind @ ..] => behind,
+        [_, _, after @ ..] => after,
         _ => &[],
     }
 }
@@ -108,10 +108,10 @@ pub fn repeated(role: Role, tree: &Tree) -> Option<Found>
     ensures { IsFirst (λ place code. IsRepeated role tree.now place × (code ≡ REPEATED_SECTION)) result }
 {
     match (role, tree.members()) {
-        (Role::DomainFile, Some(members)) => repeated_in_domain(behind_header(members)),
-        (Role::ProblemFile, Some(members)) => repeated_in_problem(behind_header(members)),
+        (Role::DomainFile, Some(members)) => repeated_in_domain(after_header(members)),
+        (Role::ProblemFile, Some(members)) => repeated_in_problem(after_header(members)),
         (Role::DomainSection, Some(members)) if begins(tree, b":action") => {
-            repeated_in_action(behind_header(members))
+            repeated_in_action(after_header(members))
         }
         _ => None,
     }
@@ -144,7 +144,7 @@ pub fn incomplete(role: Role, tree: &Tree) -> Option<Found>
 {
     match (role, tree.members()) {
         (Role::ProblemFile, Some(members)) => {
-            found_if(is_incomplete(behind_header(members)), tree.place(), MISSING_SECTION)
+            found_if(is_incomplete(after_header(members)), tree.place(), MISSING_SECTION)
         }
         _ => None,
     }

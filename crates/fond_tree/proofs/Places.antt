@@ -1,4 +1,4 @@
--- Which tokens the rest of a text has and where it ends, byte by byte.
+-- The tokens of the rest of a text and the place of its end, byte by byte.
 use Rattle.std.proofs.Common.{◌≡◌, ℕ, ◌+◌, ◌≤◌, ◌==◌, Bool, true, false, not, cond, if◌then◌else◌, ◌||◌, List, [], ◌∷◌, ◌++◌, map, take, drop, reverse, length, refl, sym, ◌∙◌, ap, arith, add-zero, suc, ◌⊎◌, inl, inr, ◌≢◌, subst, ◌<◌, append_assoc, append-nil}
 use Rattle.std.proofs.lemmas.Bool.{true≢false}
 use Rattle.std.proofs.lemmas.Bool.Decides.{nat_tests}
@@ -257,7 +257,7 @@ leaf_end place text bytes rest n counted front back =
     let long : length bytes ≡ prefix_len is_leaf_byte text = ap length run ∙ length-prefix_len is_leaf_byte text in
     rw (long, left) (sym (end_run place text))
 
--- a step leaves the end where it is
+-- a step does not move the end
 pub end_step : (old new : Place) (b : ℕ) (before rest now : List ℕ) → before ≡ b ∷ rest → new ≡ next_place b old → now ≡ rest → end_at new now ≡ end_at old before
 unfolding end_at
 end_step old new b before rest now split at left = rw (split, at, left) refl

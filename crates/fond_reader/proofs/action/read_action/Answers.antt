@@ -9,7 +9,7 @@ use Rattle.fond_reader.proofs.action.read_action.Goals as goal
 
 pub returns : goal.returns
 returns c =
-    let pairs : List Tree = take (length c.behind.result.now - 1) (drop 1 c.behind.result.now) in
-    let split : but_first (members_of c.args.section.now) ≡ c.name-item.result ∷ pairs = sym c.behind.ensures ∙ first_and_rest c.behind.result.now c.name-item.result c.in-len1-up.len_at_least c.name-item.is in
+    let pairs : List Tree = take (length c.after.result.now - 1) (drop 1 c.after.result.now) in
+    let split : but_first (members_of c.args.section.now) ≡ c.name-item.result ∷ pairs = sym c.after.ensures ∙ first_and_rest c.after.result.now c.name-item.result c.in-len1-up.len_at_least c.name-item.is in
     let whole : (head : Tree) × (members_of c.args.section.now ≡ Some (head ∷ c.name-item.result ∷ pairs)) = with_head (members_of c.args.section.now) c.name-item.result pairs split in
     if_ok _ (IsSchemaOf c.args.section.now) c.schema_of.result (λ schema read. read c.args.section.now whole.0 whole.1) c.schema_of.ensures

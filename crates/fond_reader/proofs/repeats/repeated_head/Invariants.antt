@@ -4,7 +4,7 @@ use Rattle.fond_reader.proofs.Again.{Again}
 use Rattle.fond_text.proofs.Earliest.{IsFirstSoFar}
 use Rattle.fond_reader.proofs.repeats.repeated_head.Given as goal
 
--- the first so far of the sections that stand again
+-- the first repeated section so far
 abbrev pub invariant-loop-section : goal.invariant-loop-section
 invariant-loop-section l =
     IsFirstSoFar (Again head_of l.head false l.sections) (Again head_of l.head l.seen (drop l.section-index l.sections)) l.first
