@@ -1,4 +1,4 @@
--- Trees whose head stands a second time, one head after the other.
+-- Trees whose head occurs a second time, one head after the other.
 use Rattle.std.proofs.Common.{◌≡◌, ◌⊎◌, inl, inr, ℕ, zero, suc, ◌||◌, Bool, true, false, List, [], ◌∷◌, ◌++◌, Option, Some, None, refl, sym, ap, subst, ◌∙◌, arith}
 use Rattle.std.proofs.Common.{append_assoc}
 use Rattle.std.proofs.lemmas.List.Elements.{Contains-append_left, Contains-append_right, filter_map-append}
@@ -9,20 +9,21 @@ use Rattle.std.proofs.Math.Bool.{or-true}
 use Rattle.std.proofs.lemmas.Slice.Eq.{bytes_eq-Decides}
 use Rattle.fond_text.specs.declared.place.Place.{Place}
 use Rattle.fond_tree.specs.declared.tree.Tree.{Tree}
-use Rattle.fond_reader.specs.Words.{is_one_of, place_of}
+use Rattle.fond_reader.specs.Words.{is_one_of}
+use Rattle.fond_tree.specs.Trees.{place_of}
 use Rattle.fond_reader.specs.Faults.{Repeats}
 use Rattle.fond_text.specs.declared.first.Found.{Found}
 use Rattle.fond_text.specs.Firsts.{IsFirst, IsEarlier}
 use Rattle.fond_reader.specs.Forms.{is_word as is_word_leaf}
-use Rattle.fond_reader.proofs.Earliest.{IsFirstSoFar, all_found, first_with, first_along, first_of_both}
+use Rattle.fond_text.proofs.Earliest.{IsFirstSoFar, all_found, first_with, first_along, first_of_both}
 
 -- ---- an element of a list
 
 contains_here : {X : Type 0} (x : X) (xs : List X) → Contains (x ∷ xs) x
 contains_here x xs = (0, omega arith, refl)
 
-contains_behind : {X : Type 0} (y x : X) (xs : List X) → Contains xs x → Contains (y ∷ xs) x
-contains_behind y x xs (k, within, same) = (suc k, omega arith, same)
+contains_after : {X : Type 0} (y x : X) (xs : List X) → Contains xs x → Contains (y ∷ xs) x
+contains_after y x xs (k, within, same) = (suc k, omega arith, same)
 
 contains_cases : {X : Type 0} (y x : X) (xs : List X) → Contains (y ∷ xs) x → (y ≡ x) ⊎ Contains xs x
 contains_cases y x xs (zero, within, same) = inl same
@@ -55,42 +56,42 @@ module _ (heads : Tree → Option (List ℕ)) (head : List ℕ) where
   abbrev pub is_headed : Tree → Bool
   is_headed tree = is_word_leaf head (heads tree)
 
-  -- a tree has this head, where one with it was seen or stands before it
+  -- a tree has this head, and one with it was seen or is before it
   abbrev pub Again : Bool → List Tree → Place → ℕ → Type 0
   Again seen [] place code = ⊥
   Again seen (tree ∷ trees) place code = ((seen ≡ true) × (is_headed tree ≡ true) × (place ≡ place_of tree) × (code ≡ 9)) ⊎ Again (seen || is_headed tree) trees place code
 
-  -- ---- which heads stand in a list
+  -- ---- which heads occur in a list
 
   headed_here : (tree : Tree) (trees : List Tree) → heads tree ≡ Some head → Contains (filter_map heads (tree ∷ trees)) head
   headed_here tree trees is = rw is (contains_here head (filter_map heads trees))
 
-  headed_behind : (tree : Tree) (trees : List Tree) → Contains (filter_map heads trees) head → Contains (filter_map heads (tree ∷ trees)) head
-  headed_behind tree trees h =
-      elim (heads tree) as (λ o. Contains (cons_option o (filter_map heads trees)) head) [ None ↦ h | Some other ↦ contains_behind other head (filter_map heads trees) h ]
+  headed_after : (tree : Tree) (trees : List Tree) → Contains (filter_map heads trees) head → Contains (filter_map heads (tree ∷ trees)) head
+  headed_after tree trees h =
+      elim (heads tree) as (λ o. Contains (cons_option o (filter_map heads trees)) head) [ None ↦ h | Some other ↦ contains_after other head (filter_map heads trees) h ]
 
   option_cases : (o : Option (List ℕ)) (others : List (List ℕ)) → Contains (cons_option o others) head → (o ≡ Some head) ⊎ Contains others head
   option_cases None others h = inr h
-  option_cases (Some other) others h = elim (contains_cases other head others h) [ inl same ↦ inl (ap (λ w. Some w) same) | inr behind ↦ inr behind ]
+  option_cases (Some other) others h = elim (contains_cases other head others h) [ inl same ↦ inl (ap (λ w. Some w) same) | inr after ↦ inr after ]
 
   headed_cases : (tree : Tree) (trees : List Tree) → Contains (filter_map heads (tree ∷ trees)) head → (heads tree ≡ Some head) ⊎ Contains (filter_map heads trees) head
   headed_cases tree trees h = option_cases (heads tree) (filter_map heads trees) h
 
-  -- some tree has the head where a test finds one
+  -- some tree has the head if a test finds one
   pub any_headed : (trees : List Tree) → Decides (list_any is_headed trees) (Contains (filter_map heads trees) head)
   any_headed [] = (λ h. absurd (cc), λ h. absurd (contains_none head h))
   any_headed (tree ∷ trees) = (
     λ h. elim (or_cases (is_headed tree) (list_any is_headed trees) h) [
       | inl here ↦ headed_here tree trees (word_is head (heads tree) here)
-      | inr behind ↦ headed_behind tree trees ((any_headed trees).0 behind)
+      | inr after ↦ headed_after tree trees ((any_headed trees).0 after)
     ],
     λ h. elim (headed_cases tree trees h) [
       | inl here ↦ ap (λ b. b || list_any is_headed trees) (is_word head (heads tree) here)
-      | inr behind ↦ ap (λ b. is_headed tree || b) ((any_headed trees).1 behind) ∙ or-true (is_headed tree)
+      | inr after ↦ ap (λ b. is_headed tree || b) ((any_headed trees).1 after) ∙ or-true (is_headed tree)
     ],
   )
 
-  -- ---- a head that stands again is repeated
+  -- ---- a head that occurs again is repeated
 
   seen_more : (before : List Tree) (tree : Tree) (seen : Bool) → (seen ≡ true → Contains (filter_map heads before) head) →
       (seen || is_headed tree) ≡ true → Contains (filter_map heads (before ++ tree ∷ [])) head
@@ -133,7 +134,7 @@ module _ (heads : Tree → Option (List ℕ)) (head : List ℕ) where
       inr (
       elim (headed_cases other before c) [
         | inl here ↦ again_from before tree after (seen || is_headed other) (inl (ap (λ b. seen || b) (is_word head (heads other) here) ∙ or-true seen)) headed
-        | inr behind ↦ again_from before tree after (seen || is_headed other) (inr behind) headed
+        | inr later ↦ again_from before tree after (seen || is_headed other) (inr later) headed
       ]
       )
 
@@ -153,14 +154,14 @@ module _ (heads : Tree → Option (List ℕ)) (head : List ℕ) where
       (λ place code a. again_to [] trees false (λ f. absurd (cc)) place code a)
       (λ place code r. repeats_from trees place code r.0 r.1) first h
 
-  -- where no tree is left, none is headed again
+  -- if no tree is left, no head is repeated
   pub all_repeated : (trees left : List Tree) (seen : Bool) (first : Option Found) → left ≡ [] → IsFirstSoFar (Again false trees) (Again seen left) first →
       IsFirst (λ place code. Repeats heads (head ∷ []) trees place × (code ≡ 9)) first
   all_repeated trees left seen first ended h =
       first_repeated trees first
       (all_found (Again false trees) (Again seen left) first h (λ place code a. subst (λ (ts : List Tree). Again seen ts place code) ended a))
 
-  -- one more tree was looked at
+  -- one more tree was checked
   pub again_step : (stands : Place → ℕ → Type 0) (tree : Tree) (trees : List Tree) (seen headed seen_now : Bool) → headed ≡ is_headed tree → seen_now ≡ (seen || headed) →
       (before other first : Option Found) → IsFirstSoFar stands (Again seen (tree ∷ trees)) before →
       IsFirst (λ place code. (seen ≡ true) × (headed ≡ true) × (place ≡ place_of tree) × (code ≡ 9)) other → IsEarlier before other first → IsFirstSoFar stands (Again seen_now trees) first
@@ -211,7 +212,7 @@ module _ (heads : Tree → Option (List ℕ)) (head : List ℕ) (others : List (
       ])
       (λ place code r. elim (or_cases (bytes_eq r.0.head head) (is_one_of others r.0.head) r.0.counts) [
         | inl here ↦ inl (repeats_of (head ∷ []) place r.0 (ap (λ b. b || false) here), r.1)
-        | inr behind ↦ inr (repeats_of others place r.0 behind, r.1)
+        | inr after ↦ inr (repeats_of others place r.0 after, r.1)
       ])
       first
       (first_of_both (λ place code. Repeats heads (head ∷ []) trees place × (code ≡ 9)) (λ place code. Repeats heads others trees place × (code ≡ 9)) one other first p q e)

@@ -1,4 +1,4 @@
--- A fault of a tree is a fault of its own, or stands in one of its parts.
+-- A fault of a tree is a fault of its own, or occurs in one of its parts.
 use Rattle.std.proofs.Common.{◌≡◌, ◌⊎◌, inl, inr, ℕ, zero, suc, List, [], ◌∷◌, Some, slice_get, refl, sym, subst}
 use Rattle.std.specs.Prelude.{option_and_then}
 use Rattle.fond_text.specs.declared.place.Place.{Place}
@@ -7,12 +7,12 @@ use Rattle.fond_reader.specs.declared.role.Role.{Role}
 use Rattle.fond_reader.specs.Parts.{Part, part, parts, part_at}
 use Rattle.fond_reader.specs.Faults.{IsOwnFault, Stands}
 
--- a fault stands in one of these parts
+-- a fault occurs in one of these parts
 abbrev pub Among : List Part → Place → ℕ → Type 0
 Among [] place code = ⊥
 Among (first ∷ rest) place code = Stands first.role first.tree place code ⊎ Among rest place code
 
--- some part behind one of these parts has a fault of its own
+-- some part inside one of these parts has a fault of its own
 record Reached (list : List Part) (place : Place) (code : ℕ) : Type 0 where
   pub number : ℕ
   pub path : List ℕ

@@ -1,4 +1,4 @@
--- What it says of a tree and of its parts that no fault stands in it.
+-- What follows for a tree and its parts if it has no fault.
 use Rattle.std.proofs.Common.{◌≡◌, ◌⊎◌, inl, inr, ℕ, ◌&&◌, ◌||◌, Bool, true, false, List, [], ◌∷◌, Option, Some, None, option_and_then, slice_get, refl, sym, ap, ◌∙◌, if◌then◌else◌}
 use Rattle.std.specs.List.{list_any}
 use Rattle.std.specs.Str.{bytes_eq}
@@ -9,18 +9,19 @@ use Rattle.fond_reader.specs.declared.role.Role.{Role}
 use Rattle.fond_reader.specs.declared.role.Role.TheVariants as role
 use Rattle.fond_reader.specs.declared.role.Keyword.{Keyword}
 use Rattle.fond_reader.specs.Forms.{is_word}
-use Rattle.fond_reader.specs.Words.{is_name, is_variable, is_one_of, place_of, leaf_of, leaf_step, members_of, members_step}
+use Rattle.fond_reader.specs.Words.{is_name, is_variable, is_one_of}
+use Rattle.fond_tree.specs.Trees.{members_step, leaf_step, members_of, leaf_of, place_of}
 use Rattle.fond_reader.specs.Roles.{Expected, Members, node_expected, leaf_code, is_unbuilt, has_term, is_leaf_of, is_term, atom, word, action_keys, is_headed_by}
 use Rattle.fond_reader.specs.Parts.{Part, part, parts, part_at, expected_parts}
 use Rattle.fond_text.specs.Faults.{IsClean}
 use Rattle.fond_reader.specs.Faults.{node_code, tree_code, IsOwnFault, IsRepeated, IsIncomplete, Stands}
 use Rattle.fond_reader.specs.Files.{is_name_leaf}
 
--- no fault stands in a tree of a role
+-- a tree of a role has no fault
 abbrev pub IsCleanAs : Role → Tree → Type 0
 IsCleanAs role tree = IsClean (λ place code. Stands role tree place code)
 
--- no fault stands in these trees, all of a role
+-- these trees, all of a role, have no fault
 abbrev pub AreCleanAs : Role → List Tree → Type 0
 AreCleanAs role trees = (number : ℕ) (tree : Tree) → slice_get trees number ≡ Some tree → IsCleanAs role tree
 
@@ -34,7 +35,7 @@ leaf_or_node tree = from (out-Tree tree) refl where
 pub true_is_false : true ≡ false → ⊥
 true_is_false is = cc
 
--- where an option is nothing that it may be, it is none
+-- an option that is not some value is none
 none_left : (option : Option ℕ) → ((code : ℕ) → option ≡ Some code → ⊥) → option ≡ None
 none_left None never = refl
 none_left (Some code) never = absurd (never code refl)
@@ -46,7 +47,7 @@ not_true false never = refl
 pub some_is_none : (code : ℕ) → Some code ≡ None → ⊥
 some_is_none code is = cc
 
--- a code where something does not fit
+-- a code, unless something fits
 abbrev pub code_unless : Bool → Option ℕ
 code_unless fits = if fits then None else Some 7
 
@@ -54,11 +55,11 @@ pub fits_uncoded : (fits : Bool) → code_unless fits ≡ None → fits ≡ true
 fits_uncoded true is = refl
 fits_uncoded false is = absurd (some_is_none 7 is)
 
--- the parts of a node, where this is expected of its members
+-- the parts of a node of whose members this is expected
 pub parts_of : (role : Role) (tree : Tree) (members : List Tree) → members_of tree ≡ Some members → parts (part role tree) ≡ expected_parts (node_expected role members) members
 parts_of role tree members is = rw is refl
 
--- a node fits what is expected of its members: it is not refused, and no fault stands in its parts
+-- a node fits what is expected of its members: it is not refused, and its parts have no fault
 pub record FitsAs (expected : Expected) (members : List Tree) : Type 0 where
   pub code : node_code (Some expected) members ≡ None
   pub inner : (number : ℕ) (at : Part) → slice_get (expected_parts (Some expected) members) number ≡ Some at → IsCleanAs at.role at.tree
@@ -88,7 +89,7 @@ module _ (role : Role) (tree : Tree) (clean : IsCleanAs role tree) where
   pub built : (members : List Tree) → members_of tree ≡ Some members → is_unbuilt role members ≡ false
   built members is = not_true _ (λ unbuilt. own (place_of tree) 24 (inr (inr (inr ((members, is, unbuilt, refl), refl)))))
 
-  -- where no node may stand, a leaf that may stand does
+  -- if no node is allowed, there is a leaf that is
   pub leaf_stands : ((members : List Tree) → node_expected role members ≡ None) → (leaf : List ℕ) × (leaf_of tree ≡ Some leaf) × (leaf_code role leaf ≡ None)
   leaf_stands no_node = elim (leaf_or_node tree) [
     | inl h ↦ (h.0, h.1, sym (ap (λ leaf. tree_code role leaf (members_of tree)) h.1) ∙ unrefused)
@@ -99,7 +100,7 @@ module _ (role : Role) (tree : Tree) (clean : IsCleanAs role tree) where
         let code : tree_code role None (Some members) ≡ None = sym (ap (λ leaf. tree_code role leaf (Some members)) none) ∙ sym (ap (λ ms. tree_code role (leaf_of tree) ms) is) ∙ unrefused in
         some_is_none 7 (sym (ap (λ expected. node_code expected members) (no_node members)) ∙ code)
 
-  -- where no leaf may stand, a node does
+  -- if no leaf is allowed, there is a node
   pub node_stands : ((leaf : List ℕ) → leaf_code role leaf ≡ Some 7) → (members : List Tree) × (members_of tree ≡ Some members)
   node_stands no_leaf = elim (leaf_or_node tree) [
     | inl h ↦ absurd (refused h.0 h.1)
@@ -158,15 +159,15 @@ key_leaf tree clean =
       known true is = refl
       known false is = absurd (some_is_none 8 is)
 
--- where no element passes a test, the first one does not
+-- if no item passes a test, the first one does not
 pub none_of : {X : Type 0} (test : X → Bool) (x : X) (xs : List X) → list_any test (x ∷ xs) ≡ false → test x ≡ false
 none_of test x xs all = from (test x) (list_any test xs) all where
   from : (a b : Bool) → (a || b) ≡ false → a ≡ false
   from true b is = is
   from false b is = refl
 
--- where a clean atom is built, its head is a name and nothing stands behind it
-pub atom_alone : (head : Tree) (behind : List Tree) → FitsAs (Members atom) (head ∷ behind) → has_term (head ∷ behind) ≡ false → (is_name_leaf head ≡ true) × (behind ≡ [])
+-- the head of a clean atom that is supported is a name, and nothing follows it
+pub atom_alone : (head : Tree) (after : List Tree) → FitsAs (Members atom) (head ∷ after) → has_term (head ∷ after) ≡ false → (is_name_leaf head ≡ true) × (after ≡ [])
 atom_alone head [] fits bare = (name_leaf head (fits.inner 0 (part role.Name head) refl), refl)
 atom_alone head (tree ∷ trees) fits bare =
     let named : is_name_leaf head ≡ true = name_leaf head (fits.inner 0 (part role.Name head) refl) in

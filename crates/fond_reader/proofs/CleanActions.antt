@@ -7,21 +7,21 @@ use Rattle.fond_tree.specs.declared.tree.Tree.{Tree}
 use Rattle.fond_reader.specs.declared.role.Role.{Role}
 use Rattle.fond_reader.specs.declared.role.Role.TheVariants as role
 use Rattle.fond_reader.specs.declared.role.Rest.TheVariants.{Pairs}
-use Rattle.fond_reader.specs.Words.{leaf_of, members_of, head_of}
+use Rattle.fond_tree.specs.Trees.{head_of, members_of, leaf_of}
 use Rattle.fond_reader.specs.Roles.{shape, Members, domain_section, action_keys, is_headed_by}
 use Rattle.fond_reader.specs.Parts.{Part, part, value, value_role, pairs, are_pairs}
 use Rattle.fond_reader.specs.Faults.{keys}
 use Rattle.fond_reader.specs.Forms.{is_word, is_unit, is_empty}
 use Rattle.fond_reader.specs.Files.{is_name_leaf, has_head, values, are_no_parameters}
 use Rattle.fond_reader.specs.CleanForms.{fits_condition, fits_whole_effect}
-use Rattle.fond_reader.specs.CleanFiles.{is_none_or_one, fits_pairs, action_behind, fits_action}
+use Rattle.fond_reader.specs.CleanFiles.{is_none_or_one, fits_pairs, action_after, fits_action}
 use Rattle.fond_reader.proofs.Clean.{IsCleanAs, FitsAs, node_stands, built, unrepeated, name_leaf, key_leaf, some_is_none, true_is_false, fits_uncoded}
 use Rattle.fond_reader.proofs.CleanConditions.{clean_condition}
 use Rattle.fond_reader.proofs.CleanEffects.{clean_whole_effect}
 use Rattle.fond_reader.proofs.CleanSections.{HeadedSection, headed_section, head_is, content_is, word_is, fits_word, at_most_one}
 use Rattle.fond_reader.proofs.ReadSchemas.{both_hold}
 
--- no fault stands in these parts
+-- these parts have no fault
 abbrev pub AllClean : List Part → Type 0
 AllClean [] = Unit {0}
 AllClean (at ∷ parts) = IsCleanAs at.role at.tree × AllClean parts
@@ -75,7 +75,7 @@ module _ (word : List ℕ) where
     step true rest = ap (λ n. suc n) rest
     step false rest = rest
 
--- where at most one tree stands and passes a test, there is none or one that passes
+-- if there is at most one tree, and it passes a test, there is none or one that passes
 pub none_or_one : (test : Tree → Bool) (trees : List Tree) → length trees ≤ 1 → list_all test trees ≡ true → is_none_or_one test trees ≡ true
 none_or_one test [] few all = refl
 none_or_one test (t ∷ []) few all = all
@@ -98,14 +98,14 @@ module _ (tree : Tree) (clean : IsCleanAs role.DomainSection tree) (has : has_he
   action_is : HeadedSection domain_section tree
   action_is = headed_section role.DomainSection domain_section (λ _. refl) (λ _. refl) tree clean
 
-  module _ (name : Tree) (trees : List Tree) (behind_is : action_is.behind ≡ name ∷ trees) where
+  module _ (name : Tree) (trees : List Tree) (after_is : action_is.after ≡ name ∷ trees) where
     whole : members_of tree ≡ Some (action_is.head ∷ name ∷ trees)
-    whole = action_is.whole ∙ ap (λ behind. Some (action_is.head ∷ behind)) behind_is
+    whole = action_is.whole ∙ ap (λ after. Some (action_is.head ∷ after)) after_is
 
     fits : FitsAs (Members (shape (role.Head ∷ role.Name ∷ []) Pairs)) (action_is.head ∷ name ∷ trees)
     fits =
-        let P : List Tree → Type 0 = λ behind. FitsAs (domain_section (codes ":action")) (action_is.head ∷ behind) in
-        subst P behind_is (fits_word domain_section tree action_is (codes ":action") has)
+        let P : List Tree → Type 0 = λ after. FitsAs (domain_section (codes ":action")) (action_is.head ∷ after) in
+        subst P after_is (fits_word domain_section tree action_is (codes ":action") has)
 
     paired : are_pairs trees ≡ true
     paired = fits_uncoded (are_pairs trees) fits.code
@@ -136,9 +136,9 @@ module _ (tree : Tree) (clean : IsCleanAs role.DomainSection tree) (has : has_he
 
   -- a clean action is one that fits
   pub clean_action : fits_action tree ≡ true
-  clean_action = ap action_behind (content_is domain_section tree action_is) ∙ from action_is.behind refl where
-    from : (behind : List Tree) → action_is.behind ≡ behind → action_behind behind ≡ true
+  clean_action = ap action_after (content_is domain_section tree action_is) ∙ from action_is.after refl where
+    from : (after : List Tree) → action_is.after ≡ after → action_after after ≡ true
     from [] is =
-        let P : List Tree → Type 0 = λ behind. FitsAs (domain_section (codes ":action")) (action_is.head ∷ behind) in
+        let P : List Tree → Type 0 = λ after. FitsAs (domain_section (codes ":action")) (action_is.head ∷ after) in
         absurd (some_is_none 7 (subst P is (fits_word domain_section tree action_is (codes ":action") has)).code)
     from (name ∷ trees) is = both_hold _ _ (name_fits name trees is) (pairs_fit name trees is)

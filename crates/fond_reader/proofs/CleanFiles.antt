@@ -11,7 +11,8 @@ use Rattle.fond_reader.specs.declared.role.Role.TheVariants as role
 use Rattle.fond_reader.specs.declared.role.Keyword.{Keyword}
 use Rattle.fond_reader.specs.declared.role.Keyword.TheVariants as keyword
 use Rattle.fond_reader.specs.declared.role.Rest.TheVariants.{NoMore, Each, Typed, Pairs, Unread}
-use Rattle.fond_reader.specs.Words.{is_name, is_variable, is_one_of, place_of, leaf_of, members_of, front, head_of}
+use Rattle.fond_reader.specs.Words.{is_name, is_variable, is_one_of}
+use Rattle.fond_tree.specs.Trees.{head_of, front, members_of, leaf_of, place_of}
 use Rattle.fond_reader.specs.Roles.{shape, Expected, Members, Refused, node_expected, domain_section, problem_section, word, is_leaf_of, names_with, is_unbuilt, is_headed_by, has_more, passed_over}
 use Rattle.fond_reader.specs.Parts.{part}
 use Rattle.fond_text.specs.Faults.{IsClean}
@@ -19,7 +20,7 @@ use Rattle.fond_reader.specs.Faults.{StandsInDomain, StandsInProblem, single_in_
 use Rattle.fond_reader.specs.Forms.{is_word, is_only}
 use Rattle.fond_reader.specs.Files.{is_name_leaf, are_header, IsFile, has_head, headed, content, contents, AreSingle, is_domain_section, is_problem_section}
 use Rattle.fond_reader.specs.CleanForms.{fits_atom, fits_condition, fits_initial}
-use Rattle.fond_reader.specs.CleanFiles.{fits_action, sections_behind, sections_of, IsCleanDomain, IsCleanProblem}
+use Rattle.fond_reader.specs.CleanFiles.{fits_action, sections_after, sections_of, IsCleanDomain, IsCleanProblem}
 use Rattle.fond_reader.proofs.Clean.{IsCleanAs, AreCleanAs, FitsAs, node_stands, fits_as, built, unrepeated, complete, name_stands, name_leaf, variable_leaf, word_leaf, some_is_none, true_is_false, none_of}
 use Rattle.fond_reader.proofs.CleanConditions.{all_pass, each_clean, one_clean, clean_condition, image_at}
 use Rattle.fond_reader.proofs.CleanEffects.{clean_initial}
@@ -82,22 +83,22 @@ clean_file kind of inner tree clean expects members is = from members is (fits_a
     clean = λ number section at. fits.inner (suc (suc number)) (part inner section) (image_at (part inner) sections number section at);
   }
 
--- each head that may stand once heads one section at most
+-- each head that may occur once heads one section at most
 pub are_single : (single : List (List ℕ)) (sections : List Tree) → ((place : Place) → Repeats head_of single sections place → ⊥) → AreSingle single sections
 are_single single sections unrepeated = λ word counts. at_most_one head_of single sections unrepeated word counts
 
--- a section with a head that is unbuilt where something stands behind it has nothing there
-nothing_behind : (head : Tree) (behind : List Tree) → has_more (head ∷ behind) ≡ false → behind ≡ []
-nothing_behind head [] none = refl
-nothing_behind head (t ∷ ts) none = absurd (grind (arith, nat_tests))
+-- a section whose head is not supported before members has no members after it
+nothing_after : (head : Tree) (after : List Tree) → has_more (head ∷ after) ≡ false → after ≡ []
+nothing_after head [] none = refl
+nothing_after head (t ∷ ts) none = absurd (grind (arith, nat_tests))
 
 pub unbuilt_section : (of : Role) (by_head : List ℕ → Expected) (heads : List (List ℕ)) → ((members : List Tree) → is_unbuilt of members ≡ (is_headed_by heads (front members) && has_more members)) →
     (tree : Tree) → IsCleanAs of tree → HeadedSection by_head tree → (word : List ℕ) → is_one_of heads word ≡ true → has_head word tree ≡ true → content tree ≡ []
 unbuilt_section of by_head heads unbuilt tree clean s word known has =
     let front_is : is_headed_by heads (leaf_of s.head) ≡ true = ap (is_headed_by heads) (s.leaf ∙ ap (λ w. Some w) (word_is by_head tree s word has)) ∙ known in
-    let none : has_more (s.head ∷ s.behind) ≡ false =
-    sym (ap (λ b. b && has_more (s.head ∷ s.behind)) front_is) ∙ sym (unbuilt (s.head ∷ s.behind)) ∙ built of tree clean (s.head ∷ s.behind) s.whole in
-    content_is by_head tree s ∙ nothing_behind s.head s.behind none
+    let none : has_more (s.head ∷ s.after) ≡ false =
+    sym (ap (λ b. b && has_more (s.head ∷ s.after)) front_is) ∙ sym (unbuilt (s.head ∷ s.after)) ∙ built of tree clean (s.head ∷ s.after) s.whole in
+    content_is by_head tree s ∙ nothing_after s.head s.after none
 
 -- a section of a domain has a known head
 domain_known : (members : List Tree) (requirements types constants predicates action : Bool) →
@@ -124,7 +125,7 @@ domain_section_known : (tree : Tree) → IsCleanAs role.DomainSection tree → i
 domain_section_known tree clean =
     let s : HeadedSection domain_section tree = domain_headed tree clean in
     ap (is_headed_by (codes ":requirements" ∷ codes ":types" ∷ codes ":constants" ∷ codes ":predicates" ∷ codes ":action" ∷ [])) (head_is domain_section tree s)
-    ∙ domain_known (s.head ∷ s.behind) (bytes_eq s.word (codes ":requirements")) (bytes_eq s.word (codes ":types")) (bytes_eq s.word (codes ":constants")) (bytes_eq s.word (codes ":predicates")) (bytes_eq s.word (codes ":action")) s.fits
+    ∙ domain_known (s.head ∷ s.after) (bytes_eq s.word (codes ":requirements")) (bytes_eq s.word (codes ":types")) (bytes_eq s.word (codes ":constants")) (bytes_eq s.word (codes ":predicates")) (bytes_eq s.word (codes ":action")) s.fits
 
 domain_unbuilt : (word : List ℕ) → is_one_of (codes ":types" ∷ codes ":constants" ∷ []) word ≡ true → (tree : Tree) → IsCleanAs role.DomainSection tree → has_head word tree ≡ true → content tree ≡ []
 domain_unbuilt word known tree clean has = unbuilt_section role.DomainSection domain_section (codes ":types" ∷ codes ":constants" ∷ []) (λ _. refl) tree clean (domain_headed tree clean) word known has
@@ -132,16 +133,16 @@ domain_unbuilt word known tree clean has = unbuilt_section role.DomainSection do
 predicates_pass : (tree : Tree) → IsCleanAs role.DomainSection tree → has_head (codes ":predicates") tree ≡ true → list_all fits_atom (content tree) ≡ true
 predicates_pass tree clean has =
     let s : HeadedSection domain_section tree = domain_headed tree clean in
-    let each : AreCleanAs role.Predicate s.behind = each_clean role.Predicate s.head s.behind (fits_word domain_section tree s (codes ":predicates") has) in
-    ap (list_all fits_atom) (content_is domain_section tree s) ∙ all_pass fits_atom s.behind (λ i t at. clean_predicate t (each i t at))
+    let each : AreCleanAs role.Predicate s.after = each_clean role.Predicate s.head s.after (fits_word domain_section tree s (codes ":predicates") has) in
+    ap (list_all fits_atom) (content_is domain_section tree s) ∙ all_pass fits_atom s.after (λ i t at. clean_predicate t (each i t at))
 
--- a domain in which no fault stands is of the form that is read
+-- a domain without a fault is of the form that is read
 pub clean_domain : (tree : Tree) → IsClean (StandsInDomain tree) → IsCleanDomain tree (sections_of tree)
 clean_domain tree clean =
     let node : (members : List Tree) × (members_of tree ≡ Some members) = node_stands role.DomainFile tree clean (λ _. refl) in
     let file : CleanFile (codes "domain") role.DomainSection tree = clean_file keyword.Domain role.DomainFile role.DomainSection tree clean (λ _. refl) node.0 node.1 in
     let P : List Tree → Type 0 = λ sections. IsCleanDomain tree sections in
-    subst P (sym (ap sections_behind file.file.whole)) (from file) where
+    subst P (sym (ap sections_after file.file.whole)) (from file) where
       from : (file : CleanFile (codes "domain") role.DomainSection tree) → IsCleanDomain tree file.sections
       from file = record {
         file = file.file;
@@ -180,7 +181,7 @@ problem_section_known : (tree : Tree) → IsCleanAs role.ProblemSection tree →
 problem_section_known tree clean =
     let s : HeadedSection problem_section tree = problem_headed tree clean in
     ap (is_headed_by (codes ":requirements" ∷ codes ":domain" ∷ codes ":objects" ∷ codes ":init" ∷ codes ":goal" ∷ passed_over)) (head_is problem_section tree s)
-    ∙ problem_known (s.head ∷ s.behind) (bytes_eq s.word (codes ":requirements")) (bytes_eq s.word (codes ":domain")) (bytes_eq s.word (codes ":objects")) (bytes_eq s.word (codes ":init")) (bytes_eq s.word (codes ":goal")) (is_one_of passed_over s.word) s.fits
+    ∙ problem_known (s.head ∷ s.after) (bytes_eq s.word (codes ":requirements")) (bytes_eq s.word (codes ":domain")) (bytes_eq s.word (codes ":objects")) (bytes_eq s.word (codes ":init")) (bytes_eq s.word (codes ":goal")) (is_one_of passed_over s.word) s.fits
 
 problem_unbuilt : (tree : Tree) → IsCleanAs role.ProblemSection tree → has_head (codes ":objects") tree ≡ true → content tree ≡ []
 problem_unbuilt tree clean has = unbuilt_section role.ProblemSection problem_section (codes ":objects" ∷ []) (λ _. refl) tree clean (problem_headed tree clean) (codes ":objects") refl has
@@ -188,8 +189,8 @@ problem_unbuilt tree clean has = unbuilt_section role.ProblemSection problem_sec
 initials_pass : (tree : Tree) → IsCleanAs role.ProblemSection tree → has_head (codes ":init") tree ≡ true → list_all fits_initial (content tree) ≡ true
 initials_pass tree clean has =
     let s : HeadedSection problem_section tree = problem_headed tree clean in
-    let each : AreCleanAs role.Initial s.behind = each_clean role.Initial s.head s.behind (fits_word problem_section tree s (codes ":init") has) in
-    ap (list_all fits_initial) (content_is problem_section tree s) ∙ all_pass fits_initial s.behind (λ i t at. clean_initial t (each i t at))
+    let each : AreCleanAs role.Initial s.after = each_clean role.Initial s.head s.after (fits_word problem_section tree s (codes ":init") has) in
+    ap (list_all fits_initial) (content_is problem_section tree s) ∙ all_pass fits_initial s.after (λ i t at. clean_initial t (each i t at))
 
 -- one clean tree that passes a test
 only_passes : (of : Role) (test : Tree → Bool) → ((tree : Tree) → IsCleanAs of tree → test tree ≡ true) → (trees : List Tree) → length trees ≡ 1 → AreCleanAs of trees → is_only test (Some trees) ≡ true
@@ -200,16 +201,16 @@ only_passes of test passes (t ∷ u ∷ us) one clean = absurd (omega arith)
 domain_passes : (tree : Tree) → IsCleanAs role.ProblemSection tree → has_head (codes ":domain") tree ≡ true → is_only is_name_leaf (Some (content tree)) ≡ true
 domain_passes tree clean has =
     let s : HeadedSection problem_section tree = problem_headed tree clean in
-    let one : (length s.behind ≡ 1) × AreCleanAs role.Name s.behind = one_clean role.Name s.head s.behind (fits_word problem_section tree s (codes ":domain") has) in
-    ap (λ trees. is_only is_name_leaf (Some trees)) (content_is problem_section tree s) ∙ only_passes role.Name is_name_leaf name_leaf s.behind one.0 one.1
+    let one : (length s.after ≡ 1) × AreCleanAs role.Name s.after = one_clean role.Name s.head s.after (fits_word problem_section tree s (codes ":domain") has) in
+    ap (λ trees. is_only is_name_leaf (Some trees)) (content_is problem_section tree s) ∙ only_passes role.Name is_name_leaf name_leaf s.after one.0 one.1
 
 goal_passes : (tree : Tree) → IsCleanAs role.ProblemSection tree → has_head (codes ":goal") tree ≡ true → is_only fits_condition (Some (content tree)) ≡ true
 goal_passes tree clean has =
     let s : HeadedSection problem_section tree = problem_headed tree clean in
-    let one : (length s.behind ≡ 1) × AreCleanAs role.Condition s.behind = one_clean role.Condition s.head s.behind (fits_word problem_section tree s (codes ":goal") has) in
-    ap (λ trees. is_only fits_condition (Some trees)) (content_is problem_section tree s) ∙ only_passes role.Condition fits_condition clean_condition s.behind one.0 one.1
+    let one : (length s.after ≡ 1) × AreCleanAs role.Condition s.after = one_clean role.Condition s.head s.after (fits_word problem_section tree s (codes ":goal") has) in
+    ap (λ trees. is_only fits_condition (Some trees)) (content_is problem_section tree s) ∙ only_passes role.Condition fits_condition clean_condition s.after one.0 one.1
 
--- where no section has a head, it is lacking
+-- a head that no section has is lacking
 lacking : (word : List ℕ) (sections : List Tree) → headed word sections ≡ [] → Lacks word sections
 lacking word [] none found = absurd (omega (arith, found.1))
 lacking word (t ∷ ts) none found = step (head_of t) refl (λ n f. lacking word ts n f) where
@@ -244,13 +245,13 @@ only_contents word test sections stands few each = from (headed word sections) r
   from (t ∷ []) is few all = ap (λ ts. is_only test (Some ts)) (append-nil (content t)) ∙ first_of_both (is_only test (Some (content t))) true all
   from (t ∷ u ∷ us) is few all = absurd (omega arith)
 
--- a problem in which no fault stands is of the form that is read
+-- a problem without a fault is of the form that is read
 pub clean_problem : (tree : Tree) → IsClean (StandsInProblem tree) → IsCleanProblem tree (sections_of tree)
 clean_problem tree clean =
     let node : (members : List Tree) × (members_of tree ≡ Some members) = node_stands role.ProblemFile tree clean (λ _. refl) in
     let file : CleanFile (codes "problem") role.ProblemSection tree = clean_file keyword.Problem role.ProblemFile role.ProblemSection tree clean (λ _. refl) node.0 node.1 in
     let P : List Tree → Type 0 = λ sections. IsCleanProblem tree sections in
-    subst P (sym (ap sections_behind file.file.whole)) (from file) where
+    subst P (sym (ap sections_after file.file.whole)) (from file) where
       from : (file : CleanFile (codes "problem") role.ProblemSection tree) → IsCleanProblem tree file.sections
       from file =
           let members : List Tree = file.file.define ∷ file.file.header ∷ file.sections in

@@ -3,10 +3,11 @@ use Rattle.std.proofs.Common.{◌≡◌, ◌⊎◌, inl, inr, ℕ, suc, ◌&&◌
 use Rattle.fond_tree.specs.declared.tree.Tree.{Tree, out-Tree}
 use Rattle.fond_tree.specs.declared.tree.Tree.TheOpen.{Tree-F, Leaf, Node}
 use Rattle.fond_tree.specs.declared.tree.Tree.TheFolds.{fold_out-Tree, map-Tree}
-use Rattle.fond_reader.specs.Words.{is_name, leaf_of, leaf_step, members_of, members_step}
+use Rattle.fond_reader.specs.Words.{is_name}
+use Rattle.fond_tree.specs.Trees.{members_step, leaf_step, members_of, leaf_of}
 use Rattle.fond_reader.specs.Forms.{is_only}
 use Rattle.fond_reader.specs.Files.{is_name_leaf}
-use Rattle.fond_reader.specs.CleanForms.{SeenCondition, condition_of_members, condition_step, seen_condition, SeenEffect, effect_of_members, effect_step, seen_effect, atom_behind, fits_atom}
+use Rattle.fond_reader.specs.CleanForms.{SeenCondition, condition_of_members, condition_step, seen_condition, SeenEffect, effect_of_members, effect_step, seen_effect, atom_after, fits_atom}
 
 seen_condition_out : (tree : Tree) → seen_condition tree ≡ condition_step (map-Tree Tree SeenCondition seen_condition (out-Tree tree))
 seen_condition_out tree = fold_out-Tree SeenCondition condition_step tree
@@ -48,14 +49,14 @@ leaf_or_not : (leaf : Option (List ℕ)) → (leaf ≡ None) ⊎ ((name : List �
 leaf_or_not None = inl refl
 leaf_or_not (Some name) = inr (name, refl)
 
--- a tree is seen as an atom where it is one
+-- a tree is seen as an atom if it is one
 pub effect_atom : (tree : Tree) → (seen_effect tree).atom ≡ fits_atom tree
 effect_atom tree = ap (λ (s : SeenEffect). s.atom) (seen_effect_out tree) ∙ from (out-Tree tree) where
   counted : (trees : List Tree) → length (map seen_effect trees) ≡ length trees
   counted [] = refl
   counted (t ∷ ts) = ap (λ n. suc n) (counted ts)
 
-  head : (tree : Tree) (trees : List Tree) → atom_behind (leaf_of tree) (map seen_effect trees) ≡ (is_name_leaf tree && nat_eq (length trees) 0)
+  head : (tree : Tree) (trees : List Tree) → atom_after (leaf_of tree) (map seen_effect trees) ≡ (is_name_leaf tree && nat_eq (length trees) 0)
   head tree trees = elim (leaf_or_not (leaf_of tree)) [
     | inl none ↦ rw none refl
     | inr some ↦ rw some.1 (ap (λ n. is_name some.0 && nat_eq n 0) (counted trees))
@@ -63,7 +64,7 @@ effect_atom tree = ap (λ (s : SeenEffect). s.atom) (seen_effect_out tree) ∙ f
 
   members : (trees : List Tree) → (effect_of_members (map seen_effect trees)).atom ≡ is_only is_name_leaf (Some trees)
   members [] = refl
-  members (t ∷ ts) = ap (λ leaf. atom_behind leaf (map seen_effect ts)) (effect_leaf t) ∙ head t ts
+  members (t ∷ ts) = ap (λ leaf. atom_after leaf (map seen_effect ts)) (effect_leaf t) ∙ head t ts
 
   from : (layer : Tree-F Tree) → (effect_step (map-Tree Tree SeenEffect seen_effect layer)).atom ≡ is_only is_name_leaf (members_step layer)
   from (Leaf place name) = refl

@@ -1,4 +1,4 @@
--- Clean sections, by their heads, and heads that stand at most once.
+-- Clean sections, by their heads, and heads that occur at most once.
 use Rattle.std.proofs.Common.{◌≡◌, inl, inr, ℕ, zero, suc, ◌<◌, ◌≤◌, ◌&&◌, ◌||◌, Bool, true, false, List, [], ◌∷◌, ◌++◌, filter, length, Option, Some, None, slice_get, slice_index_or, refl, sym, ap, ◌∙◌, subst, arith, append_assoc, if◌then◌else◌, Contains}
 use Rattle.std.specs.List.{list_any, list_all, filter_map, flat_map}
 use Rattle.std.specs.Str.{bytes_eq}
@@ -9,7 +9,8 @@ use Rattle.fond_tree.specs.declared.tree.Tree.{Tree}
 use Rattle.fond_reader.specs.declared.role.Role.{Role}
 use Rattle.fond_reader.specs.declared.role.Role.TheVariants as role
 use Rattle.fond_reader.specs.declared.role.Rest.TheVariants.{Unread}
-use Rattle.fond_reader.specs.Words.{is_name, is_one_of, place_of, leaf_of, members_of, front, head_of}
+use Rattle.fond_reader.specs.Words.{is_name, is_one_of}
+use Rattle.fond_tree.specs.Trees.{head_of, front, members_of, leaf_of, place_of}
 use Rattle.fond_reader.specs.Roles.{shape, Expected, Members, node_expected, leaf_code, section}
 use Rattle.fond_reader.specs.Parts.{part}
 use Rattle.fond_reader.specs.Faults.{Repeats}
@@ -18,14 +19,14 @@ use Rattle.fond_reader.specs.Files.{has_head, headed, but_first, content, conten
 use Rattle.fond_reader.proofs.Clean.{IsCleanAs, FitsAs, leaf_or_node, node_stands, fits_as, name_stands, some_is_none, true_is_false}
 use Rattle.fond_reader.proofs.ReadLists.{first_of_both, second_of_both}
 
--- a section that has a leaf for its head, and fits what is expected behind it
+-- a section that has a leaf for its head, and fits what is expected after it
 pub record HeadedSection (by_head : List ℕ → Expected) (tree : Tree) : Type 0 where
   pub head : Tree
-  pub behind : List Tree
-  pub whole : members_of tree ≡ Some (head ∷ behind)
+  pub after : List Tree
+  pub whole : members_of tree ≡ Some (head ∷ after)
   pub word : List ℕ
   pub leaf : leaf_of head ≡ Some word
-  pub fits : FitsAs (by_head word) (head ∷ behind)
+  pub fits : FitsAs (by_head word) (head ∷ after)
 
 -- a clean section has a leaf for its head
 pub headed_section : (of : Role) (by_head : List ℕ → Expected) → ((members : List Tree) → node_expected of members ≡ Some (section by_head (front members))) → ((leaf : List ℕ) → leaf_code of leaf ≡ Some 7) →
@@ -38,17 +39,17 @@ headed_section of by_head expects no_leaf tree clean =
 
       from : (members : List Tree) → members_of tree ≡ Some members → HeadedSection by_head tree
       from [] is = absurd (some_is_none 7 (fits_as of tree clean [] (Members (shape (role.Name ∷ []) Unread)) is (expects [])).code)
-      from (head ∷ behind) is = elim (leaf_or_node head) [
+      from (head ∷ after) is = elim (leaf_or_node head) [
         | inl h ↦ record {
           head = head;
-          behind = behind;
+          after = after;
           whole = is;
           word = h.0;
           leaf = h.1;
-          fits = fits_as of tree clean (head ∷ behind) (by_head h.0) is (expects (head ∷ behind) ∙ ap (λ leaf. Some (section by_head leaf)) h.1);
+          fits = fits_as of tree clean (head ∷ after) (by_head h.0) is (expects (head ∷ after) ∙ ap (λ leaf. Some (section by_head leaf)) h.1);
         }
         | inr h ↦
-            let fits : FitsAs (Members (shape (role.Name ∷ []) Unread)) (head ∷ behind) = fits_as of tree clean (head ∷ behind) (Members (shape (role.Name ∷ []) Unread)) is (expects (head ∷ behind) ∙ ap (λ leaf. Some (section by_head leaf)) h.2) in
+            let fits : FitsAs (Members (shape (role.Name ∷ []) Unread)) (head ∷ after) = fits_as of tree clean (head ∷ after) (Members (shape (role.Name ∷ []) Unread)) is (expects (head ∷ after) ∙ ap (λ leaf. Some (section by_head leaf)) h.2) in
             let stands : (leaf : List ℕ) × (leaf_of head ≡ Some leaf) × (is_name leaf ≡ true) = name_stands head (fits.inner 0 (part role.Name head) refl) in
             absurd (leafless head stands.0 stands.1 h.2)
       ]
@@ -57,19 +58,19 @@ module _ (by_head : List ℕ → Expected) (tree : Tree) (s : HeadedSection by_h
   pub head_is : head_of tree ≡ Some s.word
   head_is = rw s.whole s.leaf
 
-  pub content_is : content tree ≡ s.behind
+  pub content_is : content tree ≡ s.after
   content_is = ap but_first s.whole
 
-  -- where it has this head, it fits what is expected behind that
+  -- if it has this head, it fits what is expected after that
   pub word_is : (word : List ℕ) → has_head word tree ≡ true → s.word ≡ word
   word_is word has = (bytes_eq-Decides s.word word).0 (sym (ap (λ h. is_word word h) head_is) ∙ has)
 
-  pub fits_word : (word : List ℕ) → has_head word tree ≡ true → FitsAs (by_head word) (s.head ∷ s.behind)
-  fits_word word has = let P : List ℕ → Type 0 = λ w. FitsAs (by_head w) (s.head ∷ s.behind) in subst P (word_is word has) s.fits
+  pub fits_word : (word : List ℕ) → has_head word tree ≡ true → FitsAs (by_head word) (s.head ∷ s.after)
+  fits_word word has = let P : List ℕ → Type 0 = λ w. FitsAs (by_head w) (s.head ∷ s.after) in subst P (word_is word has) s.fits
 
 -- what holds of the sections with a head
 module _ (word : List ℕ) where
-  -- where each section with the head has nothing behind it, they have no contents
+  -- if each section with the head has nothing after it, they have no contents
   pub contents_none : (sections : List Tree) → ((i : ℕ) (tree : Tree) → slice_get sections i ≡ Some tree → has_head word tree ≡ true → content tree ≡ []) → contents word sections ≡ []
   contents_none [] each = refl
   contents_none (t ∷ ts) each = step (has_head word t) (each 0 t refl) (contents_none ts (λ i tree at has. each (suc i) tree at has)) where
@@ -77,7 +78,7 @@ module _ (word : List ℕ) where
     step true here rest = ap (λ xs. xs ++ flat_map content (headed word ts)) (here refl) ∙ rest
     step false here rest = rest
 
-  -- where what stands behind the head passes a test in each section with the head, the contents do
+  -- if what follows the head passes a test in each section with the head, the contents do
   pub contents_pass : (test : Tree → Bool) (sections : List Tree) → ((i : ℕ) (tree : Tree) → slice_get sections i ≡ Some tree → has_head word tree ≡ true → list_all test (content tree) ≡ true) → list_all test (contents word sections) ≡ true
   contents_pass test [] each = refl
   contents_pass test (t ∷ ts) each = step (has_head word t) (each 0 t refl) (contents_pass test ts (λ i tree at has. each (suc i) tree at has)) where
@@ -89,7 +90,7 @@ module _ (word : List ℕ) where
     step true here rest = both (content t) (flat_map content (headed word ts)) (here refl) rest
     step false here rest = rest
 
-  -- where each section with the head passes a test, all of them do
+  -- if each section with the head passes a test, all of them do
   pub headed_pass : (test : Tree → Bool) (sections : List Tree) → ((i : ℕ) (tree : Tree) → slice_get sections i ≡ Some tree → has_head word tree ≡ true → test tree ≡ true) → list_all test (headed word sections) ≡ true
   headed_pass test [] each = refl
   headed_pass test (t ∷ ts) each = step (has_head word t) (each 0 t refl) (headed_pass test ts (λ i tree at has. each (suc i) tree at has)) where
@@ -113,7 +114,7 @@ contained words word found = from words found.0 found.1 found.2 where
   from (w ∷ ws) zero below is = here _ _ ((bytes_eq-Decides word w).1 (sym is))
   from (w ∷ ws) (suc k) below is = there _ _ (from ws k (omega arith) is)
 
--- where none of the heads that stand at most once stands behind another one, each does
+-- if no head that may occur only once follows another one, each occurs at most once
 module _ (heads : Tree → Option (List ℕ)) (single : List (List ℕ)) (trees : List Tree) (unrepeated : (place : Place) → Repeats heads single trees place → ⊥) (word : List ℕ) (counts : Contains single word) where
   of_word : (tree : Tree) (head : Option (List ℕ)) → heads tree ≡ head → is_word word head ≡ true → heads tree ≡ Some word
   of_word tree None is same = absurd (true_is_false (sym same))

@@ -4,18 +4,18 @@ use Rattle.std.specs.Prelude.{codes}
 use Rattle.std.specs.Bool.{Decides}
 use Rattle.fond_text.specs.declared.place.Place.{Place}
 use Rattle.fond_tree.specs.declared.tree.Tree.{Tree}
-use Rattle.fond_reader.specs.Words.{place_of, members_of}
+use Rattle.fond_tree.specs.Trees.{members_of, place_of}
 use Rattle.fond_reader.specs.declared.role.Role.TheVariants.{ProblemFile}
 use Rattle.fond_text.specs.declared.first.Found.{Found}
-use Rattle.fond_reader.specs.Faults.{Lacks, IsIncomplete, behind_header}
+use Rattle.fond_reader.specs.Faults.{Lacks, IsIncomplete, after_header}
 use Rattle.fond_text.specs.Firsts.{IsFirst}
-use Rattle.fond_reader.proofs.Earliest.{first_along}
+use Rattle.fond_text.proofs.Earliest.{first_along}
 
 abbrev LacksSome : List Tree → Type 0
-LacksSome members = Lacks (codes ":domain") (behind_header members) ⊎ Lacks (codes ":goal") (behind_header members)
+LacksSome members = Lacks (codes ":domain") (after_header members) ⊎ Lacks (codes ":goal") (after_header members)
 
 pub incomplete_where_lacking : (tree : Tree) (members : List Tree) → members_of tree ≡ Some members → (lacking : Bool) →
-    Decides lacking (Lacks (codes ":domain") (behind_header members) ⊎ Lacks (codes ":goal") (behind_header members)) → (place : Place) → place ≡ place_of tree → (first : Option Found) →
+    Decides lacking (Lacks (codes ":domain") (after_header members) ⊎ Lacks (codes ":goal") (after_header members)) → (place : Place) → place ≡ place_of tree → (first : Option Found) →
     IsFirst (λ at number. (lacking ≡ true) × (at ≡ place) × (number ≡ 10)) first → IsFirst (λ at number. IsIncomplete ProblemFile tree at × (number ≡ 10)) first
 incomplete_where_lacking tree members are lacking decides place there first h =
     first_along (λ at number. (lacking ≡ true) × (at ≡ place) × (number ≡ 10)) (λ at number. IsIncomplete ProblemFile tree at × (number ≡ 10))

@@ -10,7 +10,8 @@ use Rattle.fond_ast.specs.declared.syntax.Cond.{Cond}
 use Rattle.fond_ast.specs.declared.syntax.Effect.{Effect}
 use Rattle.fond_tree.specs.declared.tree.Tree.{Tree}
 use Rattle.fond_reader.specs.declared.role.Role.TheVariants as role
-use Rattle.fond_reader.specs.Words.{is_one_of, leaf_of}
+use Rattle.fond_reader.specs.Words.{is_one_of}
+use Rattle.fond_tree.specs.Trees.{leaf_of}
 use Rattle.fond_reader.specs.Roles.{action_keys, is_headed_by}
 use Rattle.fond_reader.specs.Parts.{Part, part, value, pairs}
 use Rattle.fond_reader.specs.Faults.{Repeats, keys}
@@ -31,7 +32,7 @@ all_append : (xs ys : List Part) → AllRead xs → AllRead ys → AllRead (xs +
 all_append [] ys first second = second
 all_append (x ∷ xs) ys first second = (first.0, all_append xs ys first.1 second)
 
--- the value of a key is read, where it is as the key wants it
+-- the value of a key is read if it is what the key requires
 value_read : (tree : Tree) (key : Option (List ℕ)) → (is_word (codes ":parameters") key ≡ true → is_unit tree ≡ true) → (is_word (codes ":precondition") key ≡ true → IsSomeCondition tree) → (is_word (codes ":effect") key ≡ true → IsSomeEffect true tree) →
     AllRead (value key tree)
 value_read tree None parameters pre effect = tt
@@ -77,7 +78,7 @@ effect_read (t ∷ ts) effect is =
     let P : List Tree → Type 0 = λ us. (length (t ∷ us) ≤ 1) × Each (IsSomeEffect true) (t ∷ us) in
     subst P (sym is.1) (omega arith, ((effect, is.0), tt))
 
--- a head that stands a second time is the head of two trees
+-- a head that occurs a second time is the head of two trees
 module _ (heads : Tree → Option (List ℕ)) (head : List ℕ) where
   abbrev pub with_it : List Tree → List Tree
   with_it trees = filter (λ t. is_word head (heads t)) trees
@@ -144,7 +145,7 @@ module _ (tree : Tree) (schema : Schema) (s : IsSchemaOf tree schema) where
   effect : (length (values (codes ":effect") s.pairs) ≤ 1) × Each (IsSomeEffect true) (values (codes ":effect") s.pairs)
   effect = effect_read (values (codes ":effect") s.pairs) schema.effect s.effect
 
-  -- the pairs of a schema are read, and no key of it stands twice
+  -- the pairs of a schema are read, and no key of it occurs twice
   pub schema_pairs : AllRead (pairs s.pairs)
   schema_pairs = pairs_read s.pairs s.known parameters.1 pre.1 effect.1
 

@@ -1,17 +1,19 @@
--- From each domain and from each problem in which no fault stands some declaration is read.
+-- Some declaration is read from each domain and each problem without a fault.
 use Rattle.std.proofs.Common.{◌≡◌, ℕ, Bool, true, List, [], ◌∷◌, map, Some, codes, refl, sym, ap, ◌∙◌}
 use Rattle.std.specs.List.{list_all}
+use Rattle.fond_text.specs.Lists.{each_passes}
 use Rattle.fond_ast.specs.declared.files.Domain.{Domain}
 use Rattle.fond_ast.specs.declared.files.Problem.{Problem}
 use Rattle.fond_ast.specs.declared.files.Schema.{Schema}
 use Rattle.fond_ast.specs.declared.syntax.Cond.{Cond, Truth}
 use Rattle.fond_ast.specs.declared.syntax.Effect.{Effect, Nothing}
 use Rattle.fond_tree.specs.declared.tree.Tree.{Tree}
-use Rattle.fond_reader.specs.Words.{is_name, place_of, leaf_of, members_of}
+use Rattle.fond_reader.specs.Words.{is_name}
+use Rattle.fond_tree.specs.Trees.{members_of, leaf_of, place_of}
 use Rattle.fond_reader.specs.Faults.{StandsInDomain, StandsInProblem}
-use Rattle.fond_reader.specs.Forms.{are_read, is_condition, is_initial}
+use Rattle.fond_reader.specs.Forms.{is_condition, is_initial}
 use Rattle.fond_reader.specs.Files.{is_name_leaf, headed, content, contents, is_declared, values, IsPrecondition, IsWholeEffect, IsSchemaOf, AreSchemasOf, IsDomainOf, IsProblemOf}
-use Rattle.fond_reader.specs.CleanFiles.{is_none_or_one, fits_pairs, action_behind, fits_action, sections_of, IsCleanDomain, IsCleanProblem}
+use Rattle.fond_reader.specs.CleanFiles.{is_none_or_one, fits_pairs, action_after, fits_action, sections_of, IsCleanDomain, IsCleanProblem}
 use Rattle.fond_reader.specs.CleanForms.{fits_atom, fits_condition, fits_whole_effect, fits_initial}
 use Rattle.fond_text.specs.Faults.{IsClean}
 use Rattle.fond_reader.proofs.Clean.{true_is_false}
@@ -25,8 +27,8 @@ use Rattle.fond_reader.proofs.ReadLists.{first_of_both, second_of_both}
 use Rattle.fond_reader.proofs.ReadSchemas.{both_hold, named_at, with_head, conditioned, effected, is_schema}
 use Rattle.fond_reader.proofs.ReadValues.{empty}
 
--- from trees that pass a test things are read one by one, where from each that does one is read
-all_built : {X : Type 0} (read : X → Tree → Bool) (fits : Tree → Bool) → ((tree : Tree) → fits tree ≡ true → (x : X) × (read x tree ≡ true)) → (trees : List Tree) → list_all fits trees ≡ true → (xs : List X) × (are_read (map read xs) trees ≡ true)
+-- trees that pass a test are read one by one, if each tree that passes is read
+all_built : {X : Type 0} (read : X → Tree → Bool) (fits : Tree → Bool) → ((tree : Tree) → fits tree ≡ true → (x : X) × (read x tree ≡ true)) → (trees : List Tree) → list_all fits trees ≡ true → (xs : List X) × (each_passes (map read xs) trees ≡ true)
 all_built read fits built [] all = ([], refl)
 all_built read fits built (t ∷ ts) all =
     let here = built t (first_of_both _ _ all) in
@@ -48,7 +50,7 @@ keyed_effect_built (t ∷ ts) fits =
 -- from each action without a fault a schema is read
 schema_built : (tree : Tree) → fits_action tree ≡ true → (schema : Schema) × IsSchemaOf tree schema
 schema_built tree fits = from (content tree) refl fits where
-  from : (behind : List Tree) → content tree ≡ behind → action_behind behind ≡ true → (schema : Schema) × IsSchemaOf tree schema
+  from : (after : List Tree) → content tree ≡ after → action_after after ≡ true → (schema : Schema) × IsSchemaOf tree schema
   from [] is fit = absurd (true_is_false (sym fit))
   from (name ∷ pairs) is fit =
       let whole : (head : Tree) × (members_of tree ≡ Some (head ∷ name ∷ pairs)) = with_head (members_of tree) name pairs is in
@@ -113,11 +115,11 @@ problem_built tree sections clean =
         objects = clean.objects;
         no_objects = refl;
         init = init.1;
-        goal = ap (are_read (is_condition goal.0 ∷ [])) alone ∙ both_hold _ _ goal.1 refl;
+        goal = ap (each_passes (is_condition goal.0 ∷ [])) alone ∙ both_hold _ _ goal.1 refl;
       },
     )
 
--- where no fault stands in a tree, a domain is read from it, or a problem
+-- a domain or a problem is read from a tree without a fault
 pub clean_domain_is_read : (tree : Tree) → IsClean (StandsInDomain tree) → (domain : Domain) × IsDomainOf tree domain
 clean_domain_is_read tree clean = domain_built tree (sections_of tree) (clean_domain tree clean)
 

@@ -2,6 +2,7 @@
 use Rattle.std.proofs.Common.{◌≡◌, ◌&&◌, ◌==◌, not, Bool, true, false, List, [], ◌∷◌, map, length, codes, refl, sym, ap, ◌∙◌, subst}
 use Rattle.std.specs.List.{list_all}
 use Rattle.std.proofs.lemmas.List.{length-map}
+use Rattle.fond_text.specs.Lists.{each_passes}
 use Rattle.fond_ast.specs.Read.{chooses_step, has_choices, is_schema_with_choices}
 use Rattle.fond_ast.specs.declared.files.Schema.{Schema}
 use Rattle.fond_ast.specs.declared.syntax.Effect.{Effect, roll-Effect}
@@ -10,13 +11,13 @@ use Rattle.fond_ast.specs.declared.syntax.Effect.TheOpen as open_effect
 use Rattle.fond_ast.specs.declared.syntax.Effect.TheFolds.{fold-roll-Effect, map-Effect, ind-Effect}
 use Rattle.fond_tree.specs.declared.tree.Tree.{Tree}
 use Rattle.fond_reader.specs.Files.{IsWholeEffect, AreSchemasOf, values}
-use Rattle.fond_reader.specs.Forms.{are_read, inner, is_form, effect_step, is_effect}
+use Rattle.fond_reader.specs.Forms.{inner, is_form, effect_step, is_effect}
 use Rattle.fond_reader.proofs.Clean.{true_is_false}
 use Rattle.fond_reader.proofs.LawForms.{form_there}
 use Rattle.fond_reader.proofs.ReadLists.{first_of_both, second_of_both}
 use Rattle.fond_reader.proofs.ReadSchemas.{both_hold}
 
--- where an effect is read, its choices have members
+-- the choices of an effect that is read have members
 abbrev Chooses : Effect → Type 0
 Chooses effect = (whole : Bool) (tree : Tree) → is_effect effect whole tree ≡ true → has_choices effect ≡ true
 
@@ -27,7 +28,7 @@ chooses_of : (layer : open_effect.Effect-F Effect) →
 chooses_of layer step whole tree is =
     fold-roll-Effect Bool chooses_step layer ∙ step whole tree (sym (ap (λ reads. reads whole tree) (fold-roll-Effect (Bool → Tree → Bool) effect_step layer)) ∙ is)
 
-parts_choose : (parts : List ((effect : Effect) × Chooses effect)) (trees : List Tree) → are_read (inner (map is_effect (map (λ part. part.0) parts))) trees ≡ true →
+parts_choose : (parts : List ((effect : Effect) × Chooses effect)) (trees : List Tree) → each_passes (inner (map is_effect (map (λ part. part.0) parts))) trees ≡ true →
     list_all (λ b. b) (map has_choices (map (λ part. part.0) parts)) ≡ true
 parts_choose [] trees is = refl
 parts_choose (part ∷ parts) [] is = absurd (true_is_false (sym is))
@@ -41,7 +42,7 @@ layer_chooses open_effect.Nothing whole tree is = refl
 layer_chooses (open_effect.Add atom) whole tree is = refl
 layer_chooses (open_effect.Delete atom) whole tree is = refl
 layer_chooses (open_effect.And parts) whole tree is =
-    let form = form_there (codes "and") (inner (map is_effect (map (λ part. part.0) parts.items))) tree is in parts_choose parts.items form.behind form.read
+    let form = form_there (codes "and") (inner (map is_effect (map (λ part. part.0) parts.items))) tree is in parts_choose parts.items form.after form.read
 layer_chooses (open_effect.Forall names part) whole tree is = absurd (true_is_false (sym is))
 layer_chooses (open_effect.When condition part) whole tree is = absurd (true_is_false (sym is))
 layer_chooses (open_effect.OneOf parts) whole tree is =
@@ -49,7 +50,7 @@ layer_chooses (open_effect.OneOf parts) whole tree is =
     let chosen = first_of_both (whole && not (length (map is_effect effects) == 0)) _ is in
     let form = form_there (codes "oneof") (inner (map is_effect effects)) tree (second_of_both (whole && not (length (map is_effect effects) == 0)) _ is) in
     let some : not (length (map has_choices effects) == 0) ≡ true = ap (λ n. not (n == 0)) (length-map effects has_choices ∙ sym (length-map effects is_effect)) ∙ second_of_both whole _ chosen in
-    both_hold _ _ some (parts_choose parts.items form.behind form.read)
+    both_hold _ _ some (parts_choose parts.items form.after form.read)
 
 -- the choices of an effect that is read have members
 read_chooses : (effect : Effect) → Chooses effect

@@ -1,8 +1,9 @@
--- No fault stands in a tree from which a domain or a problem is read.
+-- A tree from which a domain or a problem is read has no fault.
 use Rattle.std.proofs.Common.{◌≡◌, ◌⊎◌, inl, inr, ℕ, suc, ◌≤◌, ◌&&◌, ◌||◌, Bool, true, false, List, [], ◌∷◌, ◌++◌, map, filter, length, Option, Some, None, codes, refl, sym, ap, ◌∙◌, subst, arith, append-nil, nat_lt, if◌then◌else◌, Contains}
 use Rattle.std.specs.List.{list_all, filter_map, flat_map}
 use Rattle.std.specs.Str.{bytes_eq}
 use Rattle.std.proofs.lemmas.Slice.Eq.{bytes_eq-Decides}
+use Rattle.fond_text.specs.Lists.{each_passes}
 use Rattle.fond_text.specs.declared.place.Place.{Place}
 use Rattle.fond_ast.specs.declared.files.Declared.{Declared}
 use Rattle.fond_ast.specs.declared.files.Domain.{Domain}
@@ -15,11 +16,12 @@ use Rattle.fond_reader.specs.declared.role.Keyword.TheVariants as keyword
 use Rattle.fond_reader.specs.declared.role.Role.{Role}
 use Rattle.fond_reader.specs.declared.role.Role.TheVariants as role
 use Rattle.fond_reader.specs.declared.role.Rest.TheVariants.{NoMore, Each as EachOf, Typed}
-use Rattle.fond_reader.specs.Words.{is_name, is_one_of, leaf_of, members_of, front, head_of}
+use Rattle.fond_reader.specs.Words.{is_name, is_one_of}
+use Rattle.fond_tree.specs.Trees.{head_of, front, members_of, leaf_of}
 use Rattle.fond_reader.specs.Roles.{shape, Members, none, atom, form_of, condition, effect, initial, section, domain_section, problem_section, word, has_term, has_parameter, has_more, is_headed_by, action_keys, is_unbuilt_form, condition_operator, effect_operator, initial_operator}
 use Rattle.fond_text.specs.Faults.{IsClean}
-use Rattle.fond_reader.specs.Faults.{IsIncomplete, Repeats, Lacks, behind_header, single_in_domain, single_in_problem, StandsInDomain, StandsInProblem}
-use Rattle.fond_reader.specs.Forms.{is_word, is_only, is_named, are_read, is_condition, is_initial}
+use Rattle.fond_reader.specs.Faults.{IsIncomplete, Repeats, Lacks, after_header, single_in_domain, single_in_problem, StandsInDomain, StandsInProblem}
+use Rattle.fond_reader.specs.Forms.{is_word, is_only, is_named, is_condition, is_initial}
 use Rattle.fond_reader.specs.Files.{is_name_leaf, IsFile, has_head, headed, content, contents, AreSingle, is_domain_section, is_problem_section, is_declared, IsSchemaOf, AreSchemasOf, IsDomainOf, IsProblemOf}
 use Rattle.fond_reader.specs.CleanForms.{fits_atom}
 use Rattle.fond_reader.proofs.Clean.{leaf_or_node, true_is_false, code_unless}
@@ -30,7 +32,7 @@ use Rattle.fond_reader.proofs.LawSections.{atom_shape, predicate_shape, header_s
 use Rattle.fond_reader.proofs.ReadLists.{first_of_both, second_of_both}
 use Rattle.fond_reader.proofs.ReadSchemas.{both_hold}
 
--- what stands behind the head of each, where the contents of all are known
+-- what follows the head of each, if the contents of all are known
 no_content : (sections : List Tree) → flat_map content sections ≡ [] → Each (λ t. content t ≡ []) sections
 no_content [] is = tt
 no_content (t ∷ ts) is = let both : (content t ≡ []) × (flat_map content ts ≡ []) = apart (content t) (flat_map content ts) is in (both.0, no_content ts both.1) where
@@ -58,7 +60,7 @@ module _ (head : List ℕ) where
       let split = each_split P (has_head head t) t (headed head ts) each in
       (split.0, each_headed P ts split.1)
 
-  -- where something stands in the sections with the head, one stands
+  -- if the sections with the head have contents, there is one
   stands_among : (sections : List Tree) → (contents head sections ≡ [] → ⊥) → Contains (filter_map head_of sections) head
   stands_among [] some = absurd (some refl)
   stands_among (t ∷ ts) some = step (head_of t) refl (stands_among ts) where
@@ -79,7 +81,7 @@ module _ (head : List ℕ) where
           rw is (suc found.0, omega (arith, found.1), found.2)
 
 -- trees that are read one by one
-each_predicate : (predicates : List Declared) (trees : List Tree) → are_read (map is_declared predicates) trees ≡ true → Each (λ t. fits_atom t ≡ true) trees
+each_predicate : (predicates : List Declared) (trees : List Tree) → each_passes (map is_declared predicates) trees ≡ true → Each (λ t. fits_atom t ≡ true) trees
 each_predicate [] [] is = tt
 each_predicate [] (t ∷ ts) is = absurd (true_is_false (sym is))
 each_predicate (d ∷ ds) [] is = absurd (true_is_false (sym is))
@@ -88,7 +90,7 @@ each_predicate (d ∷ ds) (t ∷ ts) is =
     let o : Only (is_named d.place d.name) (members_of t) = only (is_named d.place d.name) (members_of t) (first_of_both _ _ here) in
     (ap (is_only is_name_leaf) o.alone ∙ both_hold _ _ (named_leaf d.place d.name o.tree o.passes) refl, each_predicate ds ts (second_of_both (is_declared d t) _ is))
 
-each_initial : (initials : List InitAtom) (trees : List Tree) → are_read (map is_initial initials) trees ≡ true → Each IsSomeInitial trees
+each_initial : (initials : List InitAtom) (trees : List Tree) → each_passes (map is_initial initials) trees ≡ true → Each IsSomeInitial trees
 each_initial [] [] is = tt
 each_initial [] (t ∷ ts) is = absurd (true_is_false (sym is))
 each_initial (a ∷ as') [] is = absurd (true_is_false (sym is))
@@ -128,18 +130,18 @@ contains_of (w ∷ ws) word is = step (bytes_eq word w) refl is (contains_of ws 
   step true same some rest = (0, omega arith, sym ((bytes_eq-Decides word w).0 same))
   step false same some rest = let found : Contains ws word = rest some in (suc found.0, omega (arith, found.1), found.2)
 
--- where each head that may stand once heads one section at most, none stands twice
+-- if each head that may occur once heads one section at most, none occurs twice
 unrepeated : (single : List (List ℕ)) (sections : List Tree) → AreSingle single sections → (place : Place) → Repeats head_of single sections place → ⊥
 unrepeated single sections once place r =
     let few : length (filter (λ t. is_word r.head (head_of t)) sections) ≤ 1 = once r.head (contains_of single r.head r.counts) in
     let many : 2 ≤ length (filter (λ t. is_word r.head (head_of t)) sections) = twice head_of single sections place r in
     omega arith
 
--- no section of a file that is read stands a second time
-file_single : (tree : Tree) (kind : List ℕ) (sections : List Tree) → IsFile kind tree sections → (single : List (List ℕ)) → AreSingle single sections → (place : Place) → (members : List Tree) → members_of tree ≡ Some members → Repeats head_of single (behind_header members) place → ⊥
+-- no section of a file that is read occurs a second time
+file_single : (tree : Tree) (kind : List ℕ) (sections : List Tree) → IsFile kind tree sections → (single : List (List ℕ)) → AreSingle single sections → (place : Place) → (members : List Tree) → members_of tree ≡ Some members → Repeats head_of single (after_header members) place → ⊥
 file_single tree kind sections file single once place members is repeats =
     let P : List Tree → Type 0 = λ ts. Repeats head_of single ts place in
-    unrepeated single sections once place (subst P (ap behind_header (same_members tree members (file.define ∷ file.header ∷ sections) is file.whole)) repeats)
+    unrepeated single sections once place (subst P (ap after_header (same_members tree members (file.define ∷ file.header ∷ sections) is file.whole)) repeats)
 
 -- a domain that is read is fine
 module _ (tree : Tree) (domain : Domain) (d : IsDomainOf tree domain) where
@@ -191,9 +193,9 @@ module _ (tree : Tree) (problem : Problem) (p : IsProblemOf tree problem) where
 
   complete : (place : Place) → IsIncomplete role.ProblemFile tree place → ⊥
   complete place incomplete =
-      let behind : behind_header incomplete.0 ≡ p.sections = ap behind_header (same_members tree incomplete.0 (p.file.define ∷ p.file.header ∷ p.sections) incomplete.1 p.file.whole) in
+      let after : after_header incomplete.0 ≡ p.sections = ap after_header (same_members tree incomplete.0 (p.file.define ∷ p.file.header ∷ p.sections) incomplete.1 p.file.whole) in
       let P : List Tree → Type 0 = λ ts. Lacks (codes ":domain") ts ⊎ Lacks (codes ":goal") ts in
-      elim (subst P behind incomplete.3) [
+      elim (subst P after incomplete.3) [
         | inl lacks ↦ lacks (stands_among (codes ":domain") p.sections (apart domain_is.tree (contents (codes ":domain") p.sections) domain_alone))
         | inr lacks ↦ lacks (stands_among (codes ":goal") p.sections (apart goal_is.0 (contents (codes ":goal") p.sections) goal_is.1))
       ]
@@ -290,7 +292,7 @@ fine role.Initial tree read =
     node_fine role.Initial (form_of atom initial) (is_unbuilt_form initial_operator) (λ _. refl) (λ _. refl) tree (initial_shape tree read) (λ _ none. none, λ _ none. none)
 fine role.Atom tree read = node_fine role.Atom (λ _. Members atom) has_term (λ _. refl) (λ _. refl) tree (atom_shape tree read) (λ _ none. none, λ _ none. none)
 
--- no fault stands in a tree from which a domain is read, or a problem
+-- a tree from which a domain or a problem is read has no fault
 pub read_domain_is_clean : (tree : Tree) → (domain : Domain) × IsDomainOf tree domain → IsClean (StandsInDomain tree)
 read_domain_is_clean tree read = read_is_clean fine role.DomainFile tree read
 

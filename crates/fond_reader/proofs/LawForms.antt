@@ -5,6 +5,7 @@ use Rattle.std.specs.Str.{bytes_eq}
 use Rattle.std.proofs.lemmas.List.{length-map}
 use Rattle.std.proofs.lemmas.Bool.Decides.{nat_tests}
 use Rattle.std.proofs.lemmas.Slice.Eq.{bytes_eq-Decides}
+use Rattle.fond_text.specs.Lists.{each_passes}
 use Rattle.fond_text.specs.declared.place.Place.{Place}
 use Rattle.fond_ast.specs.declared.names.ReadAtom.{ReadAtom}
 use Rattle.fond_ast.specs.declared.syntax.Cond.{Cond, out-Cond}
@@ -17,10 +18,11 @@ use Rattle.fond_tree.specs.declared.tree.Tree.{Tree}
 use Rattle.fond_reader.specs.declared.role.Role.{Role}
 use Rattle.fond_reader.specs.declared.role.Role.TheVariants as role
 use Rattle.fond_reader.specs.declared.role.Rest.TheVariants.{NoMore, Each as EachOf}
-use Rattle.fond_reader.specs.Words.{is_name, is_variable, is_keyword, is_one_of, reserved, leaf_of, members_of, is_node}
+use Rattle.fond_reader.specs.Words.{is_name, is_variable, is_keyword, is_one_of, reserved}
+use Rattle.fond_tree.specs.Trees.{is_node, members_of, leaf_of}
 use Rattle.fond_reader.specs.Roles.{shape, Shape, Expected, Members, Refused, none, atom, atom_or_refused, form, form_of, condition, effect, choice, initial, is_unbuilt_form, condition_operator, effect_operator, initial_operator, has_term, is_leaf_of}
 use Rattle.fond_reader.specs.Parts.{part, is_counted, shape_parts}
-use Rattle.fond_reader.specs.Forms.{is_word, is_place, is_named, is_unit, is_empty, is_only, is_atom, are_read, are_operands, is_form, condition_step, is_condition, inner, effect_step, is_effect}
+use Rattle.fond_reader.specs.Forms.{is_word, is_place, is_named, is_unit, is_empty, is_only, is_atom, are_operands, is_form, condition_step, is_condition, inner, effect_step, is_effect}
 use Rattle.fond_reader.specs.Files.{is_name_leaf}
 use Rattle.fond_reader.specs.CleanForms.{fits_atom}
 use Rattle.fond_reader.proofs.Clean.{leaf_or_node, true_is_false}
@@ -73,31 +75,31 @@ atom_read atom tree is =
 -- a node of a word and operands
 pub record Form (word : List ℕ) (reads : List (Tree → Bool)) (tree : Tree) : Type 0 where
   pub head : Tree
-  pub behind : List Tree
-  pub whole : members_of tree ≡ Some (head ∷ behind)
+  pub after : List Tree
+  pub whole : members_of tree ≡ Some (head ∷ after)
   pub leaf : leaf_of head ≡ Some word
-  pub read : are_read reads behind ≡ true
+  pub read : each_passes reads after ≡ true
 
 pub form_there : (word : List ℕ) (reads : List (Tree → Bool)) (tree : Tree) → is_form word reads tree ≡ true → Form word reads tree
 form_there word reads tree is = from (members_of tree) refl is where
   from : (members : Option (List Tree)) → members_of tree ≡ members → are_operands word reads members ≡ true → Form word reads tree
   from None at read = absurd (true_is_false (sym read))
   from (Some []) at read = absurd (true_is_false (sym read))
-  from (Some (head ∷ behind)) at read = record {
+  from (Some (head ∷ after)) at read = record {
     head = head;
-    behind = behind;
+    after = after;
     whole = at;
     leaf = word_there word (leaf_of head) (first_of_both _ _ read);
     read = second_of_both (is_word word (leaf_of head)) _ read;
   }
 
 -- operands that are one or two
-pub one_operand : (read : Tree → Bool) (trees : List Tree) → are_read (read ∷ []) trees ≡ true → (tree : Tree) × (trees ≡ tree ∷ []) × (read tree ≡ true)
+pub one_operand : (read : Tree → Bool) (trees : List Tree) → each_passes (read ∷ []) trees ≡ true → (tree : Tree) × (trees ≡ tree ∷ []) × (read tree ≡ true)
 one_operand read [] is = absurd (true_is_false (sym is))
 one_operand read (t ∷ []) is = (t, refl, first_of_both _ _ is)
 one_operand read (t ∷ u ∷ us) is = absurd (true_is_false (sym (second_of_both (read t) _ is)))
 
-pub two_operands : (read other : Tree → Bool) (trees : List Tree) → are_read (read ∷ other ∷ []) trees ≡ true → (tree : Tree) × (second : Tree) × (trees ≡ tree ∷ second ∷ []) × (read tree ≡ true) × (other second ≡ true)
+pub two_operands : (read other : Tree → Bool) (trees : List Tree) → each_passes (read ∷ other ∷ []) trees ≡ true → (tree : Tree) × (second : Tree) × (trees ≡ tree ∷ second ∷ []) × (read tree ≡ true) × (other second ≡ true)
 two_operands read other [] is = absurd (true_is_false (sym is))
 two_operands read other (t ∷ ts) is =
     let rest : (u : Tree) × (ts ≡ u ∷ []) × (other u ≡ true) = one_operand other ts (second_of_both (read t) _ is) in
@@ -230,17 +232,17 @@ initial_unoperated h is = initial_unknown (bytes_eq h (codes "not")) (unreserved
 pub bare_atom : (head : Tree) → has_term (head ∷ []) ≡ false
 bare_atom head = and_false (is_leaf_of is_name head)
 
--- a form is of the shape that is expected behind its head
+-- a form is of the shape that is expected after its head
 module _ (empty : Shape) (by_head : List ℕ → List Tree → Expected) (operator : List ℕ → Option Bool) where
-  pub word_of_shape : (word : List ℕ) (reads : List (Tree → Bool)) (tree : Tree) (f : Form word reads tree) (of : Shape) → by_head word f.behind ≡ Members of → operator word ≡ Some false →
-      is_counted of.first of.rest (f.head ∷ f.behind) ≡ true → AllRead (shape_parts of.first of.rest (f.head ∷ f.behind)) → IsOfShape (form_of empty by_head) (is_unbuilt_form operator) tree
+  pub word_of_shape : (word : List ℕ) (reads : List (Tree → Bool)) (tree : Tree) (f : Form word reads tree) (of : Shape) → by_head word f.after ≡ Members of → operator word ≡ Some false →
+      is_counted of.first of.rest (f.head ∷ f.after) ≡ true → AllRead (shape_parts of.first of.rest (f.head ∷ f.after)) → IsOfShape (form_of empty by_head) (is_unbuilt_form operator) tree
   word_of_shape word reads tree f of expects known counted inner = record {
-    members = f.head ∷ f.behind;
+    members = f.head ∷ f.after;
     whole = f.whole;
     form = of;
-    expects = ap (λ leaf. form by_head leaf f.behind) f.leaf ∙ expects;
+    expects = ap (λ leaf. form by_head leaf f.after) f.leaf ∙ expects;
     counted = counted;
-    built = unbuilt_by operator f.head f.behind word f.leaf ∙ ap (λ o. unbuilt_of o (f.head ∷ f.behind)) known;
+    built = unbuilt_by operator f.head f.after word f.leaf ∙ ap (λ o. unbuilt_of o (f.head ∷ f.after)) known;
     inner = inner;
   }
 
@@ -259,13 +261,13 @@ module _ (empty : Shape) (by_head : List ℕ → List Tree → Expected) (operat
       }
 
 -- the operands of a condition and of an effect are read
-each_condition : (conditions : List Cond) (trees : List Tree) → are_read (map is_condition conditions) trees ≡ true → AllRead (map (part role.Condition) trees)
+each_condition : (conditions : List Cond) (trees : List Tree) → each_passes (map is_condition conditions) trees ≡ true → AllRead (map (part role.Condition) trees)
 each_condition [] [] is = tt
 each_condition [] (t ∷ ts) is = absurd (true_is_false (sym is))
 each_condition (c ∷ cs) [] is = absurd (true_is_false (sym is))
 each_condition (c ∷ cs) (t ∷ ts) is = ((c, first_of_both _ _ is), each_condition cs ts (second_of_both (is_condition c t) _ is))
 
-each_effect : (effects : List Effect) (trees : List Tree) → are_read (inner (map is_effect effects)) trees ≡ true → AllRead (map (part role.Effect) trees)
+each_effect : (effects : List Effect) (trees : List Tree) → each_passes (inner (map is_effect effects)) trees ≡ true → AllRead (map (part role.Effect) trees)
 each_effect [] [] is = tt
 each_effect [] (t ∷ ts) is = absurd (true_is_false (sym is))
 each_effect (e ∷ es) [] is = absurd (true_is_false (sym is))
@@ -279,15 +281,15 @@ unit_there tree is = from (members_of tree) is where
   from (Some ms) h = ap (λ xs. Some xs) (empty ms h)
 
 -- of a node with one operand or two no member is missing and none is too many, and they are read
-one_counted : (of : Role) (head : Tree) (word : List ℕ) → leaf_of head ≡ Some word → (behind : List Tree) (tree : Tree) → behind ≡ tree ∷ [] → IsRead of tree →
-    (is_counted (role.Head ∷ of ∷ []) NoMore (head ∷ behind) ≡ true) × AllRead (shape_parts (role.Head ∷ of ∷ []) NoMore (head ∷ behind))
-one_counted of head word leaf behind tree is read =
+one_counted : (of : Role) (head : Tree) (word : List ℕ) → leaf_of head ≡ Some word → (after : List Tree) (tree : Tree) → after ≡ tree ∷ [] → IsRead of tree →
+    (is_counted (role.Head ∷ of ∷ []) NoMore (head ∷ after) ≡ true) × AllRead (shape_parts (role.Head ∷ of ∷ []) NoMore (head ∷ after))
+one_counted of head word leaf after tree is read =
     let P : List Tree → Type 0 = λ ts. AllRead (shape_parts (role.Head ∷ of ∷ []) NoMore (head ∷ ts)) in
     (ap (λ ts. is_counted (role.Head ∷ of ∷ []) NoMore (head ∷ ts)) is, subst P (sym is) ((word, leaf), (read, tt)))
 
-two_counted : (of : Role) (head : Tree) (word : List ℕ) → leaf_of head ≡ Some word → (behind : List Tree) (tree second : Tree) → behind ≡ tree ∷ second ∷ [] → IsRead of tree → IsRead of second →
-    (is_counted (role.Head ∷ of ∷ of ∷ []) NoMore (head ∷ behind) ≡ true) × AllRead (shape_parts (role.Head ∷ of ∷ of ∷ []) NoMore (head ∷ behind))
-two_counted of head word leaf behind tree second is read other =
+two_counted : (of : Role) (head : Tree) (word : List ℕ) → leaf_of head ≡ Some word → (after : List Tree) (tree second : Tree) → after ≡ tree ∷ second ∷ [] → IsRead of tree → IsRead of second →
+    (is_counted (role.Head ∷ of ∷ of ∷ []) NoMore (head ∷ after) ≡ true) × AllRead (shape_parts (role.Head ∷ of ∷ of ∷ []) NoMore (head ∷ after))
+two_counted of head word leaf after tree second is read other =
     let P : List Tree → Type 0 = λ ts. AllRead (shape_parts (role.Head ∷ of ∷ of ∷ []) NoMore (head ∷ ts)) in
     (ap (λ ts. is_counted (role.Head ∷ of ∷ of ∷ []) NoMore (head ∷ ts)) is, subst P (sym is) ((word, leaf), (read, (other, tt))))
 
@@ -300,19 +302,19 @@ condition_layer (open_condition.Holds atom) tree is = atom_of_shape none conditi
 condition_layer (open_condition.Equal term other) tree is = absurd (true_is_false (sym is))
 condition_layer (open_condition.And parts) tree is =
     let f : Form (codes "and") (map is_condition parts.items) tree = form_there (codes "and") (map is_condition parts.items) tree is in
-    word_of_shape none condition condition_operator (codes "and") (map is_condition parts.items) tree f (shape (role.Head ∷ []) (EachOf role.Condition)) refl refl refl ((codes "and", f.leaf), each_condition parts.items f.behind f.read)
+    word_of_shape none condition condition_operator (codes "and") (map is_condition parts.items) tree f (shape (role.Head ∷ []) (EachOf role.Condition)) refl refl refl ((codes "and", f.leaf), each_condition parts.items f.after f.read)
 condition_layer (open_condition.Or parts) tree is =
     let f : Form (codes "or") (map is_condition parts.items) tree = form_there (codes "or") (map is_condition parts.items) tree is in
-    word_of_shape none condition condition_operator (codes "or") (map is_condition parts.items) tree f (shape (role.Head ∷ []) (EachOf role.Condition)) refl refl refl ((codes "or", f.leaf), each_condition parts.items f.behind f.read)
+    word_of_shape none condition condition_operator (codes "or") (map is_condition parts.items) tree f (shape (role.Head ∷ []) (EachOf role.Condition)) refl refl refl ((codes "or", f.leaf), each_condition parts.items f.after f.read)
 condition_layer (open_condition.Not operand) tree is =
     let f : Form (codes "not") (is_condition operand.value ∷ []) tree = form_there (codes "not") (is_condition operand.value ∷ []) tree is in
-    let one = one_operand (is_condition operand.value) f.behind f.read in
-    let counted = one_counted role.Condition f.head (codes "not") f.leaf f.behind one.0 one.1 (operand.value, one.2) in
+    let one = one_operand (is_condition operand.value) f.after f.read in
+    let counted = one_counted role.Condition f.head (codes "not") f.leaf f.after one.0 one.1 (operand.value, one.2) in
     word_of_shape none condition condition_operator (codes "not") (is_condition operand.value ∷ []) tree f (shape (role.Head ∷ role.Condition ∷ []) NoMore) refl refl counted.0 counted.1
 condition_layer (open_condition.Imply operand other) tree is =
     let f : Form (codes "imply") (is_condition operand.value ∷ is_condition other.value ∷ []) tree = form_there (codes "imply") (is_condition operand.value ∷ is_condition other.value ∷ []) tree is in
-    let two = two_operands (is_condition operand.value) (is_condition other.value) f.behind f.read in
-    let counted = two_counted role.Condition f.head (codes "imply") f.leaf f.behind two.0 two.1 two.2 (operand.value, two.3) (other.value, two.4) in
+    let two = two_operands (is_condition operand.value) (is_condition other.value) f.after f.read in
+    let counted = two_counted role.Condition f.head (codes "imply") f.leaf f.after two.0 two.1 two.2 (operand.value, two.3) (other.value, two.4) in
     word_of_shape none condition condition_operator (codes "imply") (is_condition operand.value ∷ is_condition other.value ∷ []) tree f (shape (role.Head ∷ role.Condition ∷ role.Condition ∷ []) NoMore) refl refl counted.0 counted.1
 condition_layer (open_condition.Forall names operand) tree is = absurd (true_is_false (sym is))
 condition_layer (open_condition.Exists names operand) tree is = absurd (true_is_false (sym is))
@@ -325,13 +327,13 @@ condition_shape tree read =
 abbrev pub IsEffectShape : Bool → Tree → Type 0
 IsEffectShape whole = IsOfShape (form_of none effect) (is_unbuilt_form (effect_operator whole))
 
--- behind the head of a choice something stands
-choice_expected : (behind : List Tree) → (length behind == 0) ≡ false → choice behind ≡ Members (shape (role.Head ∷ []) (EachOf role.Effect))
+-- a choice has a member after its head
+choice_expected : (after : List Tree) → (length after == 0) ≡ false → choice after ≡ Members (shape (role.Head ∷ []) (EachOf role.Effect))
 choice_expected [] some = absurd (true_is_false some)
 choice_expected (t ∷ ts) some = refl
 
-some_read : (reads : List (Tree → Bool)) (behind : List Tree) → (length reads == 0) ≡ false → are_read reads behind ≡ true → (length behind == 0) ≡ false
-some_read [] behind some is = absurd (true_is_false some)
+some_read : (reads : List (Tree → Bool)) (after : List Tree) → (length reads == 0) ≡ false → each_passes reads after ≡ true → (length after == 0) ≡ false
+some_read [] after some is = absurd (true_is_false some)
 some_read (r ∷ rs) [] some is = absurd (true_is_false (sym is))
 some_read (r ∷ rs) (t ∷ ts) some is = grind (arith, nat_tests)
 
@@ -340,13 +342,13 @@ effect_layer whole open_effect.Nothing tree is = record { members = []; whole = 
 effect_layer whole (open_effect.Add atom) tree is = atom_of_shape none effect (effect_operator whole) effect_named (effect_unoperated whole) tree (atom_read atom tree is)
 effect_layer whole (open_effect.Delete atom) tree is =
     let f : Form (codes "not") (is_atom atom ∷ []) tree = form_there (codes "not") (is_atom atom ∷ []) tree is in
-    let one = one_operand (is_atom atom) f.behind f.read in
-    let counted = one_counted role.Atom f.head (codes "not") f.leaf f.behind one.0 one.1 (atom_read atom one.0 one.2) in
+    let one = one_operand (is_atom atom) f.after f.read in
+    let counted = one_counted role.Atom f.head (codes "not") f.leaf f.after one.0 one.1 (atom_read atom one.0 one.2) in
     word_of_shape none effect (effect_operator whole) (codes "not") (is_atom atom ∷ []) tree f (shape (role.Head ∷ role.Atom ∷ []) NoMore) refl refl counted.0 counted.1
 effect_layer whole (open_effect.And parts) tree is =
     let reads : List (Tree → Bool) = inner (map is_effect parts.items) in
     let f : Form (codes "and") reads tree = form_there (codes "and") reads tree is in
-    word_of_shape none effect (effect_operator whole) (codes "and") reads tree f (shape (role.Head ∷ []) (EachOf role.Effect)) refl refl refl ((codes "and", f.leaf), each_effect parts.items f.behind f.read)
+    word_of_shape none effect (effect_operator whole) (codes "and") reads tree f (shape (role.Head ∷ []) (EachOf role.Effect)) refl refl refl ((codes "and", f.leaf), each_effect parts.items f.after f.read)
 effect_layer whole (open_effect.Forall names operand) tree is = absurd (true_is_false (sym is))
 effect_layer whole (open_effect.When pre operand) tree is = absurd (true_is_false (sym is))
 effect_layer whole (open_effect.OneOf parts) tree is =
@@ -354,8 +356,8 @@ effect_layer whole (open_effect.OneOf parts) tree is =
     let f : Form (codes "oneof") reads tree = form_there (codes "oneof") reads tree (second_of_both (whole && not (length (map is_effect parts.items) == 0)) _ is) in
     let chosen : (whole && not (length (map is_effect parts.items) == 0)) ≡ true = first_of_both _ _ is in
     let some : (length reads == 0) ≡ false = ap (λ n. n == 0) (length-map (map is_effect parts.items) (λ part. part false)) ∙ not_false _ (second_of_both whole _ chosen) in
-    word_of_shape none effect (effect_operator whole) (codes "oneof") reads tree f (shape (role.Head ∷ []) (EachOf role.Effect)) (choice_expected f.behind (some_read reads f.behind some f.read)) (ap (λ w. Some (not w)) (first_of_both _ _ chosen))
-    refl ((codes "oneof", f.leaf), each_effect parts.items f.behind f.read)
+    word_of_shape none effect (effect_operator whole) (codes "oneof") reads tree f (shape (role.Head ∷ []) (EachOf role.Effect)) (choice_expected f.after (some_read reads f.after some f.read)) (ap (λ w. Some (not w)) (first_of_both _ _ chosen))
+    refl ((codes "oneof", f.leaf), each_effect parts.items f.after f.read)
 
 -- an effect that is read is of the shape that is expected
 pub effect_shape : (whole : Bool) (tree : Tree) → IsSomeEffect whole tree → IsEffectShape whole tree
@@ -372,6 +374,6 @@ initial_shape tree read = from read.0.positive read.1 where
   from true is = atom_of_shape atom initial initial_operator initial_named initial_unoperated tree (atom_read read.0.atom tree is)
   from false is =
       let f : Form (codes "not") (is_atom read.0.atom ∷ []) tree = form_there (codes "not") (is_atom read.0.atom ∷ []) tree is in
-      let one = one_operand (is_atom read.0.atom) f.behind f.read in
-      let counted = one_counted role.Atom f.head (codes "not") f.leaf f.behind one.0 one.1 (atom_read read.0.atom one.0 one.2) in
+      let one = one_operand (is_atom read.0.atom) f.after f.read in
+      let counted = one_counted role.Atom f.head (codes "not") f.leaf f.after one.0 one.1 (atom_read read.0.atom one.0 one.2) in
       word_of_shape atom initial initial_operator (codes "not") (is_atom read.0.atom ∷ []) tree f (shape (role.Head ∷ role.Atom ∷ []) NoMore) refl refl counted.0 counted.1

@@ -1,4 +1,4 @@
--- Trees from which something is read have no fault of their own, where their parts are read too.
+-- Trees from which something is read have no fault of their own if their parts are read too.
 use Rattle.std.proofs.Common.{◌≡◌, inl, inr, ℕ, zero, suc, Bool, true, false, List, [], ◌∷◌, map, Option, Some, None, codes, option_and_then, slice_get, refl, sym, ap, ◌∙◌, subst}
 use Rattle.fond_text.specs.declared.place.Place.{Place}
 use Rattle.fond_ast.specs.declared.files.Domain.{Domain}
@@ -10,7 +10,7 @@ use Rattle.fond_ast.specs.declared.syntax.Effect.{Effect}
 use Rattle.fond_tree.specs.declared.tree.Tree.{Tree}
 use Rattle.fond_reader.specs.declared.role.Role.{Role}
 use Rattle.fond_reader.specs.declared.role.Role.TheVariants as role
-use Rattle.fond_reader.specs.Words.{leaf_of, members_of}
+use Rattle.fond_tree.specs.Trees.{members_of, leaf_of}
 use Rattle.fond_reader.specs.Roles.{Shape, Expected, Members, node_expected, leaf_code, word, is_unbuilt, action_keys, is_headed_by}
 use Rattle.fond_reader.specs.Parts.{Part, part, parts, part_at, expected_parts, shape_parts, is_counted}
 use Rattle.fond_reader.specs.Faults.{tree_code, node_code, IsOwnFault, IsRepeated, IsIncomplete}
@@ -113,11 +113,11 @@ no_leaf tree members is = elim (leaf_or_node tree) [ inl h ↦ absurd (some_or_n
 no_parts : (of : Role) (tree : Tree) → members_of tree ≡ None → parts (part of tree) ≡ []
 no_parts of tree none = rw none refl
 
--- nothing stands twice in a tree of a role, and nothing is missing
+-- nothing occurs twice in a tree of a role, and nothing is missing
 abbrev pub IsSingle : Role → Tree → Type 0
 IsSingle of tree = ((place : Place) → IsRepeated of tree place → ⊥) × ((place : Place) → IsIncomplete of tree place → ⊥)
 
--- a leaf that may stand is fine
+-- a leaf that is allowed is fine
 pub leaf_fine : (of : Role) (tree : Tree) (leaf : List ℕ) → leaf_of tree ≡ Some leaf → leaf_code of leaf ≡ None → IsSingle of tree → IsFine of tree
 leaf_fine of tree leaf is fits single = record {
   unrefused = ap (λ l. tree_code of l (members_of tree)) is ∙ fits;
@@ -159,7 +159,7 @@ node_fine of expected unbuilt expects unbuilts tree fits single =
           subst P (sym (parts_of of tree fits.members fits.whole ∙ ap (λ e. expected_parts e fits.members) expected_is)) fits.inner;
     }
 
--- where what is read is fine, no fault stands in it
+-- a tree that is read has no fault if what is read is fine
 module _ (fine : (of : Role) (tree : Tree) → IsRead of tree → IsFine of tree) where
   reached : (path : List ℕ) (of : Role) (tree : Tree) → IsRead of tree → (at : Part) → part_at (part of tree) path ≡ Some at → IsRead at.role at.tree
   reached [] of tree read at is = let P : Part → Type 0 = λ q. IsRead q.role q.tree in let same : part of tree ≡ at = cc in subst P same read

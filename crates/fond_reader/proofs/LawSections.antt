@@ -8,10 +8,11 @@ use Rattle.fond_reader.specs.declared.role.Keyword.{Keyword}
 use Rattle.fond_reader.specs.declared.role.Role.{Role}
 use Rattle.fond_reader.specs.declared.role.Role.TheVariants as role
 use Rattle.fond_reader.specs.declared.role.Rest.TheVariants.{NoMore, Each as EachOf, Typed, Pairs, Unread}
-use Rattle.fond_reader.specs.Words.{is_name, is_one_of, leaf_of, members_of, front, head_of}
+use Rattle.fond_reader.specs.Words.{is_name, is_one_of}
+use Rattle.fond_tree.specs.Trees.{head_of, front, members_of, leaf_of}
 use Rattle.fond_reader.specs.Roles.{shape, Shape, Expected, Members, atom, section, domain_section, problem_section, passed_over, word, has_term, has_parameter, has_more, is_leaf_of, is_headed_by, action_keys}
 use Rattle.fond_reader.specs.Parts.{is_counted, shape_parts}
-use Rattle.fond_reader.specs.Faults.{IsRepeated, Repeats, behind_header, keys}
+use Rattle.fond_reader.specs.Faults.{IsRepeated, Repeats, after_header, keys}
 use Rattle.fond_reader.specs.Forms.{is_word, is_unit}
 use Rattle.fond_reader.specs.Files.{is_name_leaf, are_header, has_head, but_first, content, IsSchemaOf}
 use Rattle.fond_reader.specs.CleanForms.{fits_atom}
@@ -45,9 +46,9 @@ header_shape kind tree is = from (members_of tree) refl is where
   from : (members : Option (List Tree)) → members_of tree ≡ members → are_header (word kind) members ≡ true → IsOfShape (λ _. Members (shape (role.Word kind ∷ role.Name ∷ []) NoMore)) (λ _. false) tree
   from None at read = absurd (true_is_false (sym read))
   from (Some []) at read = absurd (true_is_false (sym read))
-  from (Some (first ∷ behind)) at read =
-      let o : Only is_name_leaf (Some behind) = only is_name_leaf (Some behind) (second_of_both (is_word (word kind) (leaf_of first)) _ read) in
-      let one : behind ≡ o.tree ∷ [] = let both : Some behind ≡ Some (o.tree ∷ []) = o.alone in cc in
+  from (Some (first ∷ after)) at read =
+      let o : Only is_name_leaf (Some after) = only is_name_leaf (Some after) (second_of_both (is_word (word kind) (leaf_of first)) _ read) in
+      let one : after ≡ o.tree ∷ [] = let both : Some after ≡ Some (o.tree ∷ []) = o.alone in cc in
       record {
         members = first ∷ o.tree ∷ [];
         whole = at ∙ ap (λ ts. Some (first ∷ ts)) one;
@@ -65,8 +66,8 @@ parameters_shape tree is =
 -- a node with this head
 pub record Headed (word : List ℕ) (tree : Tree) : Type 0 where
   pub head : Tree
-  pub behind : List Tree
-  pub whole : members_of tree ≡ Some (head ∷ behind)
+  pub after : List Tree
+  pub whole : members_of tree ≡ Some (head ∷ after)
   pub leaf : leaf_of head ≡ Some word
 
 -- a node with one of these heads
@@ -75,10 +76,10 @@ headed_there heads tree is = from (members_of tree) refl where
   from : (members : Option (List Tree)) → members_of tree ≡ members → (word : List ℕ) × (is_one_of heads word ≡ true) × Headed word tree
   from None there = let bad : false ≡ true = rw there at is in absurd (true_is_false (sym bad))
   from (Some []) there = let bad : false ≡ true = rw there at is in absurd (true_is_false (sym bad))
-  from (Some (head ∷ behind)) there =
+  from (Some (head ∷ after)) there =
       let known : is_headed_by heads (leaf_of head) ≡ true = rw there at is in
       elim (leaf_or_node head) [
-        | inl h ↦ (h.0, sym (ap (is_headed_by heads) h.1) ∙ known, record { head = head; behind = behind; whole = there; leaf = h.1 })
+        | inl h ↦ (h.0, sym (ap (is_headed_by heads) h.1) ∙ known, record { head = head; after = after; whole = there; leaf = h.1 })
         | inr h ↦ absurd (true_is_false (sym (sym (ap (is_headed_by heads) h.2) ∙ known)))
       ]
 
@@ -89,64 +90,64 @@ module _ (word : List ℕ) (tree : Tree) (h : Headed word tree) where
   pub has : has_head word tree ≡ true
   has = ap (is_word word) head_is ∙ (bytes_eq-Decides word word).1 refl
 
-  pub content_is : content tree ≡ h.behind
+  pub content_is : content tree ≡ h.after
   content_is = ap but_first h.whole
 
   -- it is of the shape that is expected of a section with this head
   module _ (by_head : List ℕ → Expected) (heads : List (List ℕ)) where
-    pub headed_shape : (of : Shape) → by_head word ≡ Members of → is_counted of.first of.rest (h.head ∷ h.behind) ≡ true → (is_headed_by heads (Some word) && has_more (h.head ∷ h.behind)) ≡ false →
-        AllRead (shape_parts of.first of.rest (h.head ∷ h.behind)) → IsOfShape (λ members. section by_head (front members)) (λ members. is_headed_by heads (front members) && has_more members) tree
+    pub headed_shape : (of : Shape) → by_head word ≡ Members of → is_counted of.first of.rest (h.head ∷ h.after) ≡ true → (is_headed_by heads (Some word) && has_more (h.head ∷ h.after)) ≡ false →
+        AllRead (shape_parts of.first of.rest (h.head ∷ h.after)) → IsOfShape (λ members. section by_head (front members)) (λ members. is_headed_by heads (front members) && has_more members) tree
     headed_shape of expects counted built inner = record {
-      members = h.head ∷ h.behind;
+      members = h.head ∷ h.after;
       whole = h.whole;
       form = of;
       expects = ap (section by_head) h.leaf ∙ expects;
       counted = counted;
-      built = ap (λ leaf. is_headed_by heads leaf && has_more (h.head ∷ h.behind)) h.leaf ∙ built;
+      built = ap (λ leaf. is_headed_by heads leaf && has_more (h.head ∷ h.after)) h.leaf ∙ built;
       inner = inner;
     }
 
-    -- where nothing stands behind its head
+    -- nothing follows its head
     pub empty_shape : content tree ≡ [] → by_head word ≡ Members (shape (role.Head ∷ []) (Typed role.Name role.Name)) → IsOfShape (λ members. section by_head (front members)) (λ members. is_headed_by heads (front members) && has_more members) tree
     empty_shape none expects =
-        let nothing : h.behind ≡ [] = sym content_is ∙ none in
+        let nothing : h.after ≡ [] = sym content_is ∙ none in
         let P : List Tree → Type 0 = λ ts. AllRead (shape_parts (role.Head ∷ []) (Typed role.Name role.Name) (h.head ∷ ts)) in
         headed_shape (shape (role.Head ∷ []) (Typed role.Name role.Name)) expects refl
         (ap (λ ts. is_headed_by heads (Some word) && has_more (h.head ∷ ts)) nothing ∙ and_false (is_headed_by heads (Some word)))
         (subst P (sym nothing) ((word, h.leaf), tt))
 
-    -- where what stands behind its head is read
+    -- what follows its head is read
     pub each_shape : (of : Role) → Each (IsRead of) (content tree) → by_head word ≡ Members (shape (role.Head ∷ []) (EachOf of)) → is_headed_by heads (Some word) ≡ false →
         IsOfShape (λ members. section by_head (front members)) (λ members. is_headed_by heads (front members) && has_more members) tree
     each_shape of each expects built =
         let P : List Tree → Type 0 = λ ts. Each (IsRead of) ts in
-        headed_shape (shape (role.Head ∷ []) (EachOf of)) expects refl (ap (λ b. b && has_more (h.head ∷ h.behind)) built)
-        ((word, h.leaf), all_of of h.behind (subst P content_is each))
+        headed_shape (shape (role.Head ∷ []) (EachOf of)) expects refl (ap (λ b. b && has_more (h.head ∷ h.after)) built)
+        ((word, h.leaf), all_of of h.after (subst P content_is each))
 
-    -- where it is passed over
+    -- it is passed over
     pub unread_shape : by_head word ≡ Members (shape (role.Head ∷ []) Unread) → is_headed_by heads (Some word) ≡ false →
         IsOfShape (λ members. section by_head (front members)) (λ members. is_headed_by heads (front members) && has_more members) tree
     unread_shape expects built =
-        headed_shape (shape (role.Head ∷ []) Unread) expects refl (ap (λ b. b && has_more (h.head ∷ h.behind)) built) ((word, h.leaf), tt)
+        headed_shape (shape (role.Head ∷ []) Unread) expects refl (ap (λ b. b && has_more (h.head ∷ h.after)) built) ((word, h.leaf), tt)
 
-    -- where one tree stands behind its head, which is read
+    -- one tree follows its head, and is read
     pub one_shape : (of : Role) → IsOne (IsRead of) (content tree) → by_head word ≡ Members (shape (role.Head ∷ of ∷ []) NoMore) → is_headed_by heads (Some word) ≡ false →
         IsOfShape (λ members. section by_head (front members)) (λ members. is_headed_by heads (front members) && has_more members) tree
     one_shape of one expects built =
-        let is : h.behind ≡ one.tree ∷ [] = sym content_is ∙ one.alone in
+        let is : h.after ≡ one.tree ∷ [] = sym content_is ∙ one.alone in
         let P : List Tree → Type 0 = λ ts. AllRead (shape_parts (role.Head ∷ of ∷ []) NoMore (h.head ∷ ts)) in
-        headed_shape (shape (role.Head ∷ of ∷ []) NoMore) expects (ap (λ ts. is_counted (role.Head ∷ of ∷ []) NoMore (h.head ∷ ts)) is) (ap (λ b. b && has_more (h.head ∷ h.behind)) built)
+        headed_shape (shape (role.Head ∷ of ∷ []) NoMore) expects (ap (λ ts. is_counted (role.Head ∷ of ∷ []) NoMore (h.head ∷ ts)) is) (ap (λ b. b && has_more (h.head ∷ h.after)) built)
         (subst P (sym is) ((word, h.leaf), (one.holds, tt)))
 
 -- an action that is read
-same_head : (head other : Tree) (behind more : List Tree) → head ∷ behind ≡ other ∷ more → head ≡ other
-same_head head other behind more is = cc
+same_head : (head other : Tree) (after more : List Tree) → head ∷ after ≡ other ∷ more → head ≡ other
+same_head head other after more is = cc
 
 action_shape : (tree : Tree) (h : Headed (codes ":action") tree) (schema : Schema) → IsSchemaOf tree schema →
     IsOfShape (λ members. section domain_section (front members)) (λ members. is_headed_by (codes ":types" ∷ codes ":constants" ∷ []) (front members) && has_more members) tree
 action_shape tree h schema s =
-    let same : h.head ≡ s.head = same_head h.head s.head h.behind (s.name ∷ s.pairs) (same_members tree (h.head ∷ h.behind) (s.head ∷ s.name ∷ s.pairs) h.whole s.whole) in
-    let own : Headed (codes ":action") tree = record { head = s.head; behind = s.name ∷ s.pairs; whole = s.whole; leaf = sym (ap leaf_of same) ∙ h.leaf } in
+    let same : h.head ≡ s.head = same_head h.head s.head h.after (s.name ∷ s.pairs) (same_members tree (h.head ∷ h.after) (s.head ∷ s.name ∷ s.pairs) h.whole s.whole) in
+    let own : Headed (codes ":action") tree = record { head = s.head; after = s.name ∷ s.pairs; whole = s.whole; leaf = sym (ap leaf_of same) ∙ h.leaf } in
     headed_shape (codes ":action") tree own domain_section (codes ":types" ∷ codes ":constants" ∷ []) (shape (role.Head ∷ role.Name ∷ []) Pairs) refl s.paired refl
     ((codes ":action", own.leaf), (named_leaf schema.place schema.name s.name s.named, schema_pairs tree schema s))
 
@@ -168,12 +169,12 @@ domain_section_shape tree read =
     λ h. let s : (schema : Schema) × IsSchemaOf tree schema = read.action (has (codes ":action") tree h) in action_shape tree h s.0 s.1 in
     one_of (λ word. Headed word tree → IsDomainSectionShape tree) heads there.0 there.1 (requirements, (types, (constants, (predicates, (action, tt))))) there.2
 
--- no key of an action that is read stands twice
+-- no key of an action that is read occurs twice
 pub domain_section_single : (tree : Tree) → IsReadInDomain tree → (place : Place) → IsRepeated role.DomainSection tree place → ⊥
 domain_section_single tree read place repeated =
     let own : has_head (codes ":action") tree ≡ true = ap (is_word (codes ":action")) repeated.2 in
     let s : (schema : Schema) × IsSchemaOf tree schema = read.action own in
-    let same : behind_header repeated.0 ≡ s.1.pairs = ap behind_header (same_members tree repeated.0 (s.1.head ∷ s.1.name ∷ s.1.pairs) repeated.1 s.1.whole) in
+    let same : after_header repeated.0 ≡ s.1.pairs = ap after_header (same_members tree repeated.0 (s.1.head ∷ s.1.name ∷ s.1.pairs) repeated.1 s.1.whole) in
     let P : List Tree → Type 0 = λ ts. Repeats leaf_of action_keys (keys ts) place in
     schema_single tree s.0 s.1 place (subst P same repeated.3)
 

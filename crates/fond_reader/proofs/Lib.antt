@@ -7,7 +7,6 @@ pub mod CleanEffects
 pub mod CleanFiles
 pub mod CleanForms
 pub mod CleanSections
-pub mod Earliest
 pub mod Incomplete
 pub mod LawActions
 pub mod LawBuilt
@@ -24,5 +23,4 @@ pub mod ReadFiles
 pub mod ReadLists
 pub mod ReadSchemas
 pub mod ReadValues
-pub mod SideMarks
 pub mod Steps

@@ -4,35 +4,35 @@ use Rattle.std.proofs.Math.Bool.{and-false}
 use Rattle.fond_tree.specs.declared.tree.Tree.{Tree}
 use Rattle.fond_reader.specs.declared.role.Role.{Role}
 use Rattle.fond_reader.specs.declared.role.Rest.{Rest}
-use Rattle.fond_reader.specs.declared.walk.Left.{Left}
+use Rattle.fond_reader.specs.declared.walk.Pending.{Pending}
 use Rattle.fond_reader.specs.Parts.{part, is_dash, typed, rest_parts, shape_parts}
-use Rattle.fond_reader.specs.Walks.{behind_dash, rest_left, roles_left}
+use Rattle.fond_reader.specs.Walks.{after_dash, rest_left, roles_left}
 
 module _ (leaf type : Role) (untyped : Bool) (tree : Tree) where
-  -- behind a `-` that fits its type stands
-  pub typed_at_dash : (behind : List Tree) → untyped ≡ true → is_dash tree ≡ true → 1 ≤ length behind → typed leaf type untyped (tree ∷ behind) ≡ behind_dash leaf type behind
+  -- a `-` that fits is followed by its type
+  pub typed_at_dash : (after : List Tree) → untyped ≡ true → is_dash tree ≡ true → 1 ≤ length after → typed leaf type untyped (tree ∷ after) ≡ after_dash leaf type after
   typed_at_dash [] before dash some = absurd (omega arith)
   typed_at_dash (next ∷ trees) before dash some =
       let fits : (untyped && is_dash tree) ≡ true = rw before dash in
       ap (λ b. if b then part type next ∷ typed leaf type false trees else part leaf tree ∷ typed leaf type (not (is_dash tree)) (next ∷ trees)) fits
 
-  at_leaf : (behind : List Tree) → (untyped && is_dash tree) ≡ false → typed leaf type untyped (tree ∷ behind) ≡ part leaf tree ∷ typed leaf type (not (is_dash tree)) behind
+  at_leaf : (after : List Tree) → (untyped && is_dash tree) ≡ false → typed leaf type untyped (tree ∷ after) ≡ part leaf tree ∷ typed leaf type (not (is_dash tree)) after
   at_leaf [] other = refl
   at_leaf (next ∷ trees) other = ap (λ b. if b then part type next ∷ typed leaf type false trees else part leaf tree ∷ typed leaf type (not (is_dash tree)) (next ∷ trees)) other
 
   -- each other tree is a leaf
-  pub typed_behind_type : (behind : List Tree) → untyped ≡ false → typed leaf type untyped (tree ∷ behind) ≡ part leaf tree ∷ typed leaf type (not (is_dash tree)) behind
-  typed_behind_type behind typed_before = at_leaf behind (ap (λ b. b && is_dash tree) typed_before)
+  pub typed_after_type : (after : List Tree) → untyped ≡ false → typed leaf type untyped (tree ∷ after) ≡ part leaf tree ∷ typed leaf type (not (is_dash tree)) after
+  typed_after_type after typed_before = at_leaf after (ap (λ b. b && is_dash tree) typed_before)
 
-  pub typed_at_leaf : (behind : List Tree) → is_dash tree ≡ false → typed leaf type untyped (tree ∷ behind) ≡ part leaf tree ∷ typed leaf type (not (is_dash tree)) behind
-  typed_at_leaf behind dash = at_leaf behind (rw dash (and-false untyped))
+  pub typed_at_leaf : (after : List Tree) → is_dash tree ≡ false → typed leaf type untyped (tree ∷ after) ≡ part leaf tree ∷ typed leaf type (not (is_dash tree)) after
+  typed_at_leaf after dash = at_leaf after (rw dash (and-false untyped))
 
-  pub typed_at_last : (behind : List Tree) → length behind ≡ 0 → typed leaf type untyped (tree ∷ behind) ≡ part leaf tree ∷ typed leaf type (not (is_dash tree)) behind
+  pub typed_at_last : (after : List Tree) → length after ≡ 0 → typed leaf type untyped (tree ∷ after) ≡ part leaf tree ∷ typed leaf type (not (is_dash tree)) after
   typed_at_last [] last = refl
   typed_at_last (next ∷ trees) last = absurd (omega arith)
 
--- the first members are the same whatever stands behind them
-pub roles_then_rest : (rest : Rest) (left : Left) → ((trees : List Tree) → rest_left left trees ≡ rest_parts rest trees) →
+-- the first members are the same whatever follows them
+pub roles_then_rest : (rest : Rest) (left : Pending) → ((trees : List Tree) → rest_left left trees ≡ rest_parts rest trees) →
     (roles : List Role) (trees : List Tree) → roles_left roles left trees ≡ shape_parts roles rest trees
 roles_then_rest rest left same [] trees = same trees
 roles_then_rest rest left same (role ∷ roles) [] = refl

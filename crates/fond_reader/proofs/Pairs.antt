@@ -13,7 +13,7 @@ pairs_are_even [] = refl
 pairs_are_even (key ∷ []) = refl
 pairs_are_even (key ∷ tree ∷ trees) = two_more (length trees) ∙ pairs_are_even trees
 
--- where no first member is missing, the rest decides
+-- if no first member is missing, the rest decides
 pub rest_counts : (roles : List Role) (rest : Rest) (trees : List Tree) → length roles ≤ length trees → is_rest rest (drop (length roles) trees) ≡ is_counted roles rest trees
 rest_counts [] rest trees enough = refl
 rest_counts (role ∷ roles) rest [] enough = absurd (omega arith)

@@ -29,7 +29,7 @@ module _ (word : List ℕ) (sections : List Tree) (i : ℕ) (section : Tree) (be
   passed : take (i + 1) sections ≡ take i sections ++ section ∷ []
   passed = take_more sections i section below ∙ ap (λ t. take i sections ++ t ∷ []) (sym at)
 
-  -- the section at an index is read as one more schema, where it has the head
+  -- the section at an index is read as one more schema if it has the head
   pub schemas_more : (schemas : List Schema) (schema : Schema) → has_head word section ≡ true → AreSchemasOf (headed word (take i sections)) schemas → IsSchemaOf section schema →
       AreSchemasOf (headed word (take (i + 1) sections)) (schemas ++ schema ∷ [])
   schemas_more schemas schema has all one =
@@ -45,14 +45,14 @@ module _ (word : List ℕ) (sections : List Tree) (i : ℕ) (section : Tree) (be
   left : headed word (drop i sections) ≡ (if has_head word section then section ∷ headed word (drop (i + 1) sections) else headed word (drop (i + 1) sections))
   left = ap (headed word) (left_at sections i section below at)
 
-  -- where those with the head that are left fit, the one at the index does where it has the head, and those behind it do
+  -- if those with the head that are left fit, the one at the index does if it has the head, and those after it do
   pub fits_here : (fits : Tree → Bool) → has_head word section ≡ true → list_all fits (headed word (drop i sections)) ≡ true → fits section ≡ true
   fits_here fits has all =
       let is : headed word (drop i sections) ≡ section ∷ headed word (drop (i + 1) sections) = left ∙ ap (λ b. if b then section ∷ headed word (drop (i + 1) sections) else headed word (drop (i + 1) sections)) has in
       first_of_both _ _ (sym (ap (list_all fits) is) ∙ all)
 
-  pub fit_behind : (fits : Tree → Bool) → list_all fits (headed word (drop i sections)) ≡ true → list_all fits (headed word (drop (i + 1) sections)) ≡ true
-  fit_behind fits all = step (has_head word section) (sym (ap (list_all fits) left) ∙ all) where
+  pub fit_after : (fits : Tree → Bool) → list_all fits (headed word (drop i sections)) ≡ true → list_all fits (headed word (drop (i + 1) sections)) ≡ true
+  fit_after fits all = step (has_head word section) (sym (ap (list_all fits) left) ∙ all) where
     step : (b : Bool) → list_all fits (if b then section ∷ headed word (drop (i + 1) sections) else headed word (drop (i + 1) sections)) ≡ true → list_all fits (headed word (drop (i + 1) sections)) ≡ true
     step true h = second_of_both (fits section) _ h
     step false h = h

@@ -6,7 +6,8 @@ use Rattle.std.proofs.lemmas.Slice.Eq.{bytes_eq-Decides}
 use Rattle.fond_text.specs.declared.place.Place.{Place}
 use Rattle.fond_ast.specs.declared.files.Schema.{Schema}
 use Rattle.fond_tree.specs.declared.tree.Tree.{Tree}
-use Rattle.fond_reader.specs.Words.{is_name, leaf_of, place_of, members_of}
+use Rattle.fond_reader.specs.Words.{is_name}
+use Rattle.fond_tree.specs.Trees.{members_of, leaf_of, place_of}
 use Rattle.fond_reader.specs.Roles.{action_keys, is_headed_by}
 use Rattle.fond_reader.specs.Parts.{are_pairs}
 use Rattle.fond_reader.specs.Faults.{keys}
@@ -16,11 +17,11 @@ use Rattle.fond_reader.specs.CleanForms.{fits_condition, fits_whole_effect}
 use Rattle.fond_reader.specs.CleanFiles.{is_none_or_one, fits_pairs}
 use Rattle.fond_reader.proofs.ReadLists.{first_of_both, second_of_both}
 
--- members of which something stands behind the first one
+-- members with something after the first one
 pub with_head : (members : Option (List Tree)) (name : Tree) (pairs : List Tree) → but_first members ≡ name ∷ pairs → (head : Tree) × (members ≡ Some (head ∷ name ∷ pairs))
 with_head None name pairs is = cc
 with_head (Some []) name pairs is = cc
-with_head (Some (head ∷ behind)) name pairs is = (head, ap (λ ts. Some (head ∷ ts)) is)
+with_head (Some (head ∷ after)) name pairs is = (head, ap (λ ts. Some (head ∷ ts)) is)
 
 pub both_hold : (a b : Bool) → a ≡ true → b ≡ true → (a && b) ≡ true
 both_hold a b first second = ap (λ x. x && b) first ∙ second
@@ -63,7 +64,7 @@ module _ (pairs : List Tree) (fits : fits_pairs pairs ≡ true) where
   pub effected : is_none_or_one fits_whole_effect (values (codes ":effect") pairs) ≡ true
   effected = second_of_both (is_none_or_one fits_condition (values (codes ":precondition") pairs)) _ conditioned_on
 
-  -- what was read of the name and of the pairs is a schema of each node that has them behind its head
+  -- what was read from the name and from the pairs is a schema of each node that has them after its head
   pub is_schema : (tree head name : Tree) (schema : Schema) → members_of tree ≡ Some (head ∷ name ∷ pairs) → is_named schema.place schema.name name ≡ true → schema.parameters ≡ [] →
       IsPrecondition (values (codes ":precondition") pairs) schema.pre → IsWholeEffect (values (codes ":effect") pairs) schema.effect → IsSchemaOf tree schema
   is_schema tree head name schema whole named none pre effect = record {

@@ -14,7 +14,7 @@ pub if_ok : {A : Type 0} {E : Type 0} (P Q : A → Type 0) (result : Result A E)
 if_ok P Q (Ok a) so holds = so a holds
 if_ok P Q (Err e) so holds = tt
 
--- where none is first, there is none
+-- if none is first, there is none
 pub no_value : (trees : List Tree) → None ≡ slice_get trees 0 → trees ≡ []
 no_value [] none = refl
 no_value (t ∷ ts) none = cc
@@ -23,7 +23,7 @@ pub empty : (trees : List Tree) → nat_eq (length trees) 0 ≡ true → trees �
 empty [] none = refl
 empty (t ∷ ts) none = absurd (grind (arith, nat_tests))
 
--- the first of at most one passes the test, and nothing stands behind it
+-- the first of at most one passes the test, and nothing follows it
 pub value_fits : (test : Tree → Bool) (trees : List Tree) (tree : Tree) → Some tree ≡ slice_get trees 0 → is_none_or_one test trees ≡ true → test tree ≡ true
 value_fits test [] tree is fits = cc
 value_fits test (t ∷ ts) tree is fits = let same : tree ≡ t = cc in ap test same ∙ first_of_both _ _ fits

@@ -5,18 +5,18 @@ use Rattle.fond_tree.specs.declared.tree.Tree.{Tree}
 use Rattle.fond_tree.specs.declared.tree.Tree.TheVariants as made
 use Rattle.fond_text.specs.declared.first.Found.{Found}
 use Rattle.fond_reader.specs.declared.role.Role.{Role}
-use Rattle.fond_reader.specs.Words.{members_of, members_step}
+use Rattle.fond_tree.specs.Trees.{members_step, members_of}
 use Rattle.fond_reader.specs.Roles.{node_expected}
 use Rattle.fond_reader.specs.Parts.{Part, part, parts, expected_parts}
 use Rattle.fond_reader.specs.Walks.{part_if, rest_left, roles_left, parts_left}
 use Rattle.fond_reader.specs.declared.walk.Walk.{Walk}
-use Rattle.fond_reader.specs.declared.walk.Left.{Left}
-use Rattle.fond_reader.specs.declared.walk.Left.TheVariants.{Unread, Each, Typed, TypeNext, Key, Value}
+use Rattle.fond_reader.specs.declared.walk.Pending.{Pending}
+use Rattle.fond_reader.specs.declared.walk.Pending.TheVariants.{Unread, Each, Typed, TypeNext, Key, Value}
 use Rattle.fond_reader.specs.Faults.{Stands, IsOwnFault}
 use Rattle.fond_text.specs.Faults.{IsLeast, IsClean}
 use Rattle.fond_text.specs.Firsts.{IsFirst, IsEarlier}
 use Rattle.fond_reader.proofs.Among.{Among, stands_down, stands_up}
-use Rattle.fond_reader.proofs.Earliest.{IsFirstSoFar, first_if_least, first_so_far, first_with, all_found}
+use Rattle.fond_text.proofs.Earliest.{IsFirstSoFar, first_if_least, first_so_far, first_with, all_found}
 
 -- the members of a node, of which a leaf has none
 pub node_members : (tree : Tree) (place : Place) (members : Vec Tree Global) → tree ≡ made.Node place members → members_of tree ≡ Some members.items
@@ -42,7 +42,7 @@ module _ (role : Role) (tree : Tree) where
   all_left members are left same first own =
       subst (λ (ps : List Part). IsFirstSoFar (Stands role tree) (Among ps) first) (parts_of_node role tree members are ∙ sym same) (own_so_far first own)
 
-  -- where no part is left, the first fault was found
+  -- if no part is left, the first fault was found
   pub none_left : (left : List Part) → left ≡ [] → (first : Option Found) → IsFirstSoFar (Stands role tree) (Among left) first → IsFirst (Stands role tree) first
   none_left left empty first h =
       all_found (Stands role tree) (Among left) first h (λ place code a. subst (λ (ps : List Part). Among ps place code) empty a)
@@ -51,7 +51,7 @@ module _ (role : Role) (tree : Tree) where
   pub leaf_first : members_of tree ≡ None → (first : Option Found) → IsFirst (IsOwnFault (part role tree)) first → IsFirst (Stands role tree) first
   leaf_first leaf first own = none_left (parts (part role tree)) (parts_of_leaf role tree leaf) first (own_so_far first own)
 
-  -- one more part was looked at
+  -- one more part was checked
   pub part_looked_at : (left rest : List Part) (inner : Role) (member : Tree) → left ≡ part_if (Some inner) member ++ rest → (before other first : Option Found) →
       IsFirstSoFar (Stands role tree) (Among left) before → IfSome other (λ found. IsLeast (Stands inner member) found.place found.code) → IfNone other (IsClean (Stands inner member)) →
       IsEarlier before other first → IsFirstSoFar (Stands role tree) (Among rest) first
@@ -64,18 +64,18 @@ module _ (role : Role) (tree : Tree) where
       IsFirstSoFar (Stands role tree) (Among left) first → IsFirstSoFar (Stands role tree) (Among rest) first
   member_passed_over left rest member split first h = subst (λ (ps : List Part). IsFirstSoFar (Stands role tree) (Among ps) first) split h
 
-behind_nothing : (left : Left) → rest_left left [] ≡ []
-behind_nothing Unread = refl
-behind_nothing (Each role) = refl
-behind_nothing (Typed leaf type untyped) = refl
-behind_nothing (TypeNext leaf type) = refl
-behind_nothing Key = refl
-behind_nothing (Value role) = refl
+after_nothing : (left : Pending) → rest_left left [] ≡ []
+after_nothing Unread = refl
+after_nothing (Each role) = refl
+after_nothing (Typed leaf type untyped) = refl
+after_nothing (TypeNext leaf type) = refl
+after_nothing Key = refl
+after_nothing (Value role) = refl
 
-at_end : (roles : List Role) (left : Left) → roles_left roles left [] ≡ []
-at_end [] left = behind_nothing left
+at_end : (roles : List Role) (left : Pending) → roles_left roles left [] ≡ []
+at_end [] left = after_nothing left
 at_end (role ∷ roles) left = refl
 
--- where none of the trees is left, no part is
+-- if none of the trees is left, no part is
 pub nothing_left : (walk : Walk) (trees : List Tree) → trees ≡ [] → parts_left walk trees ≡ []
 nothing_left walk trees empty = ap (parts_left walk) empty ∙ at_end walk.first.now walk.left

@@ -1,11 +1,11 @@
--- What domains and problems look like in which no fault stands.
+-- The form of domains and problems that have no fault.
 use Rattle.std.specs.Prelude.{◌≡◌, ◌==◌, ◌&&◌, Bool, true, false, List, [], ◌∷◌, length, Option, Some, None, codes}
 use Rattle.std.specs.List.{list_all}
 use Rattle.fond_tree.specs.declared.tree.Tree.{Tree}
-use Rattle.fond_reader.specs.Words.{leaf_of, members_of}
+use Rattle.fond_tree.specs.Trees.{members_of, leaf_of}
 use Rattle.fond_reader.specs.Roles.{action_keys, is_headed_by}
 use Rattle.fond_reader.specs.Parts.{are_pairs}
-use Rattle.fond_reader.specs.Faults.{behind_header, keys, single_in_domain, single_in_problem}
+use Rattle.fond_reader.specs.Faults.{after_header, keys, single_in_domain, single_in_problem}
 use Rattle.fond_reader.specs.Forms.{is_only}
 use Rattle.fond_reader.specs.Files.{is_name_leaf, IsFile, headed, content, contents, AreSingle, is_domain_section, is_problem_section, values, are_no_parameters}
 use Rattle.fond_reader.specs.CleanForms.{fits_atom, fits_condition, fits_whole_effect, fits_initial}
@@ -24,23 +24,23 @@ fits_pairs pairs =
     && (is_none_or_one fits_condition (values (codes ":precondition") pairs)
     && is_none_or_one fits_whole_effect (values (codes ":effect") pairs))))
 
--- whether a name and pairs stand behind the head of an action
-abbrev pub action_behind : List Tree → Bool
-action_behind [] = false
-action_behind (name ∷ pairs) = is_name_leaf name && fits_pairs pairs
+-- whether the members of an action after its head are a name and pairs
+abbrev pub action_after : List Tree → Bool
+action_after [] = false
+action_after (name ∷ pairs) = is_name_leaf name && fits_pairs pairs
 
--- whether a section is an action without a fault: behind its head stand its name and pairs
+-- whether a section is an action without a fault: after its head come its name and pairs
 abbrev pub fits_action : Tree → Bool
-fits_action tree = action_behind (content tree)
+fits_action tree = action_after (content tree)
 
--- what stands behind the header among the members of a file
-abbrev pub sections_behind : Option (List Tree) → List Tree
-sections_behind None = []
-sections_behind (Some members) = behind_header members
+-- the members of a file after its header, if it has members
+abbrev pub sections_after : Option (List Tree) → List Tree
+sections_after None = []
+sections_after (Some members) = after_header members
 
--- the sections of a file: what stands behind its header
+-- the sections of a file: its members after the header
 abbrev pub sections_of : Tree → List Tree
-sections_of tree = sections_behind (members_of tree)
+sections_of tree = sections_after (members_of tree)
 
 -- a tree with these sections is a domain without a fault
 pub record IsCleanDomain (tree : Tree) (sections : List Tree) : Type 0 where

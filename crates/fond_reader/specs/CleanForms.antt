@@ -1,11 +1,12 @@
--- What conditions and effects look like in which no fault stands.
+-- The form of conditions and effects that have no fault.
 use Rattle.std.specs.Prelude.{ℕ, ◌==◌, ◌&&◌, ◌||◌, Bool, true, false, not, List, [], ◌∷◌, length, Option, Some, None, codes, if◌then◌else◌}
 use Rattle.std.specs.List.{list_all}
 use Rattle.std.specs.Str.{bytes_eq}
 use Rattle.fond_tree.specs.declared.tree.Tree.{Tree}
 use Rattle.fond_tree.specs.declared.tree.Tree.TheOpen.{Tree-F, Leaf, Node}
 use Rattle.fond_tree.specs.declared.tree.Tree.TheFolds.{fold-Tree}
-use Rattle.fond_reader.specs.Words.{is_name, leaf_of, members_of}
+use Rattle.fond_reader.specs.Words.{is_name}
+use Rattle.fond_tree.specs.Trees.{members_of, leaf_of}
 use Rattle.fond_reader.specs.Forms.{is_only}
 use Rattle.fond_reader.specs.Files.{is_name_leaf}
 
@@ -18,20 +19,20 @@ pub record SeenCondition : Type 0 where
   pub leaf : Option (List ℕ)
   pub fits : Bool
 
--- behind `and` and `or` stand conditions, behind `not` one, behind `imply` two, and behind a name nothing
-abbrev pub condition_behind : Option (List ℕ) → List SeenCondition → Bool
-condition_behind None behind = false
-condition_behind (Some head) behind =
-    if bytes_eq head (codes "and") then list_all (λ seen. seen.fits) behind
-    else if bytes_eq head (codes "or") then list_all (λ seen. seen.fits) behind
-    else if bytes_eq head (codes "not") then length behind == 1 && list_all (λ seen. seen.fits) behind
-    else if bytes_eq head (codes "imply") then length behind == 2 && list_all (λ seen. seen.fits) behind
-    else is_name head && length behind == 0
+-- `and` and `or` have any number of conditions as operands, `not` has one, `imply` has two, and a name has none
+abbrev pub condition_after : Option (List ℕ) → List SeenCondition → Bool
+condition_after None after = false
+condition_after (Some head) after =
+    if bytes_eq head (codes "and") then list_all (λ seen. seen.fits) after
+    else if bytes_eq head (codes "or") then list_all (λ seen. seen.fits) after
+    else if bytes_eq head (codes "not") then length after == 1 && list_all (λ seen. seen.fits) after
+    else if bytes_eq head (codes "imply") then length after == 2 && list_all (λ seen. seen.fits) after
+    else is_name head && length after == 0
 
 -- a node without members is a condition, and else its head decides
 abbrev pub condition_of_members : List SeenCondition → Bool
 condition_of_members [] = true
-condition_of_members (head ∷ behind) = condition_behind head.leaf behind
+condition_of_members (head ∷ after) = condition_after head.leaf after
 
 -- a leaf is no condition, and a node is one by its members
 abbrev pub condition_step : Tree-F SeenCondition → SeenCondition
@@ -54,32 +55,32 @@ pub record SeenEffect : Type 0 where
   pub fits : Bool
   pub choice : Bool
 
--- behind a name that is the head of an atom stands nothing
-abbrev pub atom_behind : Option (List ℕ) → List SeenEffect → Bool
-atom_behind None behind = false
-atom_behind (Some head) behind = is_name head && length behind == 0
+-- a name that is the head of an atom has no operands
+abbrev pub atom_after : Option (List ℕ) → List SeenEffect → Bool
+atom_after None after = false
+atom_after (Some head) after = is_name head && length after == 0
 
--- behind `and` stand effects, behind `not` one atom, and behind a name nothing
-abbrev pub effect_behind : Option (List ℕ) → List SeenEffect → Bool
-effect_behind None behind = false
-effect_behind (Some head) behind =
-    if bytes_eq head (codes "and") then list_all (λ seen. seen.fits) behind
-    else if bytes_eq head (codes "not") then length behind == 1 && list_all (λ seen. seen.atom) behind
-    else is_name head && length behind == 0
+-- `and` has any number of effects as operands, `not` has one atom, and a name has none
+abbrev pub effect_after : Option (List ℕ) → List SeenEffect → Bool
+effect_after None after = false
+effect_after (Some head) after =
+    if bytes_eq head (codes "and") then list_all (λ seen. seen.fits) after
+    else if bytes_eq head (codes "not") then length after == 1 && list_all (λ seen. seen.atom) after
+    else is_name head && length after == 0
 
--- behind `oneof` stands at least one effect
-abbrev pub choice_behind : Option (List ℕ) → List SeenEffect → Bool
-choice_behind None behind = false
-choice_behind (Some head) behind = bytes_eq head (codes "oneof") && not (length behind == 0) && list_all (λ seen. seen.fits) behind
+-- `oneof` has at least one effect as operand
+abbrev pub choice_after : Option (List ℕ) → List SeenEffect → Bool
+choice_after None after = false
+choice_after (Some head) after = bytes_eq head (codes "oneof") && not (length after == 0) && list_all (λ seen. seen.fits) after
 
 -- what is seen of a node by its members; without members it is an effect
 abbrev pub effect_of_members : List SeenEffect → SeenEffect
 effect_of_members [] = record { leaf = None; atom = false; fits = true; choice = false }
-effect_of_members (head ∷ behind) = record {
+effect_of_members (head ∷ after) = record {
   leaf = None;
-  atom = atom_behind head.leaf behind;
-  fits = effect_behind head.leaf behind;
-  choice = choice_behind head.leaf behind;
+  atom = atom_after head.leaf after;
+  fits = effect_after head.leaf after;
+  choice = choice_after head.leaf after;
 }
 
 -- a leaf is no effect, and a node is one by its members
@@ -100,18 +101,18 @@ fits_effect tree = (seen_effect tree).fits
 abbrev pub fits_choice : Tree → Bool
 fits_choice tree = (seen_effect tree).choice
 
--- behind `not` stands one atom, and behind a name nothing
-abbrev pub initial_behind : Option (List ℕ) → List Tree → Bool
-initial_behind None behind = false
-initial_behind (Some head) behind =
-    if bytes_eq head (codes "not") then length behind == 1 && list_all fits_atom behind
-    else is_name head && length behind == 0
+-- `not` has one atom as operand, and a name has none
+abbrev pub initial_after : Option (List ℕ) → List Tree → Bool
+initial_after None after = false
+initial_after (Some head) after =
+    if bytes_eq head (codes "not") then length after == 1 && list_all fits_atom after
+    else is_name head && length after == 0
 
 -- whether members are those of an initial atom without a fault
 abbrev pub initial_of_members : Option (List Tree) → Bool
 initial_of_members None = false
 initial_of_members (Some []) = false
-initial_of_members (Some (head ∷ behind)) = initial_behind (leaf_of head) behind
+initial_of_members (Some (head ∷ after)) = initial_after (leaf_of head) after
 
 -- whether a tree is an initial atom without a fault: an atom, or `not` before one
 abbrev pub fits_initial : Tree → Bool

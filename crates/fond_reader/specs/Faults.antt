@@ -1,20 +1,22 @@
--- The faults of a tree that is no domain or no problem, F7 to F12, and F24 for what is not built yet. The members of a
--- node that is itself refused with F8, F11 or F12 are not looked at.
+-- The faults of a tree that is no domain or no problem, F7 to F12, and F24 for what is not supported yet. The members
+-- of a node that is itself refused with F8, F11 or F12 are not checked.
 use Rattle.std.specs.Prelude.{◌≡◌, ◌⊎◌, ℕ, true, List, [], ◌∷◌, ◌++◌, Contains, Option, Some, None, codes, if◌then◌else◌}
 use Rattle.std.specs.List.{filter_map}
+use Rattle.fond_text.specs.declared.code.TheConstants.{MISFIT, REPEATED_SECTION, MISSING_SECTION, UNSUPPORTED}
 use Rattle.fond_text.specs.declared.place.Place.{Place}
 use Rattle.fond_tree.specs.declared.tree.Tree.{Tree}
-use Rattle.fond_reader.specs.Words.{is_one_of, place_of, leaf_of, members_of, head_of}
+use Rattle.fond_reader.specs.Words.{is_one_of}
+use Rattle.fond_tree.specs.Trees.{head_of, members_of, leaf_of, place_of}
 use Rattle.fond_reader.specs.declared.role.Role.{Role}
 use Rattle.fond_reader.specs.declared.role.Role.TheVariants.{DomainFile, ProblemFile, DomainSection}
 use Rattle.fond_reader.specs.Roles.{Expected, Members, Refused, node_expected, leaf_code, action_keys, is_unbuilt}
 use Rattle.fond_reader.specs.Parts.{Part, part, part_at, is_counted}
 
--- the code with which a node is refused, if it is: 7 where a leaf is expected, or where a member is missing or one is
--- too many, and else that of its form
+-- the code with which a node is refused, if it is: it is a misfit if a leaf is expected, or if it has too few or too
+-- many members; otherwise its form decides
 abbrev pub node_code : Option Expected → List Tree → Option ℕ
-node_code None members = Some 7
-node_code (Some (Members shape)) members = if is_counted shape.first shape.rest members then None else Some 7
+node_code None members = Some MISFIT
+node_code (Some (Members shape)) members = if is_counted shape.first shape.rest members then None else Some MISFIT
 node_code (Some (Refused code)) members = Some code
 
 -- the code with which a tree of a role is refused, if it is
@@ -27,21 +29,21 @@ tree_code role None None = None
 abbrev pub Misfits : Part → Place → ℕ → Type 0
 Misfits at place code = (place ≡ place_of at.tree) × (tree_code at.role (leaf_of at.tree) (members_of at.tree) ≡ Some code)
 
--- the members of a file behind its header, and those of an action behind its name
-abbrev pub behind_header : List Tree → List Tree
-behind_header [] = []
-behind_header (first ∷ []) = []
-behind_header (first ∷ second ∷ behind) = behind
+-- the members of a file after its header, and those of an action after its name
+abbrev pub after_header : List Tree → List Tree
+after_header [] = []
+after_header (first ∷ []) = []
+after_header (first ∷ second ∷ after) = after
 
--- the sections of a domain that stand at most once
+-- the sections of a domain that may occur only once
 abbrev pub single_in_domain : List (List ℕ)
 single_in_domain = codes ":requirements" ∷ codes ":types" ∷ codes ":constants" ∷ codes ":predicates" ∷ []
 
--- the sections of a problem that stand at most once
+-- the sections of a problem that may occur only once
 abbrev pub single_in_problem : List (List ℕ)
 single_in_problem = codes ":requirements" ∷ codes ":domain" ∷ codes ":objects" ∷ codes ":init" ∷ codes ":goal" ∷ []
 
--- a tree whose head is one of those that stand at most once stands behind another one of that head, at its own place
+-- a tree whose head may occur only once follows another one with that head; the fault is at its own place
 pub record Repeats (heads : Tree → Option (List ℕ)) (single : List (List ℕ)) (trees : List Tree) (place : Place) : Type 0 where
   pub before : List Tree
   pub tree : Tree
@@ -59,25 +61,25 @@ keys [] = []
 keys (key ∷ []) = key ∷ []
 keys (key ∷ tree ∷ trees) = key ∷ keys trees
 
--- a section of a file, or a key of an action, stands a second time
+-- a section of a file, or a key of an action, occurs a second time
 abbrev pub IsRepeated : Role → Tree → Place → Type 0
-IsRepeated DomainFile tree place = (members : List Tree) × (members_of tree ≡ Some members) × Repeats head_of single_in_domain (behind_header members) place
-IsRepeated ProblemFile tree place = (members : List Tree) × (members_of tree ≡ Some members) × Repeats head_of single_in_problem (behind_header members) place
+IsRepeated DomainFile tree place = (members : List Tree) × (members_of tree ≡ Some members) × Repeats head_of single_in_domain (after_header members) place
+IsRepeated ProblemFile tree place = (members : List Tree) × (members_of tree ≡ Some members) × Repeats head_of single_in_problem (after_header members) place
 IsRepeated DomainSection tree place =
-    (members : List Tree) × (members_of tree ≡ Some members) × (head_of tree ≡ Some (codes ":action")) × Repeats leaf_of action_keys (keys (behind_header members)) place
+    (members : List Tree) × (members_of tree ≡ Some members) × (head_of tree ≡ Some (codes ":action")) × Repeats leaf_of action_keys (keys (after_header members)) place
 IsRepeated role tree place = ⊥
 
 -- a problem has no section of this head
 abbrev pub Lacks : List ℕ → List Tree → Type 0
-Lacks head sections = Contains (filter_map head_of sections) head → ⊥
+Lacks head sections = ¬ Contains (filter_map head_of sections) head
 
 -- a problem has no domain or no goal
 abbrev pub IsIncomplete : Role → Tree → Place → Type 0
 IsIncomplete ProblemFile tree place =
-    (members : List Tree) × (members_of tree ≡ Some members) × (place ≡ place_of tree) × (Lacks (codes ":domain") (behind_header members) ⊎ Lacks (codes ":goal") (behind_header members))
+    (members : List Tree) × (members_of tree ≡ Some members) × (place ≡ place_of tree) × (Lacks (codes ":domain") (after_header members) ⊎ Lacks (codes ":goal") (after_header members))
 IsIncomplete role tree place = ⊥
 
--- a node is of a form that is not built yet
+-- a node is of a form that is not supported yet
 abbrev pub IsUnbuilt : Part → Place → Type 0
 IsUnbuilt at place = (members : List Tree) × (members_of at.tree ≡ Some members) × (is_unbuilt at.role members ≡ true) × (place ≡ place_of at.tree)
 
@@ -85,20 +87,21 @@ IsUnbuilt at place = (members : List Tree) × (members_of at.tree ≡ Some membe
 abbrev pub IsOwnFault : Part → Place → ℕ → Type 0
 IsOwnFault at place code =
     Misfits at place code
-    ⊎ (IsRepeated at.role at.tree place × (code ≡ 9))
-    ⊎ (IsIncomplete at.role at.tree place × (code ≡ 10))
-    ⊎ (IsUnbuilt at place × (code ≡ 24))
+    ⊎ (IsRepeated at.role at.tree place × (code ≡ REPEATED_SECTION))
+    ⊎ (IsIncomplete at.role at.tree place × (code ≡ MISSING_SECTION))
+    ⊎ (IsUnbuilt at place × (code ≡ UNSUPPORTED))
 
--- a fault stands in a tree of a role: some part of it has that fault
+-- a fault occurs in a tree of a role: some part of the tree has that fault
 pub record Stands (role : Role) (tree : Tree) (place : Place) (code : ℕ) : Type 0 where
   pub path : List ℕ
   pub at : Part
   pub reached : part_at (part role tree) path ≡ Some at
   pub own : IsOwnFault at place code
 
--- a fault stands in a domain, and in a problem
+-- a fault occurs in a domain
 abbrev pub StandsInDomain : Tree → Place → ℕ → Type 0
 StandsInDomain tree place code = Stands DomainFile tree place code
 
+-- a fault occurs in a problem
 abbrev pub StandsInProblem : Tree → Place → ℕ → Type 0
 StandsInProblem tree place code = Stands ProblemFile tree place code

@@ -1,6 +1,7 @@
 -- Which domain and which problem a tree is read as.
 use Rattle.std.specs.Prelude.{◌≡◌, ℕ, ◌==◌, ◌&&◌, ◌≤◌, Bool, true, false, List, [], ◌∷◌, map, filter, length, Contains, Option, Some, None, codes, if◌then◌else◌}
-use Rattle.std.specs.List.{list_all, flat_map}
+use Rattle.std.specs.List.{AllZip, list_all, flat_map}
+use Rattle.fond_text.specs.Lists.{each_passes}
 use Rattle.fond_tree.specs.declared.tree.Tree.{Tree}
 use Rattle.fond_ast.specs.declared.files.Declared.{Declared}
 use Rattle.fond_ast.specs.declared.files.Domain.{Domain}
@@ -8,11 +9,12 @@ use Rattle.fond_ast.specs.declared.files.Problem.{Problem}
 use Rattle.fond_ast.specs.declared.files.Schema.{Schema}
 use Rattle.fond_ast.specs.declared.syntax.Cond.{Cond, Truth}
 use Rattle.fond_ast.specs.declared.syntax.Effect.{Effect, Nothing}
-use Rattle.fond_reader.specs.Words.{is_name, place_of, leaf_of, members_of, head_of}
+use Rattle.fond_reader.specs.Words.{is_name}
+use Rattle.fond_tree.specs.Trees.{head_of, members_of, leaf_of, place_of}
 use Rattle.fond_reader.specs.Roles.{passed_over, action_keys, is_headed_by}
 use Rattle.fond_reader.specs.Parts.{are_pairs}
 use Rattle.fond_reader.specs.Faults.{keys, single_in_domain, single_in_problem}
-use Rattle.fond_reader.specs.Forms.{is_word, is_named, is_only, is_unit, are_read, is_condition, is_effect, is_initial}
+use Rattle.fond_reader.specs.Forms.{is_word, is_named, is_only, is_unit, is_condition, is_effect, is_initial}
 
 -- whether a tree is a leaf that is a name
 abbrev pub is_name_leaf : Tree → Bool
@@ -26,7 +28,7 @@ is_name_leaf tree = from (leaf_of tree)
 abbrev pub are_header : List ℕ → Option (List Tree) → Bool
 are_header kind None = false
 are_header kind (Some []) = false
-are_header kind (Some (word ∷ behind)) = is_word kind (leaf_of word) && is_only is_name_leaf (Some behind)
+are_header kind (Some (word ∷ after)) = is_word kind (leaf_of word) && is_only is_name_leaf (Some after)
 
 -- a tree is a file of this kind with these sections: `define`, then a node of the kind and a name, then the sections
 pub record IsFile (kind : List ℕ) (tree : Tree) (sections : List Tree) : Type 0 where
@@ -50,15 +52,15 @@ but_first None = []
 but_first (Some []) = []
 but_first (Some (tree ∷ trees)) = trees
 
--- the members of a node behind its head
+-- the members of a node after its head
 abbrev pub content : Tree → List Tree
 content tree = but_first (members_of tree)
 
--- what stands in the sections with this head, in order
+-- the contents of the sections with this head, in order
 abbrev pub contents : List ℕ → List Tree → List Tree
 contents word sections = flat_map content (headed word sections)
 
--- each of these heads stands at most once
+-- each of these heads occurs at most once
 abbrev pub AreSingle : List (List ℕ) → List Tree → Type 0
 AreSingle single sections = (word : List ℕ) → Contains single word → length (headed word sections) ≤ 1
 
@@ -76,7 +78,7 @@ is_problem_section tree =
 abbrev pub is_declared : Declared → Tree → Bool
 is_declared declared tree = is_only (is_named declared.place declared.name) (members_of tree) && length declared.parameters == 0
 
--- the values behind this key, among pairs of a key and a value
+-- the values of this key, among pairs of a key and a value
 abbrev pub values : List ℕ → List Tree → List Tree
 values word [] = []
 values word (key ∷ []) = []
@@ -97,7 +99,7 @@ abbrev pub are_no_parameters : List Tree → Bool
 are_no_parameters [] = true
 are_no_parameters (tree ∷ trees) = is_unit tree && length trees == 0
 
--- a node is read as a schema, behind its head: its name, and pairs of a key and a value, each key at most once
+-- a node is read as a schema: after its head come its name, and pairs of a key and a value, each key at most once
 pub record IsSchemaOf (tree : Tree) (schema : Schema) : Type 0 where
   pub head : Tree
   pub name : Tree
@@ -113,12 +115,9 @@ pub record IsSchemaOf (tree : Tree) (schema : Schema) : Type 0 where
 
 -- trees are read as schemas, one by one
 abbrev pub AreSchemasOf : List Tree → List Schema → Type 0
-AreSchemasOf [] [] = Unit {0}
-AreSchemasOf [] (schema ∷ schemas) = ⊥
-AreSchemasOf (tree ∷ trees) [] = ⊥
-AreSchemasOf (tree ∷ trees) (schema ∷ schemas) = IsSchemaOf tree schema × AreSchemasOf trees schemas
+AreSchemasOf = AllZip IsSchemaOf
 
--- a tree is read as a domain. So far it has no types and no constants
+-- a tree is read as a domain. Types and constants are not supported yet
 pub record IsDomainOf (tree : Tree) (domain : Domain) : Type 0 where
   pub sections : List Tree
   pub file : IsFile (codes "domain") tree sections
@@ -129,10 +128,10 @@ pub record IsDomainOf (tree : Tree) (domain : Domain) : Type 0 where
   pub no_types : domain.kinds ≡ []
   pub constants : contents (codes ":constants") sections ≡ []
   pub no_constants : domain.constants ≡ []
-  pub predicates : are_read (map is_declared domain.predicates) (contents (codes ":predicates") sections) ≡ true
+  pub predicates : each_passes (map is_declared domain.predicates) (contents (codes ":predicates") sections) ≡ true
   pub schemas : AreSchemasOf (headed (codes ":action") sections) domain.schemas
 
--- a tree is read as a problem. So far it has no objects
+-- a tree is read as a problem. Objects are not supported yet
 pub record IsProblemOf (tree : Tree) (problem : Problem) : Type 0 where
   pub sections : List Tree
   pub file : IsFile (codes "problem") tree sections
@@ -142,5 +141,5 @@ pub record IsProblemOf (tree : Tree) (problem : Problem) : Type 0 where
   pub domain : is_only is_name_leaf (Some (contents (codes ":domain") sections)) ≡ true
   pub objects : contents (codes ":objects") sections ≡ []
   pub no_objects : problem.objects ≡ []
-  pub init : are_read (map is_initial problem.init) (contents (codes ":init") sections) ≡ true
-  pub goal : are_read (is_condition problem.goal ∷ []) (contents (codes ":goal") sections) ≡ true
+  pub init : each_passes (map is_initial problem.init) (contents (codes ":init") sections) ≡ true
+  pub goal : each_passes (is_condition problem.goal ∷ []) (contents (codes ":goal") sections) ≡ true

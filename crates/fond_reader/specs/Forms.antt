@@ -1,6 +1,7 @@
--- Which conditions and effects a tree is read as. So far atoms have no terms, and nothing is quantified or conditional.
+-- Which conditions and effects a tree is read as. Terms, quantifiers and conditional effects are not supported yet.
 use Rattle.std.specs.Prelude.{ℕ, ◌==◌, ◌&&◌, Bool, true, false, not, List, [], ◌∷◌, map, length, Option, Some, None, codes, if◌then◌else◌}
 use Rattle.std.specs.Str.{bytes_eq}
+use Rattle.fond_text.specs.Lists.{each_passes}
 use Rattle.fond_text.specs.declared.place.Place.{Place}
 use Rattle.fond_tree.specs.declared.tree.Tree.{Tree}
 use Rattle.fond_ast.specs.declared.names.ReadAtom.{ReadAtom}
@@ -11,7 +12,8 @@ use Rattle.fond_ast.specs.declared.syntax.Cond.TheFolds.{fold-Cond}
 use Rattle.fond_ast.specs.declared.syntax.Effect.{Effect}
 use Rattle.fond_ast.specs.declared.syntax.Effect.TheOpen as effect
 use Rattle.fond_ast.specs.declared.syntax.Effect.TheFolds.{fold-Effect}
-use Rattle.fond_reader.specs.Words.{is_name, place_of, leaf_of, members_of}
+use Rattle.fond_reader.specs.Words.{is_name}
+use Rattle.fond_tree.specs.Trees.{members_of, leaf_of, place_of}
 
 -- whether a leaf is this word
 abbrev pub is_word : List ℕ → Option (List ℕ) → Bool
@@ -45,23 +47,17 @@ is_only test (Some (tree ∷ trees)) = test tree && length trees == 0
 abbrev pub is_atom : ReadAtom → Tree → Bool
 is_atom atom tree = is_place atom.place (place_of tree) && is_only (is_named atom.head atom.name) (members_of tree) && length atom.terms == 0
 
--- whether trees are read as these, one by one
-abbrev pub are_read : List (Tree → Bool) → List Tree → Bool
-are_read [] [] = true
-are_read [] (tree ∷ trees) = false
-are_read (reads ∷ rest) [] = false
-are_read (reads ∷ rest) (tree ∷ trees) = reads tree && are_read rest trees
-
 -- whether members are this word and operands that are read as these
 abbrev pub are_operands : List ℕ → List (Tree → Bool) → Option (List Tree) → Bool
 are_operands word rest None = false
 are_operands word rest (Some []) = false
-are_operands word rest (Some (head ∷ behind)) = is_word word (leaf_of head) && are_read rest behind
+are_operands word rest (Some (head ∷ after)) = is_word word (leaf_of head) && each_passes rest after
 
 -- whether a tree is a node of this operator and operands that are read as these
 abbrev pub is_form : List ℕ → List (Tree → Bool) → Tree → Bool
 is_form word operands tree = are_operands word operands (members_of tree)
 
+-- a condition is read from a tree by its operator and the trees of its parts
 abbrev pub condition_step : condition.Cond-F (Tree → Bool) → Tree → Bool
 condition_step condition.Truth tree = is_unit tree
 condition_step (condition.Holds atom) tree = is_atom atom tree
@@ -81,6 +77,7 @@ is_condition = fold-Cond (Tree → Bool) condition_step
 abbrev pub inner : List (Bool → Tree → Bool) → List (Tree → Bool)
 inner parts = map (λ part. part false) parts
 
+-- an effect is read from a tree, as a whole effect or as an operand, by its operator and the trees of its parts
 abbrev pub effect_step : effect.Effect-F (Bool → Tree → Bool) → Bool → Tree → Bool
 effect_step effect.Nothing whole tree = is_unit tree
 effect_step (effect.Add atom) whole tree = is_atom atom tree

@@ -1,4 +1,4 @@
--- What holds of all trees and their declarations.
+-- Laws of trees and their declarations.
 use Rattle.std.specs.Prelude.{◌↔◌}
 use Rattle.fond_ast.specs.declared.files.Domain.{Domain}
 use Rattle.fond_ast.specs.declared.files.Problem.{Problem}
@@ -7,10 +7,10 @@ use Rattle.fond_reader.specs.Faults.{StandsInDomain, StandsInProblem}
 use Rattle.fond_reader.specs.Files.{IsDomainOf, IsProblemOf}
 use Rattle.fond_text.specs.Faults.{IsClean}
 
--- no fault stands in a tree as a domain exactly where some domain is read from it
+-- a tree has no fault as a domain if and only if some domain is read from it
 abbrev pub CleanDomainsAreRead : Type 0
 CleanDomainsAreRead = (tree : Tree) → IsClean (StandsInDomain tree) ↔ ((domain : Domain) × IsDomainOf tree domain)
 
--- no fault stands in a tree as a problem exactly where some problem is read from it
+-- a tree has no fault as a problem if and only if some problem is read from it
 abbrev pub CleanProblemsAreRead : Type 0
 CleanProblemsAreRead = (tree : Tree) → IsClean (StandsInProblem tree) ↔ ((problem : Problem) × IsProblemOf tree problem)

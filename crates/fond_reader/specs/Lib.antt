@@ -4,7 +4,6 @@ pub mod Parts
 pub mod Faults
 pub mod Forms
 pub mod Files
-pub mod Sides
 pub mod Laws
 pub mod Walks
 pub mod CleanForms

@@ -2,7 +2,7 @@
 use Rattle.std.specs.Prelude.{ℕ, ◌&&◌, Bool, true, false, not, List, [], ◌∷◌, ◌++◌, Option, Some, None, map, codes, slice_get, option_and_then, option_map, option_to_list, if◌then◌else◌}
 use Rattle.std.specs.Str.{bytes_eq}
 use Rattle.fond_tree.specs.declared.tree.Tree.{Tree}
-use Rattle.fond_reader.specs.Words.{leaf_of, members_of}
+use Rattle.fond_tree.specs.Trees.{members_of, leaf_of}
 use Rattle.fond_reader.specs.declared.role.Role.{Role}
 use Rattle.fond_reader.specs.declared.role.Role.TheVariants.{Key, Parameters, Condition, WholeEffect}
 use Rattle.fond_reader.specs.declared.role.Rest.{Rest}
@@ -14,6 +14,7 @@ pub record Part : Type 0 where
   pub role : Role
   pub tree : Tree
 
+-- a tree of a role, as a part
 abbrev pub part : Role → Tree → Part
 part role tree = record { role = role; tree = tree }
 
@@ -25,15 +26,15 @@ is_dash tree = equals (leaf_of tree)
     equals None = false
     equals (Some leaf) = bytes_eq leaf (codes "-")
 
--- a typed list: leaves, and behind one or more of them a `-` and their type. A `-` behind a tree that has no type
--- yet gives it the tree behind it; each other `-` is a leaf that does not fit
+-- a typed list: leaves, and after one or more of them a `-` and their type. A `-` after a tree that has no type yet
+-- gives it the next tree as its type; each other `-` is a leaf that does not fit
 abbrev pub typed : Role → Role → Bool → List Tree → List Part
 typed leaf type untyped [] = []
 typed leaf type untyped (tree ∷ []) = part leaf tree ∷ []
 typed leaf type untyped (tree ∷ next ∷ trees) =
     if untyped && is_dash tree then part type next ∷ typed leaf type false trees else part leaf tree ∷ typed leaf type (not (is_dash tree)) (next ∷ trees)
 
--- what is expected of the value of a key; behind another leaf it is not looked at
+-- what is expected of the value of a key; the value after another leaf is not read
 abbrev pub value_role : List ℕ → Option Role
 value_role key =
     if bytes_eq key (codes ":parameters") then Some Parameters
@@ -41,7 +42,7 @@ value_role key =
     else if bytes_eq key (codes ":effect") then Some WholeEffect
     else None
 
--- the value of a key as a part, where it is looked at
+-- the value of a key as a part, if it is read
 abbrev pub value : Option (List ℕ) → Tree → List Part
 value key tree = option_to_list (option_map (λ role. part role tree) (option_and_then value_role key))
 
@@ -65,13 +66,14 @@ shape_parts [] rest trees = rest_parts rest trees
 shape_parts (role ∷ roles) rest [] = []
 shape_parts (role ∷ roles) rest (tree ∷ trees) = part role tree ∷ shape_parts roles rest trees
 
+-- the parts of members of which this is expected; those of a refused node are not parts
 abbrev pub expected_parts : Option Expected → List Tree → List Part
 expected_parts None members = []
 expected_parts (Some (Members shape)) members = shape_parts shape.first shape.rest members
 expected_parts (Some (Refused code)) members = []
 
--- the parts of a tree of a role: the members of the node that it is, as far as they are looked at; a `-` that fits is
--- none
+-- the parts of a tree of a role: the members of the node that it is, as far as they are read; a `-` that fits is no
+-- part
 abbrev pub parts : Part → List Part
 parts whole = from (members_of whole.tree)
   where

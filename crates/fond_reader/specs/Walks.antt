@@ -1,4 +1,4 @@
--- Going over the members of a node, one by one: what is expected as the code has it, and the parts that are left.
+-- A walk over the members of a node: what the code expects, and the parts that are left.
 use Rattle.std.specs.Prelude.{false, List, [], ◌∷◌, ◌++◌, Option, map, option_map, option_to_list}
 use Rattle.fond_tree.specs.declared.tree.Tree.{Tree}
 use Rattle.fond_reader.specs.declared.role.Role.{Role}
@@ -6,40 +6,40 @@ use Rattle.fond_reader.specs.Roles.{Expected, Members, Refused, shape}
 use Rattle.fond_reader.specs.Parts.{Part, part, typed, pairs}
 use Rattle.fond_reader.specs.declared.expected.Expected.{Expected as Known}
 use Rattle.fond_reader.specs.declared.expected.Expected.TheVariants.{Members as KnownMembers, Refused as KnownRefused}
-use Rattle.fond_reader.specs.declared.walk.Left.{Left}
-use Rattle.fond_reader.specs.declared.walk.Left.TheVariants.{Unread, Each, Typed, TypeNext, Key, Value}
+use Rattle.fond_reader.specs.declared.walk.Pending.{Pending}
+use Rattle.fond_reader.specs.declared.walk.Pending.TheVariants.{Unread, Each, Typed, TypeNext, Key, Value}
 use Rattle.fond_reader.specs.declared.walk.Walk.{Walk}
 
--- what is expected, as the code has it
+-- an expectation of the code, as the one that it stands for
 abbrev pub seen : Known → Expected
 seen (KnownMembers members) = Members (shape members.first.now members.rest)
 seen (KnownRefused code) = Refused code
 
--- the parts of a typed list behind a `-`
-abbrev pub behind_dash : Role → Role → List Tree → List Part
-behind_dash leaf type [] = []
-behind_dash leaf type (tree ∷ trees) = part type tree ∷ typed leaf type false trees
+-- the parts of a typed list after a `-`
+abbrev pub after_dash : Role → Role → List Tree → List Part
+after_dash leaf type [] = []
+after_dash leaf type (tree ∷ trees) = part type tree ∷ typed leaf type false trees
 
--- the part that a tree is, where a role is expected of it
+-- the part that a tree is, if a role is expected of it
 abbrev pub part_if : Option Role → Tree → List Part
 part_if role tree = option_to_list (option_map (λ r. part r tree) role)
 
--- the parts behind a key whose value is of this role, where it is looked at
-abbrev pub behind_key : Option Role → List Tree → List Part
-behind_key role [] = []
-behind_key role (tree ∷ trees) = part_if role tree ++ pairs trees
+-- the parts after a key whose value is of this role, if it is read
+abbrev pub after_key : Option Role → List Tree → List Part
+after_key role [] = []
+after_key role (tree ∷ trees) = part_if role tree ++ pairs trees
 
--- the parts of the trees behind the first members
-abbrev pub rest_left : Left → List Tree → List Part
+-- the parts of the trees after the first members
+abbrev pub rest_left : Pending → List Tree → List Part
 rest_left Unread trees = []
 rest_left (Each role) trees = map (part role) trees
 rest_left (Typed leaf type untyped) trees = typed leaf type untyped trees
-rest_left (TypeNext leaf type) trees = behind_dash leaf type trees
+rest_left (TypeNext leaf type) trees = after_dash leaf type trees
 rest_left Key trees = pairs trees
-rest_left (Value role) trees = behind_key role trees
+rest_left (Value role) trees = after_key role trees
 
 -- the parts of the trees that are left, of which the first have these roles
-abbrev pub roles_left : List Role → Left → List Tree → List Part
+abbrev pub roles_left : List Role → Pending → List Tree → List Part
 roles_left [] left trees = rest_left left trees
 roles_left (role ∷ roles) left [] = []
 roles_left (role ∷ roles) left (tree ∷ trees) = part role tree ∷ roles_left roles left trees

@@ -1,9 +1,9 @@
-//! Actions in which no fault stands.
+//! Reading actions that have no fault.
 
 ghost use Rattle.fond_reader.specs.CleanFiles.{is_none_or_one, fits_pairs, fits_action};
 ghost use Rattle.fond_reader.specs.CleanForms.{fits_condition, fits_whole_effect};
 ghost use Rattle.fond_reader.specs.Files.{is_name_leaf, values, IsPrecondition, IsWholeEffect, IsSchemaOf};
-ghost use Rattle.fond_reader.specs.Words.{members_of};
+ghost use Rattle.fond_tree.specs.Trees.{members_of};
 ghost use Rattle.fond_tree.specs.declared.tree.Tree.{Tree};
 ghost use Rattle.std.specs.Option.{option_copied};
 ghost use Rattle.std.specs.Prelude.{◌≡◌, ◌∷◌, Some, true, codes, slice_get, IfOk};
@@ -11,8 +11,7 @@ ghost use Rattle.std.specs.Prelude.{◌≡◌, ◌∷◌, Some, true, codes, sli
 use crate::atom::name_of;
 use crate::condition::read_condition;
 use crate::effect::read_whole_effect;
-use crate::leaves::place_of;
-use crate::section::{behind, is_leaf};
+use crate::section::{after, is_leaf};
 use fond_ast::files::Schema;
 use fond_ast::names::TypedNames;
 use fond_ast::syntax::{Cond, Effect};
@@ -20,21 +19,21 @@ use fond_text::fault::NoMemory;
 use fond_tree::tree::Tree;
 use std::alloc::Global;
 
-/// The tree that stands behind this key first, if there is one.
+/// The value of the first pair with this key, if there is one.
 fn value_of<'a>(pairs: &'a [Tree], key: &[u8]) -> Option<&'a Tree>
     ensures { option_copied result ≡ slice_get (values key.now pairs.now) 0 }
 {
     let mut rest = pairs;
-    while let [one, tree, behind @ ..] = rest {
+    while let [one, tree, after @ ..] = rest {
         if is_leaf(one, key) {
             return Some(tree);
         }
-        rest = behind;
+        rest = after;
     }
     None
 }
 
-/// The precondition among pairs, or the true condition where none is there.
+/// The precondition among pairs, or the true condition if there is none.
 fn read_precondition(alloc: Global, pairs: &[Tree]) -> Result<Cond, NoMemory>
     requires { is_none_or_one fits_condition (values (codes ":precondition") pairs.now) ≡ true }
     ensures { IfOk result (IsPrecondition (values (codes ":precondition") pairs.now)) }
@@ -45,7 +44,7 @@ fn read_precondition(alloc: Global, pairs: &[Tree]) -> Result<Cond, NoMemory>
     }
 }
 
-/// The effect among pairs, or the empty effect where none is there.
+/// The effect among pairs, or the empty effect if there is none.
 fn read_keyed_effect(alloc: Global, pairs: &[Tree]) -> Result<Effect, NoMemory>
     requires { is_none_or_one fits_whole_effect (values (codes ":effect") pairs.now) ≡ true }
     ensures { IfOk result (IsWholeEffect (values (codes ":effect") pairs.now)) }
@@ -65,7 +64,7 @@ fn schema_of(alloc: Global, name: &Tree, pairs: &[Tree]) -> Result<Schema, NoMem
     let pre = read_precondition(alloc, pairs)?;
     let effect = read_keyed_effect(alloc, pairs)?;
     Ok(Schema {
-        place: place_of(name),
+        place: name.place(),
         name: name_of(name).copy(alloc)?,
         parameters: TypedNames::new(alloc),
         pre,
@@ -78,7 +77,7 @@ pub(crate) fn read_action(alloc: Global, section: &Tree) -> Result<Schema, NoMem
     requires { fits_action section.now ≡ true }
     ensures { IfOk result (IsSchemaOf section.now) }
 {
-    match behind(section) {
+    match after(section) {
         [] => unreachable!(),
         [name, pairs @ ..] => schema_of(alloc, name, pairs),
     }

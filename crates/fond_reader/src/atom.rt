@@ -1,9 +1,9 @@
-//! Names and atoms in which no fault stands.
+//! Reading names and atoms that have no fault.
 
 ghost use Rattle.fond_reader.specs.Files.{is_name_leaf};
 ghost use Rattle.fond_reader.specs.Forms.{is_atom};
 ghost use Rattle.fond_reader.specs.CleanForms.{fits_atom};
-ghost use Rattle.fond_reader.specs.Words.{leaf_of};
+ghost use Rattle.fond_tree.specs.Trees.{leaf_of};
 ghost use Rattle.std.specs.Prelude.{◌≡◌, Some, true, IfOk};
 
 use fond_ast::names::{ReadAtom, Terms};

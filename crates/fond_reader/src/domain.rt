@@ -11,7 +11,6 @@ ghost use Rattle.std.specs.Prelude.{◌≡◌, true, codes, IfOk, IfErr, OnOk};
 use crate::action::read_action;
 use crate::fault::first_fault;
 use crate::initial::read_predicates;
-use crate::leaves::place_of;
 use crate::role::Role;
 use crate::section::{begins, contents_of, sections_of};
 use fond_ast::files::{Domain, Schemas};
@@ -44,7 +43,7 @@ fn domain_of(alloc: Global, tree: &Tree) -> Result<Domain, NoMemory>
     let predicates = read_predicates(alloc, contents_of(sections, b":predicates"))?;
     let schemas = read_schemas(alloc, sections)?;
     Ok(Domain {
-        place: place_of(tree),
+        place: tree.place(),
         kinds: TypedNames::new(alloc),
         constants: TypedNames::new(alloc),
         predicates,
@@ -66,8 +65,5 @@ pub fn read_domain(alloc: Global, t: &Tree) -> Result<Domain, FrontError>
             code: found.code,
         }));
     }
-    match domain_of(alloc, t) {
-        Ok(domain) => Ok(domain),
-        Err(_) => Err(FrontError::NoMemory),
-    }
+    Ok(domain_of(alloc, t)?)
 }

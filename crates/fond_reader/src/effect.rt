@@ -1,7 +1,8 @@
-//! Effects in which no fault stands.
+//! Reading effects that have no fault.
 
+ghost use Rattle.fond_text.specs.Lists.{each_passes};
 ghost use Rattle.fond_reader.specs.CleanForms.{fits_effect, fits_choice, fits_whole_effect, seen_effect};
-ghost use Rattle.fond_reader.specs.Forms.{is_effect, is_atom, are_read, inner};
+ghost use Rattle.fond_reader.specs.Forms.{is_effect, is_atom, inner};
 ghost use Rattle.std.specs.List.{list_all};
 ghost use Rattle.std.specs.Prelude.{◌≡◌, ◌==◌, ◌&&◌, ◌∷◌, [], true, false, length, map, IfOk};
 
@@ -25,12 +26,12 @@ pub(crate) fn read_effect(alloc: Global, tree: &Tree) -> Result<Effect, NoMemory
         Tree::Node(_, members) => match members.as_slice() {
             [] => Ok(Effect::Nothing),
             [Tree::Node(_, _), ..] => unreachable!(),
-            [Tree::Leaf(_, head), behind @ ..] => {
+            [Tree::Leaf(_, head), after @ ..] => {
                 if is_word(head.bytes(), b"and") {
-                    return Ok(Effect::And(read_effects(alloc, behind)?));
+                    return Ok(Effect::And(read_effects(alloc, after)?));
                 }
                 if is_word(head.bytes(), b"not") {
-                    return Ok(Effect::Delete(read_only_atom(alloc, behind)?));
+                    return Ok(Effect::Delete(read_only_atom(alloc, after)?));
                 }
                 Ok(Effect::Add(read_atom(alloc, tree)?))
             }
@@ -42,7 +43,7 @@ pub(crate) fn read_effect(alloc: Global, tree: &Tree) -> Result<Effect, NoMemory
 #[cycle(effect)]
 fn read_effects(alloc: Global, trees: &[Tree]) -> Result<Vec<Effect>, NoMemory>
     requires { list_all (λ seen. seen.fits) (map seen_effect trees.now) ≡ true }
-    ensures read { IfOk result (λ parts. are_read (inner (map is_effect parts.items)) trees.now ≡ true) }
+    ensures read { IfOk result (λ parts. each_passes (inner (map is_effect parts.items)) trees.now ≡ true) }
     ensures counted { IfOk result (λ parts. length parts.items ≡ length trees.now) }
 {
     let mut parts = Vec::with_capacity(alloc, trees.len())?;
@@ -55,7 +56,7 @@ fn read_effects(alloc: Global, trees: &[Tree]) -> Result<Vec<Effect>, NoMemory>
 /// The atom that the only one of these trees is read as.
 fn read_only_atom(alloc: Global, trees: &[Tree]) -> Result<ReadAtom, NoMemory>
     requires { (length trees.now == 1 && list_all (λ seen. seen.atom) (map seen_effect trees.now)) ≡ true }
-    ensures { IfOk result (λ atom. are_read (is_atom atom ∷ []) trees.now ≡ true) }
+    ensures { IfOk result (λ atom. each_passes (is_atom atom ∷ []) trees.now ≡ true) }
 {
     match trees {
         [tree] => read_atom(alloc, tree),
@@ -86,7 +87,7 @@ fn read_choice(alloc: Global, tree: &Tree) -> Result<Effect, NoMemory>
         Tree::Leaf(_, _) => unreachable!(),
         Tree::Node(_, members) => match members.as_slice() {
             [] => unreachable!(),
-            [_, behind @ ..] => Ok(Effect::OneOf(read_effects(alloc, behind)?)),
+            [_, after @ ..] => Ok(Effect::OneOf(read_effects(alloc, after)?)),
         },
     }
 }

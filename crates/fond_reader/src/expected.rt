@@ -1,16 +1,16 @@
-//! What is expected of a node, by its role and, where forms have heads, by its head. Each table stands in a function
-//! of its own.
+//! The form that is expected of a node, by its role and its head. Each table is a function of its own.
 
 ghost use Rattle.fond_reader.specs.Roles.{Members, shape, atom as atom_shape, none as no_members, domain_section as domain_section_of, problem_section as problem_section_of, condition as condition_of, effect as effect_of, initial as initial_of, choice as choice_of, atom_or_refused as atom_or_refused_of, section, form_of, node_expected};
 ghost use Rattle.fond_reader.specs.Parts.{is_counted as is_counted_shape, is_rest as is_rest_of};
 ghost use Rattle.fond_reader.specs.Walks.{seen};
-ghost use Rattle.fond_reader.specs.Words.{front as front_of, is_node as is_node_tree};
+ghost use Rattle.fond_tree.specs.Trees.{is_node as is_node_tree, front as front_of};
 ghost use Rattle.std.specs.List.{list_any};
 ghost use Rattle.std.specs.Prelude.{◌≡◌, ◌∷◌, [], option_map};
 
-use crate::leaves::{front, is_name, is_node, is_passed_over, is_reserved, is_word};
+use crate::leaves::{is_name, is_passed_over, is_reserved, is_word};
 use crate::role::{Keyword, Rest, Role};
-use fond_tree::tree::Tree;
+use fond_text::code::{MISPLACED_OPERATOR, NO_CHOICE, UNKNOWN_SECTION};
+use fond_tree::tree::{Tree, front};
 
 /// The members that are expected of a node: the first of them one by one, and the rest.
 #[derive(Clone, Copy)]
@@ -46,7 +46,7 @@ fn domain_section(head: &[u8]) -> Expected
     } else if is_word(head, b":action") {
         members(&[Role::Head, Role::Name], Rest::Pairs)
     } else {
-        Expected::Refused(8)
+        Expected::Refused(UNKNOWN_SECTION)
     }
 }
 
@@ -67,7 +67,7 @@ fn problem_section(head: &[u8]) -> Expected
     } else if is_passed_over(head) {
         members(&[Role::Head], Rest::Unread)
     } else {
-        Expected::Refused(8)
+        Expected::Refused(UNKNOWN_SECTION)
     }
 }
 
@@ -89,24 +89,24 @@ fn nothing() -> Expected
 fn has_node(trees: &[Tree]) -> bool
     ensures { result ≡ list_any is_node_tree trees.now }
 {
-    trees.iter().any(|tree| is_node(tree))
+    trees.iter().any(|tree| tree.is_node())
 }
 
-/// An atom where operators may stand, by its head, which is no operator there. A reserved word is refused, and so is
-/// a name behind which a node stands.
-fn atom_or_refused(head: &[u8], behind: &[Tree]) -> Expected
-    ensures { seen result ≡ atom_or_refused_of head.now behind.now }
+/// An atom at a place where operators are allowed, by its head, which is no operator there. A reserved word is refused,
+/// and so is a name that a node follows.
+fn atom_or_refused(head: &[u8], after: &[Tree]) -> Expected
+    ensures { seen result ≡ atom_or_refused_of head.now after.now }
 {
-    if is_reserved(head) || (is_name(head) && has_node(behind)) {
-        Expected::Refused(11)
+    if is_reserved(head) || (is_name(head) && has_node(after)) {
+        Expected::Refused(MISPLACED_OPERATOR)
     } else {
         atom()
     }
 }
 
 /// A condition, by its head.
-fn condition(head: &[u8], behind: &[Tree]) -> Expected
-    ensures { seen result ≡ condition_of head.now behind.now }
+fn condition(head: &[u8], after: &[Tree]) -> Expected
+    ensures { seen result ≡ condition_of head.now after.now }
 {
     if is_word(head, b"and") || is_word(head, b"or") {
         members(&[Role::Head], Rest::Each(Role::Condition))
@@ -125,23 +125,23 @@ fn condition(head: &[u8], behind: &[Tree]) -> Expected
     } else if is_word(head, b"=") {
         members(&[Role::Head, Role::Term, Role::Term], Rest::NoMore)
     } else {
-        atom_or_refused(head, behind)
+        atom_or_refused(head, after)
     }
 }
 
 /// A choice has at least one member.
-fn choice(behind: &[Tree]) -> Expected
-    ensures { seen result ≡ choice_of behind.now }
+fn choice(after: &[Tree]) -> Expected
+    ensures { seen result ≡ choice_of after.now }
 {
-    match behind {
-        [] => Expected::Refused(12),
+    match after {
+        [] => Expected::Refused(NO_CHOICE),
         [_, ..] => members(&[Role::Head], Rest::Each(Role::Effect)),
     }
 }
 
 /// An effect, by its head.
-fn effect(head: &[u8], behind: &[Tree]) -> Expected
-    ensures { seen result ≡ effect_of head.now behind.now }
+fn effect(head: &[u8], after: &[Tree]) -> Expected
+    ensures { seen result ≡ effect_of head.now after.now }
 {
     if is_word(head, b"and") {
         members(&[Role::Head], Rest::Each(Role::Effect))
@@ -152,20 +152,20 @@ fn effect(head: &[u8], behind: &[Tree]) -> Expected
     } else if is_word(head, b"when") {
         members(&[Role::Head, Role::Condition, Role::Effect], Rest::NoMore)
     } else if is_word(head, b"oneof") {
-        choice(behind)
+        choice(after)
     } else {
-        atom_or_refused(head, behind)
+        atom_or_refused(head, after)
     }
 }
 
 /// An initial atom, by its head.
-fn initial(head: &[u8], behind: &[Tree]) -> Expected
-    ensures { seen result ≡ initial_of head.now behind.now }
+fn initial(head: &[u8], after: &[Tree]) -> Expected
+    ensures { seen result ≡ initial_of head.now after.now }
 {
     if is_word(head, b"not") {
         members(&[Role::Head, Role::Atom], Rest::NoMore)
     } else {
-        atom_or_refused(head, behind)
+        atom_or_refused(head, after)
     }
 }
 
@@ -202,7 +202,7 @@ fn condition_of(trees: &[Tree]) -> Expected
 {
     match trees {
         [] => nothing(),
-        [Tree::Leaf(_, head), behind @ ..] => condition(head.bytes(), behind),
+        [Tree::Leaf(_, head), after @ ..] => condition(head.bytes(), after),
         [Tree::Node(_, _), ..] => atom(),
     }
 }
@@ -213,7 +213,7 @@ fn effect_of(trees: &[Tree]) -> Expected
 {
     match trees {
         [] => nothing(),
-        [Tree::Leaf(_, head), behind @ ..] => effect(head.bytes(), behind),
+        [Tree::Leaf(_, head), after @ ..] => effect(head.bytes(), after),
         [Tree::Node(_, _), ..] => atom(),
     }
 }
@@ -223,7 +223,7 @@ fn initial_of(trees: &[Tree]) -> Expected
     ensures { seen result ≡ form_of atom_shape initial_of trees.now }
 {
     match trees {
-        [Tree::Leaf(_, head), behind @ ..] => initial(head.bytes(), behind),
+        [Tree::Leaf(_, head), after @ ..] => initial(head.bytes(), after),
         _ => atom(),
     }
 }
@@ -240,7 +240,7 @@ fn header(keyword: Keyword) -> Expected
     }
 }
 
-/// What is expected of the node of these members, where one may stand: none where a leaf is expected.
+/// What is expected of the node of these members: none if a leaf is expected.
 pub fn expected_of(role: Role, trees: &[Tree]) -> Option<Expected>
     ensures { option_map seen result ≡ node_expected role trees.now }
 {
@@ -272,7 +272,7 @@ pub fn expected_of(role: Role, trees: &[Tree]) -> Option<Expected>
         Role::WholeEffect | Role::Effect => Some(effect_of(trees)),
         Role::Initial => Some(initial_of(trees)),
         Role::Atom => Some(atom()),
-        Role::Word(_) | Role::Head | Role::Name | Role::Variable | Role::Term | Role::Key => None,
+        _ => None,
     }
 }
 

@@ -1,20 +1,22 @@
-//! The first fault of a tree. The grammar stands in two tables: what is expected of a node, and of its members one by
-//! one; a fault is looked for in each part of the tree, and the earliest one is kept.
+//! The first fault of a tree. The grammar is given by two tables: what is expected of a node, and of its members one
+//! by one. Each part of the tree is checked, and the earliest fault is kept.
 
 ghost use Rattle.fond_reader.specs.Faults.{Stands, Misfits, IsUnbuilt, IsOwnFault, node_code as node_code_of, tree_code as tree_code_of};
 ghost use Rattle.fond_text.specs.Firsts.{IsFirst};
 ghost use Rattle.fond_text.specs.Faults.{IsLeast, IsClean};
+ghost use Rattle.fond_text.specs.declared.code.TheConstants.{UNSUPPORTED};
 ghost use Rattle.fond_reader.specs.Parts.{part};
 ghost use Rattle.fond_reader.specs.Walks.{seen};
-ghost use Rattle.fond_reader.specs.Words.{leaf_of as leaf_of_tree, members_of as members_of_tree};
+ghost use Rattle.fond_tree.specs.Trees.{members_of as members_of_tree, leaf_of as leaf_of_tree};
 ghost use Rattle.std.specs.Prelude.{◌≡◌, option_map, IfSome, IfNone};
 
 use crate::expected::{Expected, expected_of, is_counted};
-use crate::leaves::{leaf_code, place_of};
+use crate::leaves::leaf_code;
 use crate::repeats::{incomplete, repeated};
 use crate::role::Role;
 use crate::unbuilt::is_unbuilt;
 use crate::walk::Walk;
+use fond_text::code::{MISFIT, UNSUPPORTED};
 use fond_text::first::{Found, earlier, found_at, found_if};
 use fond_tree::tree::Tree;
 
@@ -23,12 +25,12 @@ fn node_code(expected: Option<Expected>, members: &[Tree]) -> Option<u8>
     ensures { result ≡ node_code_of (option_map seen expected) members.now }
 {
     match expected {
-        None => Some(7),
+        None => Some(MISFIT),
         Some(Expected::Members(shape)) => {
             if is_counted(shape, members) {
                 None
             } else {
-                Some(7)
+                Some(MISFIT)
             }
         }
         Some(Expected::Refused(code)) => Some(code),
@@ -51,16 +53,16 @@ fn tree_code(role: Role, tree: &Tree) -> Option<u8>
 fn misfit(role: Role, tree: &Tree) -> Option<Found>
     ensures { IsFirst (λ place code. Misfits (part role tree.now) place code) result }
 {
-    found_at(place_of(tree), tree_code(role, tree))
+    found_at(tree.place(), tree_code(role, tree))
 }
 
-/// A node of a form that is not built yet.
+/// A node of a form that is not supported yet.
 fn unbuilt(role: Role, tree: &Tree) -> Option<Found>
-    ensures { IsFirst (λ place code. IsUnbuilt (part role tree.now) place × (code ≡ 24)) result }
+    ensures { IsFirst (λ place code. IsUnbuilt (part role tree.now) place × (code ≡ UNSUPPORTED)) result }
 {
     match tree {
         Tree::Leaf(_, _) => None,
-        Tree::Node(place, members) => found_if(is_unbuilt(role, members.as_slice()), *place, 24),
+        Tree::Node(place, members) => found_if(is_unbuilt(role, members.as_slice()), *place, UNSUPPORTED),
     }
 }
 

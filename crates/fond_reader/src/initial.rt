@@ -1,8 +1,9 @@
-//! Initial atoms and declared predicates in which no fault stands.
+//! Reading initial atoms and declared predicates that have no fault.
 
+ghost use Rattle.fond_text.specs.Lists.{each_passes};
 ghost use Rattle.fond_reader.specs.CleanForms.{fits_atom, fits_initial};
 ghost use Rattle.fond_reader.specs.Files.{is_declared};
-ghost use Rattle.fond_reader.specs.Forms.{is_initial, are_read};
+ghost use Rattle.fond_reader.specs.Forms.{is_initial};
 ghost use Rattle.std.specs.List.{list_all};
 ghost use Rattle.std.specs.Prelude.{◌≡◌, true, map, IfOk};
 
@@ -23,7 +24,7 @@ fn read_initial(alloc: Global, tree: &Tree) -> Result<InitAtom, NoMemory>
         unreachable!()
     };
     match members.as_slice() {
-        [Tree::Leaf(_, head), behind @ ..] if is_word(head.bytes(), b"not") => match behind {
+        [Tree::Leaf(_, head), after @ ..] if is_word(head.bytes(), b"not") => match after {
             [atom] => Ok(InitAtom {
                 positive: false,
                 atom: read_atom(alloc, atom)?,
@@ -40,7 +41,7 @@ fn read_initial(alloc: Global, tree: &Tree) -> Result<InitAtom, NoMemory>
 /// The initial atoms that trees are read as, one by one.
 pub(crate) fn read_initials(alloc: Global, trees: &[Tree]) -> Result<InitAtoms, NoMemory>
     requires { list_all fits_initial trees.now ≡ true }
-    ensures { IfOk result (λ init. are_read (map is_initial init) trees.now ≡ true) }
+    ensures { IfOk result (λ init. each_passes (map is_initial init) trees.now ≡ true) }
 {
     let mut init = InitAtoms::new(alloc);
     for tree in trees {
@@ -70,7 +71,7 @@ fn read_predicate(alloc: Global, tree: &Tree) -> Result<Declared, NoMemory>
 /// The predicates that trees are read as, one by one.
 pub(crate) fn read_predicates(alloc: Global, trees: &[Tree]) -> Result<DeclaredList, NoMemory>
     requires { list_all fits_atom trees.now ≡ true }
-    ensures { IfOk result (λ predicates. are_read (map is_declared predicates) trees.now ≡ true) }
+    ensures { IfOk result (λ predicates. each_passes (map is_declared predicates) trees.now ≡ true) }
 {
     let mut predicates = DeclaredList::new(alloc);
     for tree in trees {

@@ -1,14 +1,13 @@
-//! Leaves and nodes: names, variables and words, and the heads of nodes.
+//! Leaves: names, variables and words.
 
 ghost use Rattle.fond_reader.specs.Parts.{is_dash as is_dash_leaf};
 ghost use Rattle.fond_reader.specs.Roles.{word, is_term as is_term_leaf, leaf_code as leaf_code_of, action_keys, passed_over};
-ghost use Rattle.fond_reader.specs.Words.{reserved, place_of as place_of_tree, is_one_of, is_name as is_name_leaf, is_variable as is_variable_leaf, leaf_of as leaf_of_tree, members_of as members_of_tree, front as front_of, is_node as is_node_tree};
-ghost use Rattle.std.specs.Option.{option_copied};
+ghost use Rattle.fond_reader.specs.Words.{reserved, is_one_of, is_name as is_name_leaf, is_variable as is_variable_leaf};
 ghost use Rattle.std.specs.Prelude.{◌≡◌, Some, None, if◌then◌else◌};
 ghost use Rattle.std.specs.Str.{bytes_eq};
 
 use crate::role::{Keyword, Role};
-use fond_text::place::Place;
+use fond_text::code::{MISFIT, UNKNOWN_SECTION};
 use fond_tree::tree::Tree;
 
 /// Whether a leaf is this word.
@@ -83,7 +82,7 @@ fn is_keyword(leaf: &[u8], keyword: Keyword) -> bool
     }
 }
 
-/// A code where something does not fit.
+/// A code, unless something fits.
 fn code_unless(fits: bool, code: u8) -> Option<u8>
     ensures { result ≡ (if fits then None else Some code) }
 {
@@ -96,71 +95,13 @@ pub fn leaf_code(role: Role, leaf: &[u8]) -> Option<u8>
 {
     match role {
         Role::Head => None,
-        Role::Word(keyword) => code_unless(is_keyword(leaf, keyword), 7),
-        Role::Name | Role::VariableType => code_unless(is_name(leaf), 7),
-        Role::Variable => code_unless(is_variable(leaf), 7),
-        Role::Term => code_unless(is_term(leaf), 7),
-        Role::Key => code_unless(is_action_key(leaf), 8),
-        Role::DomainFile
-        | Role::ProblemFile
-        | Role::Header(_)
-        | Role::DomainSection
-        | Role::ProblemSection
-        | Role::Predicate
-        | Role::Parameters
-        | Role::Variables
-        | Role::Condition
-        | Role::WholeEffect
-        | Role::Effect
-        | Role::Initial
-        | Role::Atom => Some(7),
+        Role::Word(keyword) => code_unless(is_keyword(leaf, keyword), MISFIT),
+        Role::Name | Role::VariableType => code_unless(is_name(leaf), MISFIT),
+        Role::Variable => code_unless(is_variable(leaf), MISFIT),
+        Role::Term => code_unless(is_term(leaf), MISFIT),
+        Role::Key => code_unless(is_action_key(leaf), UNKNOWN_SECTION),
+        _ => Some(MISFIT),
     }
-}
-
-/// The place of a tree.
-pub fn place_of(tree: &Tree) -> Place
-    ensures { result ≡ place_of_tree tree.now }
-{
-    match tree {
-        Tree::Leaf(place, _) | Tree::Node(place, _) => *place,
-    }
-}
-
-/// The leaf that a tree is, if it is one.
-pub fn leaf_of(tree: &Tree) -> Option<&[u8]>
-    ensures { option_copied result ≡ leaf_of_tree tree.now }
-{
-    match tree {
-        Tree::Leaf(_, name) => Some(name.bytes()),
-        Tree::Node(_, _) => None,
-    }
-}
-
-/// The leaf in front of trees, if one is there.
-pub fn front(trees: &[Tree]) -> Option<&[u8]>
-    ensures { option_copied result ≡ front_of trees.now }
-{
-    match trees {
-        [] => None,
-        [first, ..] => leaf_of(first),
-    }
-}
-
-/// The members of the node that a tree is, if it is one.
-pub fn members_of(tree: &Tree) -> Option<&[Tree]>
-    ensures { option_copied result ≡ members_of_tree tree.now }
-{
-    match tree {
-        Tree::Leaf(_, _) => None,
-        Tree::Node(_, members) => Some(members.as_slice()),
-    }
-}
-
-/// Whether a tree is a node.
-pub fn is_node(tree: &Tree) -> bool
-    ensures { result ≡ is_node_tree tree.now }
-{
-    matches!(tree, Tree::Node(_, _))
 }
 
 /// Whether a tree is the leaf `-`.

@@ -1,6 +1,5 @@
-//! From trees to declarations: the domain or the problem that a tree is read as, or its first fault; and the side list
-//! that a text is read as. The crates above learn what was read, or exactly which fault stands first. What names
-//! mean is left to them.
+//! From trees to declarations: the domain or the problem that a tree is read as, or its first fault. The crates above
+//! learn what was read, or which fault comes first. What names mean is left to them.
 #![tactic(auto)]
 
 mod action;
@@ -10,8 +9,6 @@ pub mod domain;
 mod effect;
 mod expected;
 pub mod fault;
-#[cfg(test)]
-mod fault_tests;
 mod initial;
 pub mod laws;
 mod leaves;
@@ -19,6 +16,7 @@ pub mod problem;
 mod repeats;
 pub mod role;
 mod section;
-pub mod side;
+#[cfg(test)]
+mod tests;
 mod unbuilt;
 mod walk;

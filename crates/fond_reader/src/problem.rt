@@ -1,10 +1,11 @@
 //! Reading a tree as a problem.
 
+ghost use Rattle.fond_text.specs.Lists.{each_passes};
 ghost use Rattle.fond_reader.specs.CleanFiles.{sections_of as sections_of_file, IsCleanProblem};
 ghost use Rattle.fond_reader.specs.CleanForms.{fits_condition};
 ghost use Rattle.fond_reader.specs.Faults.{StandsInProblem};
 ghost use Rattle.fond_reader.specs.Files.{IsProblemOf};
-ghost use Rattle.fond_reader.specs.Forms.{is_condition, are_read, is_only};
+ghost use Rattle.fond_reader.specs.Forms.{is_condition, is_only};
 ghost use Rattle.fond_text.specs.Faults.{IsClean, IsLeastIn, Refuses};
 ghost use Rattle.fond_text.specs.declared.place.FileKind.TheVariants.{Problem as ProblemKind};
 ghost use Rattle.std.specs.Prelude.{◌≡◌, ◌∷◌, [], Some, true, IfOk, IfErr, OnOk};
@@ -12,7 +13,6 @@ ghost use Rattle.std.specs.Prelude.{◌≡◌, ◌∷◌, [], Some, true, IfOk, 
 use crate::condition::read_condition;
 use crate::fault::first_fault;
 use crate::initial::read_initials;
-use crate::leaves::place_of;
 use crate::role::Role;
 use crate::section::{contents_of, sections_of};
 use fond_ast::files::Problem;
@@ -26,7 +26,7 @@ use std::alloc::Global;
 /// The condition that the only one of these trees is read as.
 fn read_goal(alloc: Global, trees: &[Tree]) -> Result<Cond, NoMemory>
     requires { is_only fits_condition (Some trees.now) ≡ true }
-    ensures { IfOk result (λ goal. are_read (is_condition goal ∷ []) trees.now ≡ true) }
+    ensures { IfOk result (λ goal. each_passes (is_condition goal ∷ []) trees.now ≡ true) }
 {
     match trees {
         [tree] => read_condition(alloc, tree),
@@ -43,7 +43,7 @@ fn problem_of(alloc: Global, tree: &Tree) -> Result<Problem, NoMemory>
     let init = read_initials(alloc, contents_of(sections, b":init"))?;
     let goal = read_goal(alloc, contents_of(sections, b":goal"))?;
     Ok(Problem {
-        place: place_of(tree),
+        place: tree.place(),
         objects: TypedNames::new(alloc),
         init,
         goal,
@@ -64,8 +64,5 @@ pub fn read_problem(alloc: Global, t: &Tree) -> Result<Problem, FrontError>
             code: found.code,
         }));
     }
-    match problem_of(alloc, t) {
-        Ok(problem) => Ok(problem),
-        Err(_) => Err(FrontError::NoMemory),
-    }
+    Ok(problem_of(alloc, t)?)
 }

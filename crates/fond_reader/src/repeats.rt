@@ -1,30 +1,31 @@
-//! Sections and keys that stand a second time, and sections that a problem lacks.
+//! Sections and keys that occur a second time, and sections that a problem lacks.
 
-ghost use Rattle.fond_reader.specs.Faults.{Repeats, IsRepeated, Lacks, IsIncomplete, single_in_domain, single_in_problem, behind_header as behind_header_of, keys};
+ghost use Rattle.fond_reader.specs.Faults.{Repeats, IsRepeated, Lacks, IsIncomplete, single_in_domain, single_in_problem, after_header as after_header_of, keys};
 ghost use Rattle.fond_text.specs.Firsts.{IsFirst};
+ghost use Rattle.fond_text.specs.declared.code.TheConstants.{REPEATED_SECTION, MISSING_SECTION};
 ghost use Rattle.fond_reader.specs.Forms.{is_word as is_word_leaf};
 ghost use Rattle.fond_reader.specs.Roles.{action_keys};
-ghost use Rattle.fond_reader.specs.Words.{place_of as place_of_tree, leaf_of as leaf_of_tree, head_of as head_of_tree};
+ghost use Rattle.fond_tree.specs.Trees.{head_of as head_of_tree, leaf_of as leaf_of_tree, place_of as place_of_tree};
 ghost use Rattle.std.specs.Bool.{Decides};
 ghost use Rattle.std.specs.List.{list_any};
 ghost use Rattle.std.specs.Prelude.{◌≡◌, ◌⊎◌, ◌∷◌, [], true, codes, drop};
 
-use crate::leaves::{members_of, place_of};
 use crate::role::Role;
 use crate::section::{begins, is_leaf};
+use fond_text::code::{MISSING_SECTION, REPEATED_SECTION};
 use fond_text::first::{Found, earlier, found_if};
 use fond_tree::tree::Tree;
 
-/// A tree that stands again: one of its head was seen before it.
+/// A tree that repeats a head: one with its head was seen before it.
 fn again(seen: bool, headed: bool, tree: &Tree) -> Option<Found>
-    ensures { IsFirst (λ place code. (seen ≡ true) × (headed ≡ true) × (place ≡ place_of_tree tree.now) × (code ≡ 9)) result }
+    ensures { IsFirst (λ place code. (seen ≡ true) × (headed ≡ true) × (place ≡ place_of_tree tree.now) × (code ≡ REPEATED_SECTION)) result }
 {
-    found_if(seen && headed, place_of(tree), 9)
+    found_if(seen && headed, tree.place(), REPEATED_SECTION)
 }
 
-/// The first section that stands behind another one of this head.
+/// The first section that follows another one with this head.
 fn repeated_head(sections: &[Tree], head: &[u8]) -> Option<Found>
-    ensures { IsFirst (λ place code. Repeats head_of_tree (head.now ∷ []) sections.now place × (code ≡ 9)) result }
+    ensures { IsFirst (λ place code. Repeats head_of_tree (head.now ∷ []) sections.now place × (code ≡ REPEATED_SECTION)) result }
 {
     let mut first = None;
     let mut seen = false;
@@ -36,35 +37,35 @@ fn repeated_head(sections: &[Tree], head: &[u8]) -> Option<Found>
     first
 }
 
-/// The trees behind the first one.
-fn behind_first(trees: &[Tree]) -> &[Tree]
+/// The trees after the first one.
+fn after_first(trees: &[Tree]) -> &[Tree]
     ensures { result.now ≡ drop 1 trees.now }
 {
     match trees {
         [] => &[],
-        [_, behind @ ..] => behind,
+        [_, after @ ..] => after,
     }
 }
 
-/// The first key that stands behind another one that is this leaf.
+/// The first key that is this leaf and follows another one that is.
 fn repeated_key(pairs: &[Tree], key: &[u8]) -> Option<Found>
-    ensures { IsFirst (λ place code. Repeats leaf_of_tree (key.now ∷ []) (keys pairs.now) place × (code ≡ 9)) result }
+    ensures { IsFirst (λ place code. Repeats leaf_of_tree (key.now ∷ []) (keys pairs.now) place × (code ≡ REPEATED_SECTION)) result }
 {
     let mut first = None;
     let mut seen = false;
     let mut rest = pairs;
-    while let [one, behind @ ..] = rest {
+    while let [one, after @ ..] = rest {
         let headed = is_leaf(one, key);
         first = earlier(first, again(seen, headed, one));
         seen = seen || headed;
-        rest = behind_first(behind);
+        rest = after_first(after);
     }
     first
 }
 
-/// The first section of a domain that stands at most once and is repeated.
+/// The first section of a domain that may occur only once and is repeated.
 fn repeated_in_domain(sections: &[Tree]) -> Option<Found>
-    ensures { IsFirst (λ place code. Repeats head_of_tree single_in_domain sections.now place × (code ≡ 9)) result }
+    ensures { IsFirst (λ place code. Repeats head_of_tree single_in_domain sections.now place × (code ≡ REPEATED_SECTION)) result }
 {
     let predicates = repeated_head(sections, b":predicates");
     let constants = earlier(repeated_head(sections, b":constants"), predicates);
@@ -72,9 +73,9 @@ fn repeated_in_domain(sections: &[Tree]) -> Option<Found>
     earlier(repeated_head(sections, b":requirements"), types)
 }
 
-/// The first section of a problem that stands at most once and is repeated.
+/// The first section of a problem that may occur only once and is repeated.
 fn repeated_in_problem(sections: &[Tree]) -> Option<Found>
-    ensures { IsFirst (λ place code. Repeats head_of_tree single_in_problem sections.now place × (code ≡ 9)) result }
+    ensures { IsFirst (λ place code. Repeats head_of_tree single_in_problem sections.now place × (code ≡ REPEATED_SECTION)) result }
 {
     let goal = repeated_head(sections, b":goal");
     let init = earlier(repeated_head(sections, b":init"), goal);
@@ -85,32 +86,32 @@ fn repeated_in_problem(sections: &[Tree]) -> Option<Found>
 
 /// The first key of an action that is repeated.
 fn repeated_in_action(pairs: &[Tree]) -> Option<Found>
-    ensures { IsFirst (λ place code. Repeats leaf_of_tree action_keys (keys pairs.now) place × (code ≡ 9)) result }
+    ensures { IsFirst (λ place code. Repeats leaf_of_tree action_keys (keys pairs.now) place × (code ≡ REPEATED_SECTION)) result }
 {
     let effect = repeated_key(pairs, b":effect");
     let precondition = earlier(repeated_key(pairs, b":precondition"), effect);
     earlier(repeated_key(pairs, b":parameters"), precondition)
 }
 
-/// The members of a file behind its header, and those of an action behind its name.
-fn behind_header(members: &[Tree]) -> &[Tree]
-    ensures { result.now ≡ behind_header_of members.now }
+/// The members of a file after its header, and those of an action after its name.
+fn after_header(members: &[Tree]) -> &[Tree]
+    ensures { result.now ≡ after_header_of members.now }
 {
     match members {
-        [_, _, behind @ ..] => behind,
+        [_, _, after @ ..] => after,
         _ => &[],
     }
 }
 
 /// The first section of a file, or key of an action, that is repeated.
 pub fn repeated(role: Role, tree: &Tree) -> Option<Found>
-    ensures { IsFirst (λ place code. IsRepeated role tree.now place × (code ≡ 9)) result }
+    ensures { IsFirst (λ place code. IsRepeated role tree.now place × (code ≡ REPEATED_SECTION)) result }
 {
-    match (role, members_of(tree)) {
-        (Role::DomainFile, Some(members)) => repeated_in_domain(behind_header(members)),
-        (Role::ProblemFile, Some(members)) => repeated_in_problem(behind_header(members)),
+    match (role, tree.members()) {
+        (Role::DomainFile, Some(members)) => repeated_in_domain(after_header(members)),
+        (Role::ProblemFile, Some(members)) => repeated_in_problem(after_header(members)),
         (Role::DomainSection, Some(members)) if begins(tree, b":action") => {
-            repeated_in_action(behind_header(members))
+            repeated_in_action(after_header(members))
         }
         _ => None,
     }
@@ -139,11 +140,11 @@ fn is_incomplete(sections: &[Tree]) -> bool
 
 /// A problem that has no domain or no goal.
 pub fn incomplete(role: Role, tree: &Tree) -> Option<Found>
-    ensures { IsFirst (λ place code. IsIncomplete role tree.now place × (code ≡ 10)) result }
+    ensures { IsFirst (λ place code. IsIncomplete role tree.now place × (code ≡ MISSING_SECTION)) result }
 {
-    match (role, members_of(tree)) {
+    match (role, tree.members()) {
         (Role::ProblemFile, Some(members)) => {
-            found_if(is_incomplete(behind_header(members)), place_of(tree), 10)
+            found_if(is_incomplete(after_header(members)), tree.place(), MISSING_SECTION)
         }
         _ => None,
     }

@@ -1,6 +1,6 @@
 //! What is expected of the trees of a domain and of a problem.
 
-/// A leaf that has to stand at its place.
+/// A leaf that is required at its place.
 #[derive(Clone, Copy, Debug, PartialEq, Eq)]
 pub enum Keyword {
     Define,
@@ -9,7 +9,7 @@ pub enum Keyword {
     Either,
 }
 
-/// What is expected of a tree at its place. `Head` is the head of a node by which that was told from others.
+/// What is expected of a tree at its place. `Head` is the head of a node, which decided what the node is.
 #[derive(Clone, Copy, Debug, PartialEq, Eq)]
 pub enum Role {
     DomainFile,
@@ -34,8 +34,8 @@ pub enum Role {
     Atom,
 }
 
-/// What is expected behind the first members of a node: nothing; any number of trees of one role; a typed list of
-/// these leaves with these types; pairs of a key and a value; or trees that are not looked at.
+/// What is expected after the first members of a node: nothing; any number of trees of one role; a typed list of
+/// these leaves with these types; pairs of a key and a value; or trees that are not read.
 #[derive(Clone, Copy, Debug, PartialEq, Eq)]
 pub enum Rest {
     NoMore,

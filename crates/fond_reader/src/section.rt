@@ -1,9 +1,9 @@
-//! The sections of a file in which no fault stands, by the words that they begin with.
+//! The sections of a file that has no fault, by the words that they begin with.
 
 ghost use Rattle.fond_reader.specs.CleanFiles.{sections_of as sections_of_file};
 ghost use Rattle.fond_reader.specs.Files.{has_head, headed, content, contents};
 ghost use Rattle.fond_reader.specs.Forms.{is_word as is_word_leaf};
-ghost use Rattle.fond_reader.specs.Words.{leaf_of};
+ghost use Rattle.fond_tree.specs.Trees.{leaf_of};
 ghost use Rattle.std.specs.Prelude.{◌≡◌, ◌≤◌, length};
 
 use crate::leaves::is_word;
@@ -32,8 +32,8 @@ pub(crate) fn begins(tree: &Tree, word: &[u8]) -> bool
     }
 }
 
-/// The members of a node behind its head.
-pub(crate) fn behind(tree: &Tree) -> &[Tree]
+/// The members of a node after its head.
+pub(crate) fn after(tree: &Tree) -> &[Tree]
     ensures { result.now ≡ content tree.now }
 {
     match tree {
@@ -45,7 +45,7 @@ pub(crate) fn behind(tree: &Tree) -> &[Tree]
     }
 }
 
-/// What stands behind the header of a file.
+/// The members of a file after its header.
 pub(crate) fn sections_of(tree: &Tree) -> &[Tree]
     ensures { result.now ≡ sections_of_file tree.now }
 {
@@ -58,14 +58,14 @@ pub(crate) fn sections_of(tree: &Tree) -> &[Tree]
     }
 }
 
-/// What stands behind this head in the section that has it, or nothing where none has it.
+/// The members after this head in the section that has it, or none if no section has it.
 pub(crate) fn contents_of<'a>(sections: &'a [Tree], word: &[u8]) -> &'a [Tree]
     requires { length (headed word.now sections.now) ≤ 1 }
     ensures { result.now ≡ contents word.now sections.now }
 {
     for section in sections {
         if begins(section, word) {
-            return behind(section);
+            return after(section);
         }
     }
     &[]

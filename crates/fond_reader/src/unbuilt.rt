@@ -1,13 +1,13 @@
-//! The forms that are not built yet.
+//! The forms that are not supported yet.
 
-ghost use Rattle.fond_reader.specs.Roles.{has_more as has_more_members, is_term as is_term_word, is_leaf_of, has_term as has_term_behind, has_parameter as has_parameter_behind, condition_operator as condition_operator_of, effect_operator as effect_operator_of, initial_operator as initial_operator_of, is_unbuilt_form, is_headed_by, is_unbuilt as is_unbuilt_node};
-ghost use Rattle.fond_reader.specs.Words.{front as front_of, is_name as is_name_word, is_variable as is_variable_word};
+ghost use Rattle.fond_reader.specs.Roles.{has_more as has_more_members, is_leaf_of as is_leaf_that, names_with as names_with_leaf, test_of, has_term as has_term_of, condition_operator as condition_operator_of, effect_operator as effect_operator_of, initial_operator as initial_operator_of, is_unbuilt_form, is_headed_by, is_unbuilt as is_unbuilt_node};
+ghost use Rattle.fond_tree.specs.Trees.{front as front_of};
 ghost use Rattle.std.specs.List.{list_any};
 ghost use Rattle.std.specs.Prelude.{◌≡◌, ◌∷◌, [], codes};
 
-use crate::leaves::{front, is_name, is_term, is_variable, is_word};
+use crate::leaves::{is_name, is_term, is_variable, is_word};
 use crate::role::Role;
-use fond_tree::tree::Tree;
+use fond_tree::tree::{Tree, front};
 
 /// Whether a node has more members than one.
 fn has_more(members: &[Tree]) -> bool
@@ -16,68 +16,57 @@ fn has_more(members: &[Tree]) -> bool
     members.len() > 1
 }
 
-/// Whether a tree is a name.
-fn is_name_leaf(tree: &Tree) -> bool
-    ensures { result ≡ is_leaf_of is_name_word tree.now }
+/// The sorts of leaves that are told apart.
+#[derive(Clone, Copy)]
+enum Sort {
+    Name,
+    Variable,
+    Term,
+}
+
+/// Whether a leaf is of a sort.
+fn is_of(sort: Sort, leaf: &[u8]) -> bool
+    ensures { result ≡ test_of sort leaf.now }
+{
+    match sort {
+        Sort::Name => is_name(leaf),
+        Sort::Variable => is_variable(leaf),
+        Sort::Term => is_term(leaf),
+    }
+}
+
+/// Whether a tree is a leaf of a sort.
+fn is_leaf_of(sort: Sort, tree: &Tree) -> bool
+    ensures { result ≡ is_leaf_that (test_of sort) tree.now }
 {
     match tree {
-        Tree::Leaf(_, name) => is_name(name.bytes()),
+        Tree::Leaf(_, name) => is_of(sort, name.bytes()),
         Tree::Node(_, _) => false,
     }
 }
 
-/// Whether a tree is a term.
-fn is_term_leaf(tree: &Tree) -> bool
-    ensures { result ≡ is_leaf_of is_term_word tree.now }
+/// Whether some tree is a leaf of a sort.
+fn has_leaf(sort: Sort, trees: &[Tree]) -> bool
+    ensures { result ≡ list_any (is_leaf_that (test_of sort)) trees.now }
 {
-    match tree {
-        Tree::Leaf(_, name) => is_term(name.bytes()),
-        Tree::Node(_, _) => false,
+    trees.iter().any(|tree| is_leaf_of(sort, tree))
+}
+
+/// Whether members are a name and, after it, some leaf of a sort.
+fn names_with(sort: Sort, members: &[Tree]) -> bool
+    ensures { result ≡ names_with_leaf (test_of sort) members.now }
+{
+    match members {
+        [] => false,
+        [head, after @ ..] => is_leaf_of(Sort::Name, head) && has_leaf(sort, after),
     }
-}
-
-/// Whether a tree is a variable.
-fn is_variable_leaf(tree: &Tree) -> bool
-    ensures { result ≡ is_leaf_of is_variable_word tree.now }
-{
-    match tree {
-        Tree::Leaf(_, name) => is_variable(name.bytes()),
-        Tree::Node(_, _) => false,
-    }
-}
-
-/// Whether some tree is a term.
-fn has_term_leaf(trees: &[Tree]) -> bool
-    ensures { result ≡ list_any (is_leaf_of is_term_word) trees.now }
-{
-    trees.iter().any(|tree| is_term_leaf(tree))
-}
-
-/// Whether some tree is a variable.
-fn has_variable_leaf(trees: &[Tree]) -> bool
-    ensures { result ≡ list_any (is_leaf_of is_variable_word) trees.now }
-{
-    trees.iter().any(|tree| is_variable_leaf(tree))
 }
 
 /// Whether the node of these members is an atom with a term.
 fn has_term(members: &[Tree]) -> bool
-    ensures { result ≡ has_term_behind members.now }
+    ensures { result ≡ has_term_of members.now }
 {
-    match members {
-        [] => false,
-        [head, behind @ ..] => is_name_leaf(head) && has_term_leaf(behind),
-    }
-}
-
-/// Whether it is a predicate with a parameter.
-fn has_parameter(members: &[Tree]) -> bool
-    ensures { result ≡ has_parameter_behind members.now }
-{
-    match members {
-        [] => false,
-        [head, behind @ ..] => is_name_leaf(head) && has_variable_leaf(behind),
-    }
+    names_with(Sort::Term, members)
 }
 
 /// Whether a section has the head of types or of constants.
@@ -100,7 +89,7 @@ fn declares_in_problem(members: &[Tree]) -> bool
     }
 }
 
-/// Whether an operator of a condition is not built yet, if it is one.
+/// Whether an operator of a condition is not supported yet, if it is one.
 fn condition_operator(head: &[u8]) -> Option<bool>
     ensures { result ≡ condition_operator_of head.now }
 {
@@ -117,7 +106,7 @@ fn condition_operator(head: &[u8]) -> Option<bool>
     }
 }
 
-/// Whether an operator of an effect is not built yet, if it is one.
+/// Whether an operator of an effect is not supported yet, if it is one.
 fn effect_operator(is_whole: bool, head: &[u8]) -> Option<bool>
     ensures { result ≡ effect_operator_of is_whole head.now }
 {
@@ -132,7 +121,7 @@ fn effect_operator(is_whole: bool, head: &[u8]) -> Option<bool>
     }
 }
 
-/// Whether a condition is not built yet.
+/// Whether a condition is not supported yet.
 fn is_unbuilt_condition(members: &[Tree]) -> bool
     ensures { result ≡ is_unbuilt_form condition_operator_of members.now }
 {
@@ -145,7 +134,7 @@ fn is_unbuilt_condition(members: &[Tree]) -> bool
     }
 }
 
-/// Whether an effect is not built yet.
+/// Whether an effect is not supported yet.
 fn is_unbuilt_effect(is_whole: bool, members: &[Tree]) -> bool
     ensures { result ≡ is_unbuilt_form (effect_operator_of is_whole) members.now }
 {
@@ -158,7 +147,7 @@ fn is_unbuilt_effect(is_whole: bool, members: &[Tree]) -> bool
     }
 }
 
-/// Whether an initial atom is not built yet.
+/// Whether an initial atom is not supported yet.
 fn is_unbuilt_initial(members: &[Tree]) -> bool
     ensures { result ≡ is_unbuilt_form initial_operator_of members.now }
 {
@@ -168,30 +157,20 @@ fn is_unbuilt_initial(members: &[Tree]) -> bool
     }
 }
 
-/// Whether the node of these members is of a form that is not built yet.
+/// Whether the node of these members is of a form that is not supported yet.
 pub fn is_unbuilt(role: Role, members: &[Tree]) -> bool
     ensures { result ≡ is_unbuilt_node role members.now }
 {
     match role {
         Role::DomainSection => declares_in_domain(members) && has_more(members),
         Role::ProblemSection => declares_in_problem(members) && has_more(members),
-        Role::Predicate => has_parameter(members),
+        Role::Predicate => names_with(Sort::Variable, members),
         Role::Atom => has_term(members),
         Role::Parameters => members.len() > 0,
         Role::Condition => is_unbuilt_condition(members),
         Role::WholeEffect => is_unbuilt_effect(true, members),
         Role::Effect => is_unbuilt_effect(false, members),
         Role::Initial => is_unbuilt_initial(members),
-        Role::DomainFile
-        | Role::ProblemFile
-        | Role::Word(_)
-        | Role::Header(_)
-        | Role::Head
-        | Role::Name
-        | Role::Variable
-        | Role::Term
-        | Role::Key
-        | Role::Variables
-        | Role::VariableType => false,
+        _ => false,
     }
 }

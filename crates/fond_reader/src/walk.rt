@@ -1,9 +1,9 @@
-//! Going over the members of a node, one by one, with what is expected of each of them. A walk takes no memory: it
-//! knows what is left to expect, and looks at each member once, and at whether one stands behind it.
+//! A walk over the members of a node that says what is expected of each of them. It takes no memory: it keeps what is
+//! left to expect, and reads each member once, and whether another one follows it.
 
 ghost use Rattle.fond_reader.specs.Parts.{typed, rest_parts, shape_parts, expected_parts, value_role as value_role_of};
 ghost use Rattle.fond_reader.specs.Walks.{seen, part_if, rest_left, parts_left};
-ghost use Rattle.fond_reader.specs.Words.{leaf_of as leaf_of_tree};
+ghost use Rattle.fond_tree.specs.Trees.{leaf_of as leaf_of_tree};
 ghost use Rattle.fond_tree.specs.declared.tree.Tree.{Tree as TreeValue};
 ghost use Rattle.std.specs.Prelude.{◌≡◌, ◌∷◌, ◌++◌, List, option_map, option_and_then};
 
@@ -12,13 +12,13 @@ use crate::leaves::{is_dash, is_word};
 use crate::role::{Rest, Role};
 use fond_tree::tree::Tree;
 
-/// What is expected of the members behind the first ones.
+/// What is expected of the members after the first ones.
 #[derive(Clone, Copy)]
-enum Left {
-    /// They are not looked at.
+enum Pending {
+    /// Members that are not read.
     Unread,
     Each(Role),
-    /// A typed list of these leaves with these types, and whether a leaf without a type stands before what is left.
+    /// A typed list of these leaves with these types, and whether it is left after a leaf without a type.
     Typed(Role, Role, bool),
     /// A type, and then a typed list of these leaves with these types.
     TypeNext(Role, Role),
@@ -32,10 +32,10 @@ enum Left {
 #[derive(Clone, Copy)]
 pub struct Walk {
     first: &'static [Role],
-    left: Left,
+    left: Pending,
 }
 
-/// What is expected of the value of a key, where it is looked at.
+/// What is expected of the value of a key, if it is read.
 fn value_role(key: &[u8]) -> Option<Role>
     ensures { result ≡ value_role_of key.now }
 {
@@ -50,8 +50,8 @@ fn value_role(key: &[u8]) -> Option<Role>
     }
 }
 
-/// What is expected of the tree behind a key, where it is looked at.
-fn role_behind(key: &Tree) -> Option<Role>
+/// What is expected of the tree after a key, if it is read.
+fn role_after(key: &Tree) -> Option<Role>
     ensures { result ≡ option_and_then value_role_of (leaf_of_tree key.now) }
 {
     match key {
@@ -60,60 +60,60 @@ fn role_behind(key: &Tree) -> Option<Role>
     }
 }
 
-/// What is expected at first of the members behind the first ones.
-fn rest_of(rest: Rest) -> Left
+/// What is expected at first of the members after the first ones.
+fn rest_of(rest: Rest) -> Pending
     ensures { (trees : List TreeValue) → rest_left result trees ≡ rest_parts rest trees }
 {
     match rest {
-        Rest::Each(role) => Left::Each(role),
-        Rest::Typed(leaf, types) => Left::Typed(leaf, types, false),
-        Rest::Pairs => Left::Key,
-        Rest::NoMore | Rest::Unread => Left::Unread,
+        Rest::Each(role) => Pending::Each(role),
+        Rest::Typed(leaf, types) => Pending::Typed(leaf, types, false),
+        Rest::Pairs => Pending::Key,
+        Rest::NoMore | Rest::Unread => Pending::Unread,
     }
 }
 
-impl Left {
-    /// What is expected of the next tree of a typed list: nothing where it is a `-` that fits.
+impl Pending {
+    /// What is expected of the next tree of a typed list: nothing if it is a `-` that fits.
     fn next_typed(
         &mut self,
         leaf: Role,
         types: Role,
         untyped: bool,
         tree: &Tree,
-        behind: &[Tree],
+        after: &[Tree],
     ) -> Option<Role>
-        ensures { typed leaf types untyped (tree.now ∷ behind.now) ≡ part_if result tree.now ++ rest_left self.new behind.now }
+        ensures { typed leaf types untyped (tree.now ∷ after.now) ≡ part_if result tree.now ++ rest_left self.new after.now }
     {
         let dash = is_dash(tree);
-        if untyped && dash && !behind.is_empty() {
-            *self = Left::TypeNext(leaf, types);
+        if untyped && dash && !after.is_empty() {
+            *self = Pending::TypeNext(leaf, types);
             None
         } else {
-            *self = Left::Typed(leaf, types, !dash);
+            *self = Pending::Typed(leaf, types, !dash);
             Some(leaf)
         }
     }
 
-    /// What is expected of the next tree, where it is looked at.
-    fn next(&mut self, tree: &Tree, behind: &[Tree]) -> Option<Role>
-        ensures { rest_left self.old (tree.now ∷ behind.now) ≡ part_if result tree.now ++ rest_left self.new behind.now }
+    /// What is expected of the next tree, if it is read.
+    fn next(&mut self, tree: &Tree, after: &[Tree]) -> Option<Role>
+        ensures { rest_left self.old (tree.now ∷ after.now) ≡ part_if result tree.now ++ rest_left self.new after.now }
     {
         match *self {
-            Left::Unread => None,
-            Left::Each(role) => Some(role),
-            Left::Typed(leaf, types, untyped) => self.next_typed(
-                leaf, types, untyped, tree, behind,
+            Pending::Unread => None,
+            Pending::Each(role) => Some(role),
+            Pending::Typed(leaf, types, untyped) => self.next_typed(
+                leaf, types, untyped, tree, after,
             ),
-            Left::TypeNext(leaf, types) => {
-                *self = Left::Typed(leaf, types, false);
+            Pending::TypeNext(leaf, types) => {
+                *self = Pending::Typed(leaf, types, false);
                 Some(types)
             }
-            Left::Key => {
-                *self = Left::Value(role_behind(tree));
+            Pending::Key => {
+                *self = Pending::Value(role_after(tree));
                 Some(Role::Key)
             }
-            Left::Value(role) => {
-                *self = Left::Key;
+            Pending::Value(role) => {
+                *self = Pending::Key;
                 role
             }
         }
@@ -139,21 +139,21 @@ impl Walk {
             Some(Expected::Members(shape)) => Walk::over_shape(shape),
             Some(Expected::Refused(_)) | None => Walk {
                 first: &[],
-                left: Left::Unread,
+                left: Pending::Unread,
             },
         }
     }
 
-    /// What is expected of the next tree, where it is looked at.
-    pub fn next(&mut self, tree: &Tree, behind: &[Tree]) -> Option<Role>
-        ensures { parts_left self.old (tree.now ∷ behind.now) ≡ part_if result tree.now ++ parts_left self.new behind.now }
+    /// What is expected of the next tree, if it is read.
+    pub fn next(&mut self, tree: &Tree, after: &[Tree]) -> Option<Role>
+        ensures { parts_left self.old (tree.now ∷ after.now) ≡ part_if result tree.now ++ parts_left self.new after.now }
     {
         match self.first {
             [role, rest @ ..] => {
                 self.first = rest;
                 Some(*role)
             }
-            [] => self.left.next(tree, behind),
+            [] => self.left.next(tree, after),
         }
     }
 }

@@ -1,2 +1,3 @@
 pub mod Digits
+pub mod Earliest
 pub mod Numerals

@@ -1,11 +1,12 @@
--- The tokens that spell trees may stand where a tree may, and they close as many parentheses as they open.
+-- The tokens that spell a tree may occur where a tree may, and they close as many parentheses as they open.
 use Rattle.std.proofs.Common.{◌≡◌, ℕ, ◌+◌, ◌-◌, ◌≤◌, ◌<◌, Bool, true, cond, List, [], ◌∷◌, ◌++◌, length, refl, sym, ◌∙◌, ap, arith, append_assoc, append-nil, subst}
 use Rattle.std.specs.List.{count_by, flat_map}
 use Rattle.std.proofs.lemmas.List.Sums.{sum_by-append}
+use Rattle.fond_text.specs.declared.code.TheConstants.{DEEPEST}
 use Rattle.fond_text.specs.declared.place.Place.{Place}
 use Rattle.fond_tree.specs.Faults.{is_opening, is_closing, opened, closed, AreRight}
-use Rattle.fond_tree.specs.Marks.{Mark}
-use Rattle.fond_tree.specs.Reading.{tokens_of, AreWithin}
+use Rattle.fond_tree.specs.Marks.{Mark, tokens_of}
+use Rattle.fond_tree.specs.Reading.{AreWithin}
 use Rattle.fond_tree.specs.Spelling.{spelling, depth, depth_step}
 use Rattle.fond_tree.specs.Tokens.{Token, Opens, Closes, Names}
 use Rattle.fond_tree.specs.declared.tree.Tree.{Tree, Leaf, Node', Row_of-Tree, end_of-Tree, more_of-Tree, items-the_row-Tree, items_shown-the_row-Tree-0}
@@ -21,7 +22,7 @@ depth-Node' place shape row =
     ∙ ap (λ trees. 1 + depths trees) (items_shown-the_row-Tree-0 shape row)
 
 mutual
-  tree_may : (tree : Tree) (begun : Bool) (level : ℕ) (rest : List Token) → (begun ≡ true → 0 < level) → level + depth tree ≤ 128 → AllMayStand true level rest → AllMayStand begun level (spelling tree ++ rest)
+  tree_may : (tree : Tree) (begun : Bool) (level : ℕ) (rest : List Token) → (begun ≡ true → 0 < level) → level + depth tree ≤ DEEPEST → AllMayStand true level rest → AllMayStand begun level (spelling tree ++ rest)
   tree_may (Leaf place name) begun level rest free small may = subst (λ (ts : List Token). AllMayStand begun level (ts ++ rest)) (sym (spelling-Leaf place name)) (free, may)
   tree_may (Node' place shape row) begun level rest free small may =
       let deep = depth-Node' place shape row in
@@ -31,25 +32,25 @@ mutual
       subst (λ (ts : List Token). AllMayStand begun level (ts ++ rest)) (sym (spelling-Node' place shape row))
       ((free, omega (arith, small, deep)), subst (AllMayStand true (level + 1)) (sym (append_assoc (row_spelling row) (Closes ∷ []) rest)) members)
 
-  row_may : {n : _} (row : Row_of-Tree n) (level left : ℕ) (rest : List Token) → 0 < level → level + left ≤ 128 → AreWithin left (items-the_row-Tree n row) → AllMayStand true level rest →
+  row_may : {n : _} (row : Row_of-Tree n) (level left : ℕ) (rest : List Token) → 0 < level → level + left ≤ DEEPEST → AreWithin left (items-the_row-Tree n row) → AllMayStand true level rest →
       AllMayStand true level (row_spelling row ++ rest)
   row_may end_of-Tree level left rest some small all may = may
   row_may (more_of-Tree tree row) level left rest some small all may =
       subst (AllMayStand true level) (sym (append_assoc (spelling tree) (row_spelling row) rest))
       (tree_may tree true level (row_spelling row ++ rest) (λ e. some) (omega (arith, all.0)) (row_may row level left rest some small all.1 may))
 
-trees_may : (trees : List Tree) (level left : ℕ) → 0 < level → level + left ≤ 128 → AreWithin left trees → AllMayStand true level (flat_map spelling trees)
+trees_may : (trees : List Tree) (level left : ℕ) → 0 < level → level + left ≤ DEEPEST → AreWithin left trees → AllMayStand true level (flat_map spelling trees)
 trees_may [] level left some small all = tt
 trees_may (tree ∷ trees) level left some small all = tree_may tree true level (flat_map spelling trees) (λ e. some) (omega (arith, all.0)) (trees_may trees level left some small all.1)
 
--- behind tokens that are right, those of a tree are right
-pub tree_right : (tree : Tree) (before front : List Mark) (begun : Bool) (level : ℕ) → AreRight before → IsOpen before begun level → (begun ≡ true → 0 < level) → level + depth tree ≤ 128 →
+-- after tokens that are right, those of a tree are right
+pub tree_right : (tree : Tree) (before front : List Mark) (begun : Bool) (level : ℕ) → AreRight before → IsOpen before begun level → (begun ≡ true → 0 < level) → level + depth tree ≤ DEEPEST →
     tokens_of front ≡ spelling tree → AreRight (before ++ front)
 tree_right tree before front begun level right o free small spelled =
     right_join before front begun level right o (subst (AllMayStand begun level) (append-nil (spelling tree) ∙ sym spelled) (tree_may tree begun level [] free small tt))
 
--- behind tokens that are right, where a parenthesis is open, those of trees are right
-pub trees_right : (trees : List Tree) (before front : List Mark) (level left : ℕ) → AreRight before → IsOpen before true level → 0 < level → level + left ≤ 128 → AreWithin left trees →
+-- after tokens that are right and leave a parenthesis open, those of trees are right
+pub trees_right : (trees : List Tree) (before front : List Mark) (level left : ℕ) → AreRight before → IsOpen before true level → 0 < level → level + left ≤ DEEPEST → AreWithin left trees →
     tokens_of front ≡ flat_map spelling trees → AreRight (before ++ front)
 trees_right trees before front level left right o some small all spelled =
     right_join before front true level right o (subst (AllMayStand true level) (sym spelled) (trees_may trees level left some small all))

@@ -1,12 +1,11 @@
--- What is read where pieces follow one another: leaves, nodes, and members along the way.
+-- What is read from pieces in order: leaves, nodes, and members along the way.
 use Rattle.std.proofs.Common.{◌≡◌, ℕ, ◌-◌, ◌≤◌, ◌<◌, List, [], ◌∷◌, ◌++◌, refl, sym, ◌∙◌, ap, arith, Vec, Global, append_assoc, append-nil, subst, length}
 use Rattle.std.specs.List.{flat_map}
 use Rattle.std.proofs.lemmas.List.{length-append, length-map, map-append}
 use Rattle.std.proofs.lemmas.List.Concat.{flat_map-append}
 use Rattle.fond_text.specs.declared.place.Place.{Place}
-use Rattle.fond_tree.specs.Left.{marked}
-use Rattle.fond_tree.specs.Marks.{Mark}
-use Rattle.fond_tree.specs.Reading.{tokens_of, AreWithin, ReadsTree, ReadsForest}
+use Rattle.fond_tree.specs.Marks.{Mark, marked, tokens_of}
+use Rattle.fond_tree.specs.Reading.{AreWithin, ReadsTree, ReadsForest}
 use Rattle.fond_tree.specs.Spelling.{spelling}
 use Rattle.fond_tree.specs.Tokens.{Opens, Closes, Names}
 use Rattle.fond_tree.specs.declared.tree.Tree.{Tree}
@@ -30,7 +29,7 @@ node_read left place members old mid new some opened r = record {
   deep = subst (λ d. d ≤ left) (sym (depth-Node place members)) (omega (arith, within_from (left - 1) 0 members.items (omega arith) r.deep));
 }
 
--- some trees were read, and the tokens behind them are left
+-- some trees were read, and the tokens after them are left
 pub record Along (left : ℕ) (old : List Mark) (trees : List Tree) (now : List Mark) : Type 0 where
   pub front : List Mark
   pub split : old ≡ front ++ now

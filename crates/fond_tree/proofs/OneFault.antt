@@ -1,5 +1,6 @@
 -- Two faults of one text are the same.
 use Rattle.std.proofs.Common.{◌≡◌, ℕ, ◌+◌, ◌≤◌, ◌<◌, List, [], ◌∷◌, ◌++◌, sym, ◌∙◌, ap, ◌⊎◌, inl, inr, arith, append-nil, subst}
+use Rattle.fond_text.specs.declared.code.TheConstants.{DEEPEST, UNCLOSED, NO_TREE}
 use Rattle.fond_text.specs.declared.place.Place.{Place}
 use Rattle.fond_text.specs.Places.{place_after}
 use Rattle.fond_tree.specs.Faults.{opened, closed, IsFaulty, IsWhole, IsTokenFault, IsEndFault, IsTextFault}
@@ -8,8 +9,8 @@ use Rattle.fond_tree.specs.Tokens.{Token, Opens, Closes, Names, Stray}
 use Rattle.fond_tree.specs.Unique.{EachTextHasOneFault}
 use Rattle.fond_tree.proofs.Right.{split}
 
--- behind a whole tree nothing is open, so nothing there is too deep
-whole_shallow : (before : List Mark) → IsWhole before → closed before + 128 ≤ opened before → ⊥
+-- after a whole tree nothing is open, so nothing there is too deep
+whole_shallow : (before : List Mark) → IsWhole before → closed before + DEEPEST ≤ opened before → ⊥
 whole_shallow before whole deep = absurd (omega (arith, whole.1, deep))
 
 -- a token is faulty in one way
@@ -22,43 +23,43 @@ one_code before Closes code number f g = f.1 ∙ sym g.1
 one_code before (Names at bytes) code number f g = f.1 ∙ sym g.1
 one_code before Stray code number f g = f ∙ sym g
 
--- of two tokens, each faulty behind tokens that are right, neither stands before the other
+-- two tokens, each faulty after tokens that are right, are at one place
 one_token : (tokens : List Mark) (place other : Place) (code number : ℕ) → IsTokenFault tokens place code → IsTokenFault tokens other number → (place ≡ other) × (code ≡ number)
-one_token tokens place other code number f g = at_split (split f.before (f.mark ∷ f.after) g.before g.mark g.after (sym f.split ∙ g.split)) where
+one_token tokens place other code number f g = at_split (split f.before (f.item ∷ f.after) g.before g.item g.after (sym f.split ∙ g.split)) where
   heads : (x y : Mark) (some more : List Mark) → x ∷ some ≡ y ∷ more → x ≡ y
   heads x y some more e = cc
 
-  at_rest : (rest : List Mark) → g.before ≡ f.before ++ rest → f.mark ∷ f.after ≡ rest ++ g.mark ∷ g.after → (place ≡ other) × (code ≡ number)
+  at_rest : (rest : List Mark) → g.before ≡ f.before ++ rest → f.item ∷ f.after ≡ rest ++ g.item ∷ g.after → (place ≡ other) × (code ≡ number)
   at_rest [] front back =
-      let same : f.mark ≡ g.mark = heads f.mark g.mark f.after g.after back in
-      let there : IsFaulty f.before g.mark.token code = subst (λ (m : Mark). IsFaulty f.before m.token code) same f.faulty in
-      let here : IsFaulty f.before g.mark.token number = subst (λ (ms : List Mark). IsFaulty ms g.mark.token number) (front ∙ append-nil f.before) g.faulty in
-      (f.place_is ∙ ap (λ (m : Mark). m.at) same ∙ sym g.place_is, one_code f.before g.mark.token code number there here)
+      let same : f.item ≡ g.item = heads f.item g.item f.after g.after back in
+      let there : IsFaulty f.before g.item.token code = subst (λ (m : Mark). IsFaulty f.before m.token code) same f.has.1 in
+      let here : IsFaulty f.before g.item.token number = subst (λ (ms : List Mark). IsFaulty ms g.item.token number) (front ∙ append-nil f.before) g.has.1 in
+      (f.has.2 ∙ ap (λ (m : Mark). m.at) same ∙ sym g.has.2, one_code f.before g.item.token code number there here)
   at_rest (x ∷ rest) front back =
-      let same : f.mark ≡ x = heads f.mark x f.after (rest ++ g.mark ∷ g.after) back in
-      absurd (g.right f.before f.mark rest code (front ∙ ap (λ (m : Mark). f.before ++ m ∷ rest) (sym same)) f.faulty)
+      let same : f.item ≡ x = heads f.item x f.after (rest ++ g.item ∷ g.after) back in
+      absurd (g.has.0 f.before f.item rest code (front ∙ ap (λ (m : Mark). f.before ++ m ∷ rest) (sym same)) f.has.1)
 
-  at_split : ((rest : List Mark) × (f.before ≡ g.before ++ g.mark ∷ rest)) ⊎ ((rest : List Mark) × (g.before ≡ f.before ++ rest) × (f.mark ∷ f.after ≡ rest ++ g.mark ∷ g.after)) →
+  at_split : ((rest : List Mark) × (f.before ≡ g.before ++ g.item ∷ rest)) ⊎ ((rest : List Mark) × (g.before ≡ f.before ++ rest) × (f.item ∷ f.after ≡ rest ++ g.item ∷ g.after)) →
       (place ≡ other) × (code ≡ number)
-  at_split (inl h) = absurd (f.right g.before g.mark h.0 number h.1 g.faulty)
+  at_split (inl h) = absurd (f.has.0 g.before g.item h.0 number h.1 g.has.1)
   at_split (inr h) = at_rest h.0 h.1 h.2
 
--- where no token is, nothing is open
+-- without a token nothing is open
 none_open : (tokens : List Mark) → closed tokens < opened tokens → tokens ≡ [] → ⊥
 none_open [] h e = absurd (omega (arith, h))
 none_open (mark ∷ tokens) h e = absurd cc
 
 -- an end is faulty in one way
-end_code : (tokens : List Mark) (code number : ℕ) → ((closed tokens < opened tokens) × (code ≡ 3)) ⊎ ((tokens ≡ []) × (code ≡ 6)) →
-    ((closed tokens < opened tokens) × (number ≡ 3)) ⊎ ((tokens ≡ []) × (number ≡ 6)) → code ≡ number
+end_code : (tokens : List Mark) (code number : ℕ) → ((closed tokens < opened tokens) × (code ≡ UNCLOSED)) ⊎ ((tokens ≡ []) × (code ≡ NO_TREE)) →
+    ((closed tokens < opened tokens) × (number ≡ UNCLOSED)) ⊎ ((tokens ≡ []) × (number ≡ NO_TREE)) → code ≡ number
 end_code tokens code number (inl f) (inl g) = f.1 ∙ sym g.1
 end_code tokens code number (inl f) (inr g) = absurd (none_open tokens f.0 g.0)
 end_code tokens code number (inr f) (inl g) = absurd (none_open tokens g.0 f.0)
 end_code tokens code number (inr f) (inr g) = f.1 ∙ sym g.1
 
--- no token is faulty where the end is
+-- a text with a fault at its end has no faulty token
 apart : (tokens : List Mark) (end place other : Place) (code number : ℕ) → IsTokenFault tokens place code → IsEndFault tokens end other number → ⊥
-apart tokens end place other code number f g = g.right f.before f.mark f.after code f.split f.faulty
+apart tokens end place other code number f g = g.right f.before f.item f.after code f.split f.has.1
 
 -- a text that is not too long has one fault
 one_within : (tokens : List Mark) (end place other : Place) (code number : ℕ) → IsTokenFault tokens place code ⊎ IsEndFault tokens end place code →

@@ -37,7 +37,7 @@ apart place at name more rest e = cc
 ends : (more rest : List Token) → Closes ∷ more ≡ Closes ∷ rest → more ≡ rest
 ends more rest e = cc
 
--- an equation between two spellings with what stands behind them, at their first tokens
+-- an equation between two spellings and what follows them, at their first tokens
 at_spellings : {one two spelled_one spelled_two : List Token} (more rest : List Token) → one ≡ spelled_one → two ≡ spelled_two → one ++ more ≡ two ++ rest → spelled_one ++ more ≡ spelled_two ++ rest
 at_spellings more rest p q e = sym (ap (λ ts. ts ++ more) p) ∙ e ∙ ap (λ ts. ts ++ rest) q
 
@@ -51,8 +51,8 @@ mutual
   alike (Node' place shape members) (Leaf at other) more rest e = absurd (apart at place other rest _ (sym (at_spellings more rest (spelling-Node' place shape members) (spelling-Leaf at other) e)))
   alike (Node' place shape members) (Node' at form others) more rest e =
       let inner = nodes place at _ _ (at_spellings more rest (spelling-Node' place shape members) (spelling-Node' at form others) e) in
-      let behind = all_alike members others more rest (regroup (row_spelling members) (Closes ∷ []) (row_spelling others) (Closes ∷ []) more rest inner.1) in
-      ((inner.0, behind.0), behind.1)
+      let after = all_alike members others more rest (regroup (row_spelling members) (Closes ∷ []) (row_spelling others) (Closes ∷ []) more rest inner.1) in
+      ((inner.0, after.0), after.1)
 
   all_alike : {m n : _} (row : Row_of-Tree m) (others : Row_of-Tree n) (more rest : List Token) → row_spelling row ++ Closes ∷ more ≡ row_spelling others ++ Closes ∷ rest → AreAlike row others × (more ≡ rest)
   all_alike end_of-Tree end_of-Tree more rest e = (tt, ends more rest e)
@@ -63,8 +63,8 @@ mutual
   all_alike (more_of-Tree tree row) (more_of-Tree other others) more rest e =
       let first = alike tree other (row_spelling row ++ Closes ∷ more) (row_spelling others ++ Closes ∷ rest)
       (regroup (spelling tree) (row_spelling row) (spelling other) (row_spelling others) (Closes ∷ more) (Closes ∷ rest) e) in
-      let behind = all_alike row others more rest first.1 in
-      ((first.0, behind.0), behind.1)
+      let after = all_alike row others more rest first.1 in
+      ((first.0, after.0), after.1)
 
 pub one_tree_lem : EachTextSpellsOneTree
 one_tree_lem text tree other spelled also = (alike tree other [] [] (ap (λ ts. ts ++ []) (sym spelled ∙ also))).0

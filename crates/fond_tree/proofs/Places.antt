@@ -1,4 +1,4 @@
--- Which tokens the rest of a text has and where it ends, byte by byte.
+-- The tokens of the rest of a text and the place of its end, byte by byte.
 use Rattle.std.proofs.Common.{◌≡◌, ℕ, ◌+◌, ◌≤◌, ◌==◌, Bool, true, false, not, cond, if◌then◌else◌, ◌||◌, List, [], ◌∷◌, ◌++◌, map, take, drop, reverse, length, refl, sym, ◌∙◌, ap, arith, add-zero, suc, ◌⊎◌, inl, inr, ◌≢◌, subst, ◌<◌, append_assoc, append-nil}
 use Rattle.std.proofs.lemmas.Bool.{true≢false}
 use Rattle.std.proofs.lemmas.Bool.Decides.{nat_tests}
@@ -11,9 +11,9 @@ use Rattle.fond_text.specs.Name.{IsLeaf}
 use Rattle.fond_text.specs.Bytes.{line_feed, opening, closing, semicolon, is_blank, is_leaf_byte, lower}
 use Rattle.fond_text.specs.Places.{place_after}
 use Rattle.fond_text.specs.declared.place.Place.{Place}
-use Rattle.fond_tree.specs.Marks.{Mark, marks_behind}
-use Rattle.fond_tree.specs.Tokens.{Token, Opens, Closes, Names, Stray, Behind, Gap, Leaf, Comment, behind_byte, begun_behind}
-use Rattle.fond_tree.specs.Left.{behind_at, begun_in, marked, marks_at, end_at, goes_on, EndsGap, BeginsLeaf, BeginsUnclosed}
+use Rattle.fond_tree.specs.Marks.{Mark, marked, marks_after}
+use Rattle.fond_tree.specs.Tokens.{Token, Opens, Closes, Names, Stray, Context, Gap, Leaf, Comment, context_after, begun_in}
+use Rattle.fond_tree.specs.Left.{next_place, marks_at, end_at, goes_on, EndsGap, BeginsLeaf, BeginsUnclosed}
 
 length-after_last : {X : Type 0} (p : X → Bool) (xs : List X) → length (after_last p xs) ≡ suffix_len (λ x. not (p x)) xs
 length-after_last {X} p xs =
@@ -24,7 +24,7 @@ length-after_last {X} p xs =
 suffix_len-push : {X : Type 0} (q : X → Bool) (xs : List X) (x : X) → suffix_len q (xs ++ x ∷ []) ≡ cond (q x) (1 + suffix_len q xs) 0
 suffix_len-push q xs x = ap (prefix_len q) (reverse-append xs (x ∷ []))
 
--- a column and a line behind one more byte, where the byte ends a line or not
+-- the column and the line after one more byte, which ends a line or does not
 column_more : (xs : List ℕ) (b : ℕ) (v : Bool) → (b == line_feed) ≡ v →
     1 + length (after_last (λ b. b == line_feed) (xs ++ b ∷ [])) ≡ cond v 1 (1 + length (after_last (λ b. b == line_feed) xs) + 1)
 column_more xs b v e =
@@ -43,38 +43,32 @@ line_more xs b v e =
     ap (λ n. 1 + n) (fold-push (λ (a x : ℕ). a + cond (x == line_feed) 1 0) 0 xs b ∙ ap (λ v. count_by (λ b. b == line_feed) xs + cond v 1 0) e)
     ∙ elim v as (λ v. 1 + (count_by (λ b. b == line_feed) xs + cond v 1 0) ≡ cond v (1 + count_by (λ b. b == line_feed) xs + 1) (1 + count_by (λ b. b == line_feed) xs)) [ true ↦ omega arith | false ↦ omega arith ]
 
-pub place_more : (xs : List ℕ) (b : ℕ) → place_after (xs ++ b ∷ []) ≡ behind_at b (place_after xs)
+pub place_more : (xs : List ℕ) (b : ℕ) → place_after (xs ++ b ∷ []) ≡ next_place b (place_after xs)
 place_more xs b = at_test (b == line_feed) refl where
-  at_test : (v : Bool) → (b == line_feed) ≡ v → place_after (xs ++ b ∷ []) ≡ behind_at b (place_after xs)
+  at_test : (v : Bool) → (b == line_feed) ≡ v → place_after (xs ++ b ∷ []) ≡ next_place b (place_after xs)
   at_test true e = rw e (λ i. record { line = line_more xs b true e i; column = column_more xs b true e i })
   at_test false e = rw e (λ i. record { line = line_more xs b false e i; column = column_more xs b false e i })
 
-begun_same : (behind : Behind) (before : List ℕ) (b : ℕ) (rest : List ℕ) → begun_behind behind before b rest ≡ begun_in behind (place_after before) b rest
-begun_same Gap before b rest = refl
-begun_same Leaf before b rest = refl
-begun_same Comment before b rest = refl
-
-pub same_marks : (behind : Behind) (before rest : List ℕ) → marks_behind behind before rest ≡ marks_at behind (place_after before) rest
+pub same_marks : (context : Context) (before rest : List ℕ) → marks_after context before rest ≡ marks_at context (place_after before) rest
 unfolding marks_at
-same_marks behind before [] = refl
-same_marks behind before (b ∷ rest) =
-    ap (λ front. map (marked (place_after before)) front ++ marks_behind (behind_byte behind b) (before ++ b ∷ []) rest) (begun_same behind before b rest)
-    ∙ ap (λ back. map (marked (place_after before)) (begun_in behind (place_after before) b rest) ++ back)
-    (same_marks (behind_byte behind b) (before ++ b ∷ []) rest ∙ ap (λ place. marks_at (behind_byte behind b) place rest) (place_more before b))
+same_marks context before [] = refl
+same_marks context before (b ∷ rest) =
+    ap (λ later. map (marked (place_after before)) (begun_in context (place_after before) b rest) ++ later)
+    (same_marks (context_after context b) (before ++ b ∷ []) rest ∙ ap (λ place. marks_at (context_after context b) place rest) (place_more before b))
 
 pub same_end : (before rest : List ℕ) → end_at (place_after before) rest ≡ place_after (before ++ rest)
 unfolding end_at
 same_end before [] = ap place_after (sym (append-nil before))
 same_end before (b ∷ rest) = ap (λ place. end_at place rest) (sym (place_more before b)) ∙ same_end (before ++ b ∷ []) rest ∙ ap place_after (append_assoc before (b ∷ []) rest)
 
--- what a byte in a comment or in a gap stands behind
-abbrev pub gap_or_comment : Bool → Behind
+-- the context inside a comment, and that of a gap
+abbrev pub gap_or_comment : Bool → Context
 gap_or_comment true = Comment
 gap_or_comment false = Gap
 
-pub no_marks : (behind : Behind) (place : Place) → marks_at behind place [] ≡ []
+pub no_marks : (context : Context) (place : Place) → marks_at context place [] ≡ []
 unfolding marks_at
-no_marks behind place = refl
+no_marks context place = refl
 
 blank_apart : (b : ℕ) → is_blank b ≡ true → (b == semicolon ≡ false) × (is_leaf_byte b ≡ false)
 blank_apart b e = grind (arith, nat_tests)
@@ -88,24 +82,24 @@ or_swaps true false v e = e
 or_swaps false true v e = e
 or_swaps false false v e = e
 
-gap_step : (behind : Behind) (place : Place) (b : ℕ) (rest : List ℕ) → (is_blank b || b == semicolon) ≡ true → behind_byte Gap b ≡ behind →
-    marks_at Gap place (b ∷ rest) ≡ marks_at behind (behind_at b place) rest
+gap_step : (context : Context) (place : Place) (b : ℕ) (rest : List ℕ) → (is_blank b || b == semicolon) ≡ true → context_after Gap b ≡ context →
+    marks_at Gap place (b ∷ rest) ≡ marks_at context (next_place b place) rest
 unfolding marks_at
-gap_step behind place b rest e f = rw (e, f) refl
+gap_step context place b rest e f = rw (e, f) refl
 
--- what a blank or a semicolon outside a comment stands before
-behind_gap : (b : ℕ) (v : Bool) → (b == semicolon) ≡ v → (v || is_blank b) ≡ true → behind_byte Gap b ≡ gap_or_comment v
-behind_gap b true s e = rw s refl
-behind_gap b false s e = rw ((blank_apart b e).1, s) refl
+-- the context after a blank or a semicolon outside a comment
+gap_context : (b : ℕ) (v : Bool) → (b == semicolon) ≡ v → (v || is_blank b) ≡ true → context_after Gap b ≡ gap_or_comment v
+gap_context b true s e = rw s refl
+gap_context b false s e = rw ((blank_apart b e).1, s) refl
 
 -- a byte of a gap or a comment begins no token
 pub skips : (in_comment : Bool) (place : Place) (b : ℕ) (rest : List ℕ) → (goes_on in_comment b || is_blank b) ≡ true →
-    marks_at (gap_or_comment in_comment) place (b ∷ rest) ≡ marks_at (gap_or_comment (goes_on in_comment b)) (behind_at b place) rest
+    marks_at (gap_or_comment in_comment) place (b ∷ rest) ≡ marks_at (gap_or_comment (goes_on in_comment b)) (next_place b place) rest
 unfolding marks_at
 skips true place b rest e =
-    elim (b == line_feed) as (λ v. marks_at (if v then Gap else Comment) (behind_at b place) rest ≡ marks_at (gap_or_comment (not v)) (behind_at b place) rest) [ true ↦ refl | false ↦ refl ]
+    elim (b == line_feed) as (λ v. marks_at (if v then Gap else Comment) (next_place b place) rest ≡ marks_at (gap_or_comment (not v)) (next_place b place) rest) [ true ↦ refl | false ↦ refl ]
 skips false place b rest e =
-    gap_step (gap_or_comment (b == semicolon)) place b rest (or_swaps (b == semicolon) (is_blank b) true e) (behind_gap b (b == semicolon) refl e)
+    gap_step (gap_or_comment (b == semicolon)) place b rest (or_swaps (b == semicolon) (is_blank b) true e) (gap_context b (b == semicolon) refl e)
 
 -- the place so many bytes to the right
 abbrev pub right : Place → ℕ → Place
@@ -153,12 +147,12 @@ end_run_at true place b rest e further =
     ∙ λ i. end_at (record { line = place.line; column = same i }) (sym (drop_one (prefix_len is_leaf_byte rest) b rest) i)
 end_run_at false place b rest e further = λ i. end_at (record { line = place.line; column = sym (add-zero place.column) i }) (b ∷ rest)
 
--- behind the bytes of a leaf the end is the same
+-- after the bytes of a leaf the end is the same
 pub end_run : (place : Place) (rest : List ℕ) → end_at place rest ≡ end_at (right place (prefix_len is_leaf_byte rest)) (drop (prefix_len is_leaf_byte rest) rest)
 end_run place [] = λ i. end_at (record { line = place.line; column = sym (add-zero place.column) i }) []
 end_run place (b ∷ rest) = end_run_at (is_leaf_byte b) place b rest refl (end_run (right place 1) rest)
 
--- what a leaf's first byte begins, and what is left behind the leaf
+-- the token of a leaf, and what is left after it
 pub leaf_begins : (place : Place) (bytes : List ℕ) (b : ℕ) (rest : List ℕ) → bytes ≡ b ∷ rest → is_leaf_byte b ≡ true →
     marks_at Gap place bytes ≡ marked place (Names place (map lower (take_while is_leaf_byte bytes))) ∷ marks_at Gap (right place (prefix_len is_leaf_byte bytes)) (drop (prefix_len is_leaf_byte bytes) bytes)
 leaf_begins place bytes b rest f e =
@@ -176,7 +170,7 @@ name_at : ℕ → List ℕ → List ℕ
 name_at b rest = map lower (take_while is_leaf_byte (b ∷ rest))
 
 further_at : Place → ℕ → List ℕ → List Mark
-further_at place b rest = marks_at (behind_byte Gap b) (behind_at b place) rest
+further_at place b rest = marks_at (context_after Gap b) (next_place b place) rest
 
 first_begins : (place : Place) (b : ℕ) (rest : List ℕ) → EndsGap (b ∷ rest) → marks_at Gap place (b ∷ rest) ≡ marked place (first_at place b rest) ∷ further_at place b rest
 unfolding marks_at further_at name_at
@@ -195,17 +189,17 @@ pub nothing_left : (place : Place) (text : List ℕ) → length text ≡ 0 → m
 nothing_left place [] e = no_marks Gap place
 nothing_left place (b ∷ rest) e = absurd (omega (arith, e))
 
-pub opens : (old new : Place) (b : ℕ) (before rest now : List ℕ) → before ≡ b ∷ rest → b ≡ 40 → new ≡ behind_at b old → now ≡ rest →
+pub opens : (old new : Place) (b : ℕ) (before rest now : List ℕ) → before ≡ b ∷ rest → b ≡ 40 → new ≡ next_place b old → now ≡ rest →
     marks_at Gap old before ≡ marked old (Opens old) ∷ marks_at Gap new now
 unfolding marks_at
 opens old new b before rest now split is at left = rw (split, at, left, is) refl
 
-pub closes : (old new : Place) (b : ℕ) (before rest now : List ℕ) → before ≡ b ∷ rest → b ≡ 41 → new ≡ behind_at b old → now ≡ rest →
+pub closes : (old new : Place) (b : ℕ) (before rest now : List ℕ) → before ≡ b ∷ rest → b ≡ 41 → new ≡ next_place b old → now ≡ rest →
     marks_at Gap old before ≡ marked old Closes ∷ marks_at Gap new now
 unfolding marks_at
 closes old new b before rest now split is at left = rw (split, at, left, is) refl
 
--- what is left begins with no closing parenthesis, where another byte stands first
+-- what is left begins with no closing parenthesis, if another byte is first
 pub not_closing : (place : Place) (b : ℕ) (before rest : List ℕ) → before ≡ b ∷ rest → EndsGap before → b ≢ 41 → BeginsUnclosed (marks_at Gap place before)
 unfolding name_at
 not_closing place b before rest split ends other =
@@ -219,7 +213,7 @@ not_closing place b before rest split ends other =
       at_tests false false false name f e = cc
 
 -- any other byte outside a gap is stray
-pub strays : (old new : Place) (b : ℕ) (before rest now : List ℕ) → before ≡ b ∷ rest → EndsGap before → b ≢ 40 → b ≢ 41 → is_leaf_byte b ≡ false → new ≡ behind_at b old → now ≡ rest →
+pub strays : (old new : Place) (b : ℕ) (before rest now : List ℕ) → before ≡ b ∷ rest → EndsGap before → b ≢ 40 → b ≢ 41 → is_leaf_byte b ≡ false → new ≡ next_place b old → now ≡ rest →
     marks_at Gap old before ≡ marked old Stray ∷ marks_at Gap new now
 unfolding marks_at
 strays old new b before rest now split ends no_opening no_closing no_leaf at left =
@@ -229,7 +223,7 @@ strays old new b before rest now split ends no_opening no_closing no_leaf at lef
     let closes : (b == closing) ≡ false = grind (arith, nat_tests) in
     rw (split, at, left, no_leaf, blank, opens, closes, gap.1) refl
 
--- the longest run of a leaf's bytes is a leaf, where there is one
+-- the longest run of leaf bytes is a leaf, unless it is empty
 run_is_leaf : (text : List ℕ) → BeginsLeaf text → IsLeaf (take_while is_leaf_byte text)
 run_is_leaf [] begins = absurd begins
 run_is_leaf (b ∷ rest) begins = (some, λ k d lt. rw (get_or-take _ (b ∷ rest) k d (within k lt)) (prefix_len_passes is_leaf_byte (b ∷ rest) k d (within k lt))) where
@@ -263,12 +257,12 @@ leaf_end place text bytes rest n counted front back =
     let long : length bytes ≡ prefix_len is_leaf_byte text = ap length run ∙ length-prefix_len is_leaf_byte text in
     rw (long, left) (sym (end_run place text))
 
--- a step leaves the end where it is
-pub end_step : (old new : Place) (b : ℕ) (before rest now : List ℕ) → before ≡ b ∷ rest → new ≡ behind_at b old → now ≡ rest → end_at new now ≡ end_at old before
+-- a step does not move the end
+pub end_step : (old new : Place) (b : ℕ) (before rest now : List ℕ) → before ≡ b ∷ rest → new ≡ next_place b old → now ≡ rest → end_at new now ≡ end_at old before
 unfolding end_at
 end_step old new b before rest now split at left = rw (split, at, left) refl
 
--- where nothing is left, the end is here
+-- if nothing is left, the end is here
 pub at_end : (place : Place) (text : List ℕ) → length text ≡ 0 → end_at place text ≡ place
 unfolding end_at
 at_end place [] e = refl
@@ -276,7 +270,7 @@ at_end place (b ∷ rest) e = absurd (omega (arith, e))
 
 -- a step over a byte of a gap or a comment
 pub goes_over : (c r : Bool) (b : ℕ) (old new : Place) (before now rest : List ℕ) → before ≡ b ∷ rest → r ≡ goes_on c b → (r ≡ true) ⊎ (is_blank b ≡ true) →
-    new ≡ behind_at b old → now ≡ rest → marks_at (gap_or_comment r) new now ≡ marks_at (gap_or_comment c) old before
+    new ≡ next_place b old → now ≡ rest → marks_at (gap_or_comment r) new now ≡ marks_at (gap_or_comment c) old before
 goes_over c r b old new before now rest split is gap at left =
     rw (split, is, at, left) (sym (skips c old b rest (rw (← is) (either r (is_blank b) gap)))) where
       either : (x y : Bool) → (x ≡ true) ⊎ (y ≡ true) → (x || y) ≡ true
@@ -284,7 +278,7 @@ goes_over c r b old new before now rest split is gap at left =
       either false y (inl h) = absurd (true≢false (sym h))
       either false y (inr h) = h
 
--- what is left behind a gap that went to the end
+-- a gap that goes to the end leaves no tokens
 pub all_over : (c : Bool) (old start : Place) (before text : List ℕ) → length before ≡ 0 → marks_at (gap_or_comment c) old before ≡ marks_at Gap start text → marks_at Gap old before ≡ marks_at Gap start text
 all_over c old start [] text e same = no_marks Gap old ∙ sym (no_marks (gap_or_comment c) old) ∙ same
 all_over c old start (b ∷ rest) text e same = absurd (omega (arith, e))

@@ -1,32 +1,32 @@
--- Tokens that are right behind others, by how many parentheses are open there.
+-- Tokens that are right after others, by the number of open parentheses.
 use Rattle.std.proofs.Common.{◌≡◌, ◌≢◌, ℕ, ◌+◌, ◌-◌, ◌<◌, Bool, true, false, cond, List, [], ◌∷◌, ◌++◌, refl, sym, ◌∙◌, ap, ◌⊎◌, inl, inr, arith, append_assoc, append-nil, subst}
 use Rattle.std.proofs.lemmas.List.Sums.{sum_by-append}
+use Rattle.fond_text.specs.declared.code.TheConstants.{DEEPEST}
 use Rattle.fond_tree.specs.Faults.{is_opening, is_closing, opened, closed, IsFaulty, AreRight}
-use Rattle.fond_tree.specs.Marks.{Mark}
-use Rattle.fond_tree.specs.Reading.{tokens_of}
+use Rattle.fond_tree.specs.Marks.{Mark, tokens_of}
 use Rattle.fond_tree.specs.Tokens.{Token, Opens, Closes, Names, Stray}
 use Rattle.fond_tree.proofs.Places.{fold-push}
 
--- a token may stand where so many parentheses are open, at the beginning of a text or behind other tokens
+-- a token may occur with this many parentheses open, at the beginning of a text or after other tokens
 abbrev pub MayStand : Bool → ℕ → Token → Type 0
-MayStand begun level (Opens at) = (begun ≡ true → 0 < level) × (level < 128)
+MayStand begun level (Opens at) = (begun ≡ true → 0 < level) × (level < DEEPEST)
 MayStand begun level Closes = 0 < level
 MayStand begun level (Names at bytes) = begun ≡ true → 0 < level
 MayStand begun level Stray = ⊥
 
--- how many parentheses are open behind a token
-abbrev pub open_behind : ℕ → Token → ℕ
-open_behind level (Opens at) = level + 1
-open_behind level Closes = level - 1
-open_behind level (Names at bytes) = level
-open_behind level Stray = level
+-- the number of open parentheses after a token
+abbrev pub open_after : ℕ → Token → ℕ
+open_after level (Opens at) = level + 1
+open_after level Closes = level - 1
+open_after level (Names at bytes) = level
+open_after level Stray = level
 
--- each of these tokens may stand behind those before it
+-- each of these tokens may follow those before it
 abbrev pub AllMayStand : Bool → ℕ → List Token → Type 0
 AllMayStand begun level [] = Unit {0}
-AllMayStand begun level (token ∷ more) = MayStand begun level token × AllMayStand true (open_behind level token) more
+AllMayStand begun level (token ∷ more) = MayStand begun level token × AllMayStand true (open_after level token) more
 
--- what stands before: whether it is anything, and how many parentheses are open behind it
+-- the tokens before: whether there are any, and how many parentheses they leave open
 pub record IsOpen (before : List Mark) (begun : Bool) (level : ℕ) : Type 0 where
   pub some : before ≢ [] → begun ≡ true
   pub counted : opened before ≡ closed before + level
@@ -43,7 +43,7 @@ opened-push xs mark = fold-push (λ (n : ℕ) (m : Mark). n + cond (is_opening m
 pub closed-push : (xs : List Mark) (mark : Mark) → closed (xs ++ mark ∷ []) ≡ closed xs + cond (is_closing mark.token) 1 0
 closed-push xs mark = fold-push (λ (n : ℕ) (m : Mark). n + cond (is_closing m.token) 1 0) 0 xs mark
 
--- a token that may stand is not faulty
+-- a token that may occur is not faulty
 unfaulty : (before : List Mark) (begun : Bool) (level : ℕ) (token : Token) (code : ℕ) → IsOpen before begun level → MayStand begun level token → IsFaulty before token code → ⊥
 unfaulty before begun level (Opens at) code o may (inl whole) = absurd (omega (arith, o.counted, whole.0.1, may.0 (o.some whole.0.0)))
 unfaulty before begun level (Opens at) code o may (inr deep) = absurd (omega (arith, o.counted, deep.0, may.1))
@@ -51,28 +51,28 @@ unfaulty before begun level Closes code o may faulty = absurd (omega (arith, o.c
 unfaulty before begun level (Names at bytes) code o may faulty = absurd (omega (arith, o.counted, faulty.0.1, may (o.some faulty.0.0)))
 unfaulty before begun level Stray code o may faulty = may
 
-open_more : (begun : Bool) (level o c : ℕ) (token : Token) → o ≡ c + level → MayStand begun level token → o + cond (is_opening token) 1 0 ≡ c + cond (is_closing token) 1 0 + open_behind level token
+open_more : (begun : Bool) (level o c : ℕ) (token : Token) → o ≡ c + level → MayStand begun level token → o + cond (is_opening token) 1 0 ≡ c + cond (is_closing token) 1 0 + open_after level token
 open_more begun level o c (Opens at) e may = omega arith
 open_more begun level o c Closes e may = omega arith
 open_more begun level o c (Names at bytes) e may = omega arith
 open_more begun level o c Stray e may = absurd may
 
-opens_more : (before : List Mark) (begun : Bool) (level : ℕ) (mark : Mark) → IsOpen before begun level → MayStand begun level mark.token → IsOpen (before ++ mark ∷ []) true (open_behind level mark.token)
+opens_more : (before : List Mark) (begun : Bool) (level : ℕ) (mark : Mark) → IsOpen before begun level → MayStand begun level mark.token → IsOpen (before ++ mark ∷ []) true (open_after level mark.token)
 opens_more before begun level mark o may = record {
   some = λ e. refl;
-  counted = opened-push before mark ∙ open_more begun level (opened before) (closed before) mark.token o.counted may ∙ ap (λ n. n + open_behind level mark.token) (sym (closed-push before mark));
+  counted = opened-push before mark ∙ open_more begun level (opened before) (closed before) mark.token o.counted may ∙ ap (λ n. n + open_after level mark.token) (sym (closed-push before mark));
 }
 
--- none of the tokens that may stand behind these is faulty
+-- none of the tokens that may follow these is faulty
 none_faulty : (front : List Mark) (before : List Mark) (begun : Bool) (level : ℕ) (mark : Mark) (after : List Mark) (code : ℕ) →
     IsOpen before begun level → AllMayStand begun level (tokens_of (front ++ mark ∷ after)) → IsFaulty (before ++ front) mark.token code → ⊥
 none_faulty [] before begun level mark after code o may faulty =
     unfaulty before begun level mark.token code o may.0 (subst (λ (marks : List Mark). IsFaulty marks mark.token code) (append-nil before) faulty)
 none_faulty (x ∷ front) before begun level mark after code o may faulty =
-    none_faulty front (before ++ x ∷ []) true (open_behind level x.token) mark after code (opens_more before begun level x o may.0) may.1
+    none_faulty front (before ++ x ∷ []) true (open_after level x.token) mark after code (opens_more before begun level x o may.0) may.1
     (subst (λ (marks : List Mark). IsFaulty marks mark.token code) (sym (append_assoc before (x ∷ []) front)) faulty)
 
--- where an element of two lists stands: in the first or in the second
+-- an item of two lists is in the first or in the second
 pub split : (xs ys front : List Mark) (mark : Mark) (after : List Mark) → xs ++ ys ≡ front ++ mark ∷ after →
     ((rest : List Mark) × (xs ≡ front ++ mark ∷ rest)) ⊎ ((rest : List Mark) × (front ≡ xs ++ rest) × (ys ≡ rest ++ mark ∷ after))
 split [] ys front mark after e = inr (front, refl, e)
@@ -86,7 +86,7 @@ split (x ∷ xs) ys (y ∷ front) mark after e = let heads = both x y _ _ e in f
   further same (inl h) = let e = h.1 in inl (h.0, cc)
   further same (inr h) = let e = h.1 in inr (h.0, cc, h.2)
 
--- tokens that may stand behind tokens that are right are right
+-- tokens that may follow tokens that are right are right
 pub right_join : (before front : List Mark) (begun : Bool) (level : ℕ) → AreRight before → IsOpen before begun level → AllMayStand begun level (tokens_of front) → AreRight (before ++ front)
 right_join before front begun level right o may some mark after code e faulty = at_split (split before front some mark after e) where
   at_split : ((rest : List Mark) × (before ≡ some ++ mark ∷ rest)) ⊎ ((rest : List Mark) × (some ≡ before ++ rest) × (front ≡ rest ++ mark ∷ after)) → ⊥

@@ -11,7 +11,7 @@ use Rattle.fond_tree.specs.declared.tree.Tree.TheOpen.{Tree-F, Leaf, Node}
 use Rattle.fond_tree.specs.declared.tree.Tree.TheVariants as made
 use Rattle.fond_tree.specs.declared.tree.Tree.TheFolds.{fold_out-Tree, map-Tree}
 
--- the depth of the deepest
+-- the depth of the deepest tree
 abbrev pub depths : List Tree → ℕ
 depths trees = fold max 0 (map depth trees)
 
@@ -51,7 +51,7 @@ spelling-Node place members =
 pub depth-Node : (place : Place) (members : Vec Tree Global) → depth (made.Node place members) ≡ 1 + depths members.items
 depth-Node place members = fold_out-Tree ℕ depth_step (made.Node place members) ∙ ap (λ x. depth_step (map-Tree Tree ℕ depth x)) (made.outs-Node place members)
 
--- the deepest is within a bound where all are
+-- the deepest tree is within a bound if and only if all are
 pub within_from : (left most : ℕ) (trees : List Tree) → most ≤ left → AreWithin left trees → fold max most (map depth trees) ≤ left
 within_from left most [] small all = small
 within_from left most (t ∷ ts) small all = within_from left (max most (depth t)) ts (omega (arith, all.0)) all.1

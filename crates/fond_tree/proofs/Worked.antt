@@ -1,12 +1,11 @@
--- Texts whose tokens and faults were worked out by hand, computed from the definitions.
+-- The tokens and faults of some texts, worked out by hand and computed from the definitions.
 use Rattle.std.proofs.Common.{◌≡◌, ℕ, ◌<◌, true, false, List, [], ◌∷◌, refl, sym, inl, inr, arith}
 use Rattle.std.specs.Prelude.{codes}
 use Rattle.std.proofs.lemmas.Bool.{true≢false}
 use Rattle.fond_text.specs.declared.place.Place.{Place}
 use Rattle.fond_tree.specs.Faults.{AreRight, IsTextFault}
-use Rattle.fond_tree.specs.Marks.{Mark, marks}
-use Rattle.fond_tree.specs.Reading.{tokens_of}
-use Rattle.fond_tree.specs.Tokens.{Opens, Closes, Names, Stray, tokens}
+use Rattle.fond_tree.specs.Marks.{Mark, marks, tokens, tokens_of}
+use Rattle.fond_tree.specs.Tokens.{Opens, Closes, Names, Stray}
 use Rattle.fond_tree.proofs.Right.{AllMayStand, right_join, right_empty, empty_open}
 
 abbrev at : ℕ → ℕ → Place
@@ -25,7 +24,7 @@ nested : tokens (codes "(a () (b))") ≡
     Opens (at 1 1) ∷ Names (at 1 2) (codes "a") ∷ Opens (at 1 4) ∷ Closes ∷ Opens (at 1 7) ∷ Names (at 1 8) (codes "b") ∷ Closes ∷ Closes ∷ []
 nested = refl
 
--- a leaf alone, behind a blank
+-- a leaf alone, after a blank
 leaf_alone : tokens (codes "\tx") ≡ Names (at 1 2) (codes "x") ∷ []
 leaf_alone = refl
 
@@ -47,37 +46,33 @@ right_front front may = right_join [] front false 0 right_empty empty_open may
 first : {n : ℕ} → false ≡ true → 0 < n
 first e = absurd (true≢false (sym e))
 
--- a stray byte inside a leaf is the fault, whatever stands behind it
+-- a stray byte inside a leaf is the fault, whatever follows it
 stray_byte : IsTextFault (97 ∷ 127 ∷ 41 ∷ []) (at 1 2) 2
 stray_byte = inr (
   omega arith,
   inl (record {
     before = record { at = at 1 1; token = Names (at 1 1) (97 ∷ []) } ∷ [];
-    mark = record { at = at 1 2; token = Stray };
+    item = record { at = at 1 2; token = Stray };
     after = record { at = at 1 3; token = Closes } ∷ [];
     split = refl;
-    right = right_front _ (first, tt);
-    faulty = refl;
-    place_is = refl;
+    has = (right_front _ (first, tt), refl, refl);
   }),
 )
 
--- a leaf is a whole tree, and nothing may be opened behind it
-behind_leaf : IsTextFault (codes "a(") (at 1 2) 4
-behind_leaf = inr (
+-- a leaf is a whole tree, and nothing may be opened after it
+after_leaf : IsTextFault (codes "a(") (at 1 2) 4
+after_leaf = inr (
   omega arith,
   inl (record {
     before = record { at = at 1 1; token = Names (at 1 1) (97 ∷ []) } ∷ [];
-    mark = record { at = at 1 2; token = Opens (at 1 2) };
+    item = record { at = at 1 2; token = Opens (at 1 2) };
     after = [];
     split = refl;
-    right = right_front _ (first, tt);
-    faulty = inl ((λ e. cc, refl), refl);
-    place_is = refl;
+    has = (right_front _ (first, tt), inl ((λ e. cc, refl), refl), refl);
   }),
 )
 
--- a parenthesis is open at the end, which is behind the line feed
+-- a parenthesis is open at the end, which follows the line feed
 unclosed : IsTextFault (40 ∷ 97 ∷ 10 ∷ []) (at 2 1) 3
 unclosed = inr (
   omega arith,

@@ -1,5 +1,5 @@
--- Trees that differ in nothing that one sees: the same places, the same names, members in the same order.
-use Rattle.std.specs.Prelude.{◌≡◌, ℕ, List}
+-- Trees with the same places and the same names, node by node and leaf by leaf.
+use Rattle.std.specs.Prelude.{◌≡◌, ℕ, List, ⊤}
 use Rattle.fond_tree.specs.Spelling.{Spells}
 use Rattle.fond_tree.specs.declared.tree.Tree.{Tree, Leaf, Node', Row_of-Tree, end_of-Tree, more_of-Tree}
 
@@ -12,7 +12,7 @@ abbrev mutual
   IsAlike (Node' place shape members) (Node' at form others) = (place ≡ at) × AreAlike members others
 
   pub AreAlike : {m n : _} → Row_of-Tree m → Row_of-Tree n → Type 0
-  AreAlike end_of-Tree end_of-Tree = Unit {0}
+  AreAlike end_of-Tree end_of-Tree = ⊤
   AreAlike end_of-Tree (more_of-Tree other others) = ⊥
   AreAlike (more_of-Tree tree rest) end_of-Tree = ⊥
   AreAlike (more_of-Tree tree rest) (more_of-Tree other others) = IsAlike tree other × AreAlike rest others

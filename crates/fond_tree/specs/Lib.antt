@@ -3,7 +3,7 @@ pub mod Left
 pub mod Marks
 pub mod Faults
 pub mod Reading
-pub mod Refusal
+pub mod Trees
 pub mod Scanning
 pub mod Spelling
 pub mod Tokens

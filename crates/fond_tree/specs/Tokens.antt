@@ -1,8 +1,7 @@
--- The tokens of a text: parentheses, leaves with their letters lowered, and bytes that may stand only in comments.
-use Rattle.std.specs.Prelude.{ℕ, ◌==◌, ◌||◌, List, [], ◌∷◌, ◌++◌, map, take_while, if◌then◌else◌}
+-- The tokens of a text: parentheses, leaves with their letters lowered, and bytes that are allowed in comments only.
+use Rattle.std.specs.Prelude.{ℕ, ◌==◌, ◌||◌, List, [], ◌∷◌, map, take_while, if◌then◌else◌}
 use Rattle.fond_text.specs.declared.place.Place.{Place}
 use Rattle.fond_text.specs.Bytes.{line_feed, opening, closing, semicolon, is_blank, is_leaf_byte, lower}
-use Rattle.fond_text.specs.Places.{place_after}
 
 -- a token is an opening parenthesis, a closing one, a leaf or a stray byte
 pub data Token : Type 0 where
@@ -11,40 +10,30 @@ pub data Token : Type 0 where
   Names : (at : Place) (bytes : List ℕ) → Token
   Stray : Token
 
--- a byte stands in a gap between leaves and comments, behind a byte of a leaf, or in a comment
-pub data Behind : Type 0 where
-  Gap : Behind
-  Leaf : Behind
-  Comment : Behind
+-- a byte follows a gap between leaves and comments, a byte of a leaf, or a byte of a comment
+pub data Context : Type 0 where
+  Gap : Context
+  Leaf : Context
+  Comment : Context
 
--- what the byte after this one stands behind: a semicolon starts a comment, which runs to the next line feed
-abbrev pub behind_byte : Behind → ℕ → Behind
-behind_byte Gap b = if b == semicolon then Comment else if is_leaf_byte b then Leaf else Gap
-behind_byte Leaf b = if b == semicolon then Comment else if is_leaf_byte b then Leaf else Gap
-behind_byte Comment b = if b == line_feed then Gap else Comment
+-- the context of the byte after this one: a semicolon starts a comment, which ends at the next line feed
+abbrev pub context_after : Context → ℕ → Context
+context_after Gap b = if b == semicolon then Comment else if is_leaf_byte b then Leaf else Gap
+context_after Leaf b = if b == semicolon then Comment else if is_leaf_byte b then Leaf else Gap
+context_after Comment b = if b == line_feed then Gap else Comment
 
--- the token that begins at this byte, of a text in which these bytes stand before it and those behind it: a
--- leaf is the longest run of its bytes, and blanks and semicolons begin none
-abbrev pub begun : List ℕ → ℕ → List ℕ → List Token
-begun before b rest =
+-- the token that begins at this byte, which is at this place, before these bytes: a leaf is the longest run of its
+-- bytes, and no token begins at a blank or a semicolon
+abbrev pub begun : Place → ℕ → List ℕ → List Token
+begun place b rest =
     if is_blank b || b == semicolon then []
-    else if b == opening then Opens (place_after before) ∷ []
+    else if b == opening then Opens place ∷ []
     else if b == closing then Closes ∷ []
-    else if is_leaf_byte b then Names (place_after before) (map lower (take_while is_leaf_byte (b ∷ rest))) ∷ []
+    else if is_leaf_byte b then Names place (map lower (take_while is_leaf_byte (b ∷ rest))) ∷ []
     else Stray ∷ []
 
--- no token begins in a comment, and none inside a leaf
-abbrev pub begun_behind : Behind → List ℕ → ℕ → List ℕ → List Token
-begun_behind Gap before b rest = begun before b rest
-begun_behind Leaf before b rest = if is_leaf_byte b then [] else begun before b rest
-begun_behind Comment before b rest = []
-
--- the tokens of the rest of a text are those that begin at its bytes, in order
-abbrev pub tokens_behind : Behind → List ℕ → List ℕ → List Token
-tokens_behind behind before [] = []
-tokens_behind behind before (b ∷ rest) =
-    begun_behind behind before b rest ++ tokens_behind (behind_byte behind b) (before ++ b ∷ []) rest
-
--- the tokens of a text
-abbrev pub tokens : List ℕ → List Token
-tokens text = tokens_behind Gap [] text
+-- the token that begins at a byte of this context: none begins in a comment, and none inside a leaf
+abbrev pub begun_in : Context → Place → ℕ → List ℕ → List Token
+begun_in Gap place b rest = begun place b rest
+begun_in Leaf place b rest = if is_leaf_byte b then [] else begun place b rest
+begun_in Comment place b rest = []

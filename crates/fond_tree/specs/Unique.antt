@@ -7,7 +7,7 @@ use Rattle.fond_tree.specs.Spelling.{IsReadAs}
 
 -- a text that is read as a tree has no fault as a text
 abbrev pub NoTreeHasAFault : Type 0
-NoTreeHasAFault = (text : List ℕ) (tree : Tree) (place : Place) (code : ℕ) → IsReadAs text tree → IsTextFault text place code → ⊥
+NoTreeHasAFault = (text : List ℕ) (tree : Tree) (place : Place) (code : ℕ) → IsReadAs text tree → ¬ IsTextFault text place code
 
 -- a text has at most one fault as a text
 abbrev pub EachTextHasOneFault : Type 0

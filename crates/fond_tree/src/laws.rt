@@ -1,21 +1,21 @@
-//! What holds of all texts and trees.
+//! Laws of texts and trees.
 
 ghost use Rattle.fond_tree.specs.Alike.{EachTextSpellsOneTree};
 ghost use Rattle.fond_tree.specs.Unique.{EachTextHasOneFault, NoTreeHasAFault};
 
-/// Two trees that one text spells are alike, place by place and leaf by leaf. So the tree that is read of a
-/// text is the one that the text spells.
+/// Two trees that one text spells are alike, place by place and leaf by leaf. So the tree that is read from a text is
+/// the only one that the text spells.
 pub fn one_tree()
     ensures { EachTextSpellsOneTree }
 {}
 
-/// A text that is read as a tree has no fault. So a text is refused exactly where it is read as no tree.
+/// A text that is read as a tree has no fault. So a text is refused if and only if it is read as no tree.
 pub fn no_tree_has_a_fault()
     ensures { NoTreeHasAFault }
 {}
 
-/// Two faults of one text have the same place and the same code. So the fault with which a text is refused is
-/// the only one that stands in it.
+/// Two faults of one text have the same place and the same code. So the fault with which a text is refused is its
+/// only one.
 pub fn one_fault()
     ensures { EachTextHasOneFault }
 {}

@@ -1,16 +1,17 @@
-//! The text from left to right: what is left of it, and the place where that begins.
+//! A scanner: it goes over a text from left to right and yields its tokens with their places.
 
 ghost use Rattle.std.specs.Prelude.{◌≡◌, ◌≤◌, ◌∷◌, length};
 ghost use Rattle.std.specs.List.{prefix_len};
 ghost use Rattle.fond_text.specs.Bytes.{is_leaf_byte};
 ghost use Rattle.fond_text.specs.Places.{place_after};
-ghost use Rattle.fond_tree.specs.Left.{behind_at, goes_on, Fits, EndsGap, BeginsLeaf, TakesClosing};
+ghost use Rattle.fond_text.specs.declared.code.TheConstants.{LONGEST_TEXT};
+ghost use Rattle.fond_tree.specs.Left.{next_place, goes_on, Fits, EndsGap, BeginsLeaf, TakesClosing};
 ghost use Rattle.fond_tree.specs.Marks.{marks};
 
 use fond_text::bytes::is_blank;
 use fond_text::place::Place;
 
-/// What is left of a text, and its place.
+/// The rest of a text, and the place where it begins.
 #[derive(Drop)]
 pub struct Scanner<'a> {
     rest: &'a [u8],
@@ -18,8 +19,8 @@ pub struct Scanner<'a> {
     ghost fits: { Fits place rest.now },
 }
 
-/// A token with its place, a leaf by its bytes, or the end of the text. A byte that may stand only in comments is
-/// stray where it stands outside them.
+/// A token with its place, a leaf with its bytes, or the end of the text. A byte that is allowed in comments only is
+/// stray if it occurs outside them.
 #[derive(Clone, Copy)]
 pub enum Piece<'a> {
     Open(Place),
@@ -29,21 +30,21 @@ pub enum Piece<'a> {
     End(Place),
 }
 
-/// Whether the byte may stand in a leaf: one of the bytes 33 to 126 that is no parenthesis and no semicolon.
+/// Whether a leaf may contain the byte: one of the bytes 33 to 126 that is no parenthesis and no semicolon.
 fn is_leaf_byte(b: u8) -> bool
     ensures { result ≡ is_leaf_byte b }
 {
     b.is_ascii_graphic() && b != b'(' && b != b')' && b != b';'
 }
 
-/// Whether the byte behind this one is in a comment.
+/// Whether the byte after this one is in a comment.
 fn goes_on(in_comment: bool, b: u8) -> bool
     ensures { result ≡ goes_on in_comment b }
 {
     if in_comment { b != b'\n' } else { b == b';' }
 }
 
-/// How many bytes of a leaf the text begins with.
+/// The length of the longest run of leaf bytes with which the text begins.
 fn leaf_len(b: &[u8]) -> usize
     ensures { result ≡ prefix_len is_leaf_byte b.now }
 {
@@ -53,9 +54,9 @@ fn leaf_len(b: &[u8]) -> usize
 impl<'a> Scanner<'a> {
     ghost use Rattle.fond_tree.specs.Scanning.{marks_left, end_left, Yields};
 
-    /// All of the text.
+    /// A scanner before all of the text.
     pub fn new(text: &'a [u8]) -> Scanner<'a>
-        requires { length text.now ≤ 16777216 }
+        requires { length text.now ≤ LONGEST_TEXT }
         ensures tokens { marks_left result ≡ marks text.now }
         ensures end { end_left result ≡ place_after text.now }
     {
@@ -65,10 +66,10 @@ impl<'a> Scanner<'a> {
         }
     }
 
-    /// Goes behind the next byte, to what is left behind it.
+    /// Takes the next byte, after which these are left.
     fn step(&mut self, b: u8, rest: &'a [u8])
         requires { self.old.rest.now ≡ b ∷ rest.now }
-        ensures place { self.new.place ≡ behind_at b self.old.place }
+        ensures place { self.new.place ≡ next_place b self.old.place }
         ensures rest { self.new.rest.now ≡ rest.now }
     {
         let place = self.place;
@@ -86,7 +87,7 @@ impl<'a> Scanner<'a> {
         self.rest = rest;
     }
 
-    /// Goes over blanks and comments.
+    /// Skips blanks and comments.
     fn skip(&mut self)
         ensures same { marks_left self.new ≡ marks_left self.old }
         ensures end { end_left self.new ≡ end_left self.old }
@@ -102,7 +103,7 @@ impl<'a> Scanner<'a> {
         }
     }
 
-    /// Whether a closing parenthesis is the next token, which is then taken.
+    /// Takes the next token if it is a closing parenthesis, and says whether it was.
     pub fn closes(&mut self) -> bool
         ensures taken { TakesClosing result (marks_left self.old) (marks_left self.new) }
         ensures end { end_left self.new ≡ end_left self.old }
@@ -118,7 +119,7 @@ impl<'a> Scanner<'a> {
         true
     }
 
-    /// The next token, which is taken, or the end.
+    /// Takes the next token, or finds the end.
     pub fn next(&mut self) -> Piece<'a>
         ensures yields { Yields result (marks_left self.old) (end_left self.old) (marks_left self.new) }
         ensures end { end_left self.new ≡ end_left self.old }

@@ -1,5 +1,4 @@
-pub mod Earliest
-pub mod Heads
+pub mod Declared
 pub mod Lists
 pub mod Missing
 pub mod Numbering

@@ -1,5 +1,5 @@
 -- Names beside their numbers, looked up and added to.
-use Rattle.std.proofs.Common.{◌≡◌, ℕ, suc, ◌+◌, ◌<◌, ◌&&◌, ◌||◌, Bool, true, false, List, [], ◌∷◌, ◌++◌, Option, Some, None, is_some, length, nat_lt, slice_index_or, refl, sym, ap, ◌∙◌, arith}
+use Rattle.std.proofs.Common.{◌≡◌, ℕ, suc, ◌+◌, ◌<◌, ◌&&◌, ◌||◌, not, Bool, true, false, List, [], ◌∷◌, ◌++◌, Option, Some, None, is_some, length, nat_lt, slice_index_or, refl, sym, ap, ◌∙◌, arith}
 use Rattle.std.specs.Prelude.{if◌then◌else◌}
 use Rattle.std.specs.Str.{bytes_eq}
 use Rattle.std.specs.Cmp.Lexicographic.{nat_list_eq_equiv}
@@ -12,11 +12,15 @@ use Rattle.fond_types.specs.Indexes.{numbered_from}
 use Rattle.fond_types.specs.Names.{is_among, declared_also}
 use Rattle.fond_types.specs.Resolves.{is_number_of}
 
+pub negated : (a b : Bool) → a ≡ not b → b ≡ not a
+negated a true e = sym (ap not e)
+negated a false e = sym (ap not e)
+
 some_if : (b c : Bool) (number : ℕ) (rest : Option ℕ) → is_some rest ≡ c → is_some (if b then Some number else rest) ≡ (b || c)
 some_if true c number rest e = refl
 some_if false c number rest e = e
 
--- a name has a number exactly where it is one of the names
+-- a name has a number if and only if it is one of the names
 has_number : (number : ℕ) (names : List (List ℕ)) (name : List ℕ) → is_some (number_beside (numbered_from number names) name) ≡ is_among names name
 has_number number [] name = refl
 has_number number (first ∷ names) name =
@@ -24,12 +28,12 @@ has_number number (first ∷ names) name =
     ∙ ap (λ b. b || is_among names name) (nat_list_eq_equiv.symm first name)
 
 -- one more name has the next number
-numbered_behind : (number count : ℕ) (names : List (List ℕ)) (name : List ℕ) → count ≡ number + length names → numbered_from number (names ++ name ∷ []) ≡ numbered_from number names ++ (name, count) ∷ []
-numbered_behind number count [] name e = ap (λ n. (name, n) ∷ []) (omega (arith, e))
-numbered_behind number count (first ∷ names) name e = ap (λ items. (first, number) ∷ items) (numbered_behind (suc number) count names name (omega (arith, e)))
+numbered_after : (number count : ℕ) (names : List (List ℕ)) (name : List ℕ) → count ≡ number + length names → numbered_from number (names ++ name ∷ []) ≡ numbered_from number names ++ (name, count) ∷ []
+numbered_after number count [] name e = ap (λ n. (name, n) ∷ []) (omega (arith, e))
+numbered_after number count (first ∷ names) name e = ap (λ items. (first, number) ∷ items) (numbered_after (suc number) count names name (omega (arith, e)))
 
 module _ (numbers : List (List ℕ × ℕ)) (names : List (List ℕ)) (are : numbers ≡ numbered_from 0 names) (name : List ℕ) where
-  -- so is it where these are the numbers of the names
+  -- a name has one of the numbers of the names if and only if it is one of them
   pub is_there : is_some (number_beside numbers name) ≡ is_among names name
   is_there = ap (λ items. is_some (number_beside items name)) are ∙ has_number 0 names name
 
@@ -37,7 +41,7 @@ module _ (numbers : List (List ℕ × ℕ)) (names : List (List ℕ)) (are : num
   pub declared_there : is_some (number_beside numbers name) ≡ true → declared_also names name ≡ names
   declared_there found = ap (λ b. if b then names else names ++ name ∷ []) (sym is_there ∙ found)
 
-  -- another one stands behind the others
+  -- another name comes after the others
   pub declared_new : is_some (number_beside numbers name) ≡ false → declared_also names name ≡ names ++ name ∷ []
   declared_new none = ap (λ b. if b then names else names ++ name ∷ []) (sym is_there ∙ none)
 
@@ -48,7 +52,7 @@ module _ (numbers : List (List ℕ × ℕ)) (names : List (List ℕ)) (are : num
   pub numbered_new : is_some (number_beside numbers name) ≡ false → (count : ℕ) → count ≡ length names → with_text numbers name count ≡ numbered_from 0 (declared_also names name)
   numbered_new none count counted =
       kept_last numbers name count (not_some (number_beside numbers name) none) ∙ ap (λ items. items ++ (name, count) ∷ []) are
-      ∙ sym (numbered_behind 0 count names name (omega (arith, counted))) ∙ ap (numbered_from 0) (sym (declared_new none))
+      ∙ sym (numbered_after 0 count names name (omega (arith, counted))) ∙ ap (numbered_from 0) (sym (declared_new none))
 
 -- a number that is so much above the first one, and the name at that index
 pub record IsAt (from : ℕ) (names : List (List ℕ)) (name : List ℕ) (number : ℕ) : Type 0 where
@@ -63,10 +67,10 @@ at_first from first names name number true is e later =
     let same : from ≡ number = cc in
     record { at = 0; counted = omega (arith, same); within = omega arith; is = is }
 at_first from first names name number false is e later =
-    let behind = later e in
-    let counted = behind.counted in
-    let within = behind.within in
-    record { at = suc behind.at; counted = omega (arith, counted); within = omega (arith, within); is = behind.is }
+    let found = later e in
+    let counted = found.counted in
+    let within = found.within in
+    record { at = suc found.at; counted = omega (arith, counted); within = omega (arith, within); is = found.is }
 
 -- the number beside a name is its own
 number_within : (from : ℕ) (names : List (List ℕ)) (name : List ℕ) (number : ℕ) → number_beside (numbered_from from names) name ≡ Some number → IsAt from names name number
@@ -82,7 +86,7 @@ number_is numbers names name number are e =
     let within : nat_lt number (length names) ≡ true = grind (arith, nat_tests, same, low) in
     ap (λ b. b && bytes_eq (slice_index_or names number []) name) within ∙ ap (λ n. bytes_eq (slice_index_or names n []) name) same ∙ found.is
 
--- a name is there where it was, or is the one that was kept
+-- a name is there if it was there or is the one that was kept
 pub kept_there : (items : List (List ℕ × ℕ)) (kept : List ℕ) (number : ℕ) (text : List ℕ) → is_some (number_beside (with_text items kept number) text) ≡ (is_some (number_beside items text) || bytes_eq kept text)
 kept_there items kept number text = ap (λ found. is_some found) (number_kept items kept number text) ∙ by (number_beside items text) (bytes_eq kept text)
   where

@@ -1,13 +1,15 @@
--- The earliest of the schemas that have an earlier one's name.
-use Rattle.std.proofs.Common.{◌≡◌, ◌⊎◌, inl, inr, true, false, List, [], ◌∷◌, ◌++◌, Option, Some, None, map, append_assoc, refl, sym, ap, ◌∙◌}
+-- The first of the schemas that have the name of an earlier one.
+use Rattle.std.proofs.Common.{◌≡◌, ◌⊎◌, inl, inr, ℕ, Bool, true, List, [], ◌∷◌, ◌++◌, Option, None, map, append_assoc, refl, sym, ap, ◌∙◌}
+use Rattle.fond_text.specs.declared.code.TheConstants.{REPEATED_NAME}
+use Rattle.fond_text.specs.declared.first.Found.{Found}
 use Rattle.fond_text.specs.declared.place.Place.{Place}
+use Rattle.fond_text.specs.Firsts.{IsFirst, IsEarlier}
 use Rattle.fond_ast.specs.declared.files.Schema.{Schema}
+use Rattle.fond_text.proofs.Earliest.{first_along, first_of_both}
 use Rattle.fond_types.specs.Faults.{IsRepeatedSchema}
 use Rattle.fond_types.specs.Names.{is_among}
-use Rattle.fond_types.specs.Walks.{earlier, IsEarliest}
-use Rattle.fond_types.proofs.Earliest.{earliest_more, earliest_same}
 
--- a list with one element more, cut at an element, is cut at the last one or at one of the list
+-- a list with one item more, cut at an item, is cut at the last one or at one of the list
 record IsCut {X : Type 0} (xs : List X) (last : X) (before : List X) (x : X) (after : List X) : Type 0 where
   pub rest : List X
   pub after_is : after ≡ rest ++ last ∷ []
@@ -26,47 +28,40 @@ cut_pushed (y ∷ xs) last (b ∷ before) x after e =
       | inr cut ↦ inr (record { rest = cut.rest; after_is = cut.after_is; list_is = ap (λ zs. y ∷ zs) cut.list_is ∙ ap (λ z. z ∷ before ++ x ∷ cut.rest) head })
     ]
 
-module _ (schemas : List Schema) (last : Schema) where
-  kept : (place : Place) → IsRepeatedSchema schemas place → IsRepeatedSchema (schemas ++ last ∷ []) place
-  kept place stands = record {
-    before = stands.before;
-    schema = stands.schema;
-    after = stands.after ++ last ∷ [];
-    split = ap (λ all. all ++ last ∷ []) stands.split ∙ append_assoc stands.before (stands.schema ∷ stands.after) (last ∷ []);
-    earlier = stands.earlier;
-    place_is = stands.place_is;
+module _ (schemas : List Schema) (last : Schema) (again : Bool) (is : again ≡ is_among (map (λ other. other.name) schemas) last.name) where
+  over : (place : Place) (code : ℕ) → IsRepeatedSchema schemas place code ⊎ ((again ≡ true) × (place ≡ last.place) × (code ≡ REPEATED_NAME)) → IsRepeatedSchema (schemas ++ last ∷ []) place code
+  over place code (inl h) = record {
+    before = h.before;
+    item = h.item;
+    after = h.after ++ last ∷ [];
+    split = ap (λ all. all ++ last ∷ []) h.split ∙ append_assoc h.before (h.item ∷ h.after) (last ∷ []);
+    has = h.has;
   }
+  over place code (inr h) = record { before = schemas; item = last; after = []; split = refl; has = (sym is ∙ h.0, h.1, h.2) }
 
-  cases : (place : Place) → IsRepeatedSchema (schemas ++ last ∷ []) place → IsRepeatedSchema schemas place ⊎ ((place ≡ last.place) × (is_among (map (λ other. other.name) schemas) last.name ≡ true))
-  cases place stands =
-      elim (cut_pushed schemas last stands.before stands.schema stands.after stands.split) [
-        | inl h ↦ inr (stands.place_is ∙ ap (λ (s : Schema). s.place) (sym h.1), (λ i. is_among (map (λ (other : Schema). other.name) (h.0 i)) (h.1 i).name) ∙ stands.earlier)
+  back : (place : Place) (code : ℕ) → IsRepeatedSchema (schemas ++ last ∷ []) place code → IsRepeatedSchema schemas place code ⊎ ((again ≡ true) × (place ≡ last.place) × (code ≡ REPEATED_NAME))
+  back place code h =
+      elim (cut_pushed schemas last h.before h.item h.after h.split) [
+        | inl same ↦ inr (is ∙ (λ i. is_among (map (λ (other : Schema). other.name) (same.0 i)) (same.1 i).name) ∙ h.has.0, h.has.1 ∙ ap (λ (s : Schema). s.place) (sym same.1), h.has.2)
         | inr cut ↦ inl (record {
-          before = stands.before;
-          schema = stands.schema;
+          before = h.before;
+          item = h.item;
           after = cut.rest;
           split = cut.list_is;
-          earlier = stands.earlier;
-          place_is = stands.place_is;
+          has = h.has;
         })
       ]
 
-  only : (place : Place) → IsRepeatedSchema (schemas ++ last ∷ []) place → IsRepeatedSchema schemas place ⊎ (place ≡ last.place)
-  only place stands = elim (cases place stands) [ inl h ↦ inl h | inr h ↦ inr h.0 ]
+  -- one schema more may be the first that repeats a name
+  pub repeated_more : (one other first : Option Found) → IsFirst (IsRepeatedSchema schemas) one → IsFirst (λ place code. (again ≡ true) × (place ≡ last.place) × (code ≡ REPEATED_NAME)) other → IsEarlier one other first →
+      IsFirst (IsRepeatedSchema (schemas ++ last ∷ [])) first
+  repeated_more one other first p q e =
+      first_along (λ place code. IsRepeatedSchema schemas place code ⊎ ((again ≡ true) × (place ≡ last.place) × (code ≡ REPEATED_NAME))) (IsRepeatedSchema (schemas ++ last ∷ [])) over back first
+      (first_of_both (IsRepeatedSchema schemas) (λ place code. (again ≡ true) × (place ≡ last.place) × (code ≡ REPEATED_NAME)) one other first p q e)
 
-  passed : is_among (map (λ other. other.name) schemas) last.name ≡ false → (place : Place) → IsRepeatedSchema (schemas ++ last ∷ []) place → IsRepeatedSchema schemas place
-  passed new place stands = elim (cases place stands) [ inl h ↦ h | inr h ↦ let other = sym h.1 ∙ new in absurd (cc (other)) ]
-
-  -- one more that repeats a name may be the earliest
-  pub repeated_more : (first : Option Place) → is_among (map (λ other. other.name) schemas) last.name ≡ true → IsEarliest (IsRepeatedSchema schemas) first → IsEarliest (IsRepeatedSchema (schemas ++ last ∷ [])) (Some (earlier first last.place))
-  repeated_more first again found =
-      earliest_more (IsRepeatedSchema schemas) (IsRepeatedSchema (schemas ++ last ∷ [])) last.place kept
-      (record { before = schemas; schema = last; after = []; split = refl; earlier = again; place_is = refl }) only first found
-
-  -- one with a new name changes nothing
-  pub repeated_same : (first : Option Place) → is_among (map (λ other. other.name) schemas) last.name ≡ false → IsEarliest (IsRepeatedSchema schemas) first → IsEarliest (IsRepeatedSchema (schemas ++ last ∷ [])) first
-  repeated_same first new found = earliest_same (IsRepeatedSchema schemas) (IsRepeatedSchema (schemas ++ last ∷ [])) kept (passed new) first found
-
--- among no schemas none repeats a name
-pub repeated_none : IsEarliest (IsRepeatedSchema []) None
-repeated_none place stands = elim stands.before as (λ before. [] ≡ before ++ stands.schema ∷ stands.after → ⊥) [ [] ↦ λ e. cc (e) | b ∷ before ↦ λ e. cc (e) ] stands.split
+-- no schema repeats a name among no schemas
+pub repeated_none : IsFirst (IsRepeatedSchema []) None
+repeated_none = record {
+  one = tt;
+  covers = λ place code h. elim h.before as (λ before. [] ≡ before ++ h.item ∷ h.after → ⊥) [ [] ↦ λ e. cc (e) | b ∷ before ↦ λ e. cc (e) ] h.split;
+}

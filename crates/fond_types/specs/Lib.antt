@@ -3,5 +3,3 @@ pub mod Atoms
 pub mod Faults
 pub mod Resolves
 pub mod Indexes
-pub mod Walks
-pub mod FirstFaults

@@ -8,11 +8,11 @@ use Rattle.fond_ast.specs.declared.files.Domain.{Domain}
 abbrev pub is_among : List (List ℕ) → List ℕ → Bool
 is_among names name = list_any (bytes_eq name) names
 
--- the names with one more, where it does not stand among them
+-- the names with one more, unless it is among them
 abbrev pub declared_also : List (List ℕ) → List ℕ → List (List ℕ)
 declared_also names name = if is_among names name then names else names ++ name ∷ []
 
--- each name once, where it stands first
+-- each name once, at its first occurrence
 abbrev pub first_declared : List (List ℕ) → List (List ℕ)
 first_declared names = fold declared_also [] names
 
@@ -20,6 +20,6 @@ first_declared names = fold declared_also [] names
 abbrev pub predicate_names : Domain → List (List ℕ)
 predicate_names domain = first_declared (map (λ declared. declared.name) domain.predicates)
 
--- the names of a domain's schemas
+-- the names of the schemas of a domain
 abbrev pub schema_names : Domain → List (List ℕ)
 schema_names domain = map (λ schema. schema.name) domain.schemas

@@ -1,4 +1,4 @@
-//! Which predicates are fluent: those of which an effect holds a literal.
+//! Which predicates are fluent: those of which some effect has a literal.
 
 ghost use Rattle.fond_ast.specs.declared.task.LPredicate.{LPredicate};
 ghost use Rattle.fond_types.specs.Resolves.{mentions};
@@ -21,7 +21,7 @@ fn mark_atom(atom: &LAtom, flags: &mut [bool])
     }
 }
 
-/// Sets the flag of each predicate of which the effect holds a literal, and leaves the others.
+/// Sets the flag of each predicate of which the effect has a literal, and leaves the others.
 fn mark(effect: &LEffect, flags: &mut [bool])
     ensures { (number : ℕ) → number < length flags.old → slice_index_or flags.new number false ≡ (slice_index_or flags.old number false || mentions number effect.now) }
 {
@@ -36,7 +36,7 @@ fn mark(effect: &LEffect, flags: &mut [bool])
     }
 }
 
-/// Sets the flag of each predicate of which some schema's effect holds a literal.
+/// Sets the flag of each predicate of which the effect of some schema has a literal.
 fn mark_all(schemas: &LSchemas, flags: &mut [bool])
     ensures { (number : ℕ) → number < length flags.old → slice_index_or flags.new number false ≡ (slice_index_or flags.old number false || list_any (λ schema. mentions number schema.effect) schemas.now) }
 {
@@ -45,7 +45,7 @@ fn mark_all(schemas: &LSchemas, flags: &mut [bool])
     }
 }
 
-/// A flag for each of this many predicates: whether an effect of the schemas holds a literal of it.
+/// A flag for each of this many predicates: whether an effect of the schemas has a literal of it.
 fn fluent_flags(alloc: Global, count: usize, schemas: &LSchemas) -> Result<Vec<bool>, NoMemory>
     ensures { IfOk result (λ flags. (vec_len flags ≡ count) × ((number : ℕ) → number < count → slice_index_or flags.items number false ≡ list_any (λ schema. mentions number schema.effect) schemas.now)) }
 {
@@ -71,7 +71,7 @@ fn with_flags(alloc: Global, names: &Names, flags: &[bool]) -> Result<LPredicate
     Ok(predicates)
 }
 
-/// The predicates of these names, fluent where an effect of the schemas holds a literal of them.
+/// The predicates of these names. One is fluent if an effect of the schemas has a literal of it.
 pub(crate) fn flagged_predicates(
     alloc: Global,
     names: &Names,

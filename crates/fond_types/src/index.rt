@@ -1,11 +1,8 @@
 //! Indexes from names to numbers.
 
-ghost use Rattle.fond_names.specs.Texts.{number_beside};
-ghost use Rattle.fond_types.specs.Indexes.{numbered_from};
+ghost use Rattle.fond_types.specs.Indexes.{numbered_from, IsPositionIndex, IsLeafIndex};
 ghost use Rattle.fond_types.specs.Names.{predicate_names, declared_also};
-ghost use Rattle.std.specs.List.{list_any};
-ghost use Rattle.std.specs.Prelude.{◌≡◌, ◌<◌, ◌^◌, ℕ, List, IfOk, OnOk, length, position, is_some};
-ghost use Rattle.std.specs.Str.{bytes_eq};
+ghost use Rattle.std.specs.Prelude.{◌≡◌, ◌<◌, ◌^◌, IfOk, OnOk, length};
 
 use fond_ast::files::{Domain, Side};
 use fond_names::text_index::TextIndex;
@@ -13,55 +10,58 @@ use fond_text::fault::NoMemory;
 use fond_text::name::{Name, Names};
 use std::alloc::Global;
 
-/// The predicates of a domain, in the order of their first declarations, and their numbers.
+/// The predicates of a domain, in the order of their first declarations. The numbers beside the names are those of
+/// their first declarations.
 #[derive(Drop)]
 pub(crate) struct Predicates {
     pub(crate) names: Names,
     pub(crate) numbers: TextIndex,
+    ghost few: { length names < 2 ^ 32 },
+    ghost numbered: { numbers ≡ numbered_from 0 names },
 }
 
-/// Declares a predicate with the next number, where the name is not declared yet. More than 2^32 - 1 names are not
-/// numbered: no file that is not too long has so many.
-fn declare(alloc: Global, predicates: &mut Predicates, name: &Name) -> Result<(), NoMemory>
-    requires { length predicates.old.names < 2 ^ 32 }
-    ensures few { OnOk result (length predicates.new.names < 2 ^ 32) }
-    ensures named { OnOk result (predicates.old.numbers ≡ numbered_from 0 predicates.old.names → predicates.new.names ≡ declared_also predicates.old.names name.now) }
-    ensures numbered { OnOk result (predicates.old.numbers ≡ numbered_from 0 predicates.old.names → predicates.new.numbers ≡ numbered_from 0 predicates.new.names) }
+/// Declares a predicate with the next number, unless the name is declared already. More than 2^32 - 1 names are not
+/// numbered: no file that is short enough has so many.
+fn declare(
+    alloc: Global,
+    names: &mut Names,
+    numbers: &mut TextIndex,
+    name: &Name,
+) -> Result<(), NoMemory>
+    requires few { length names.old < 2 ^ 32 }
+    requires numbered { numbers.old ≡ numbered_from 0 names.old }
+    ensures few { OnOk result (length names.new < 2 ^ 32) }
+    ensures named { OnOk result (names.new ≡ declared_also names.old name.now) }
+    ensures numbered { OnOk result (numbers.new ≡ numbered_from 0 names.new) }
 {
-    if predicates.numbers.find(name.bytes()).is_some() {
+    if numbers.find(name.bytes()).is_some() {
         return Ok(());
     }
-    let count = predicates.names.len() as u32;
+    let count = names.len() as u32;
     if count == u32::MAX {
         return Err(NoMemory);
     }
-    predicates
-        .numbers
-        .insert(Vec::from_slice(alloc, name.bytes())?, count)?;
-    predicates.names.push(name.copy(alloc)?)?;
+    numbers.insert(Vec::from_slice(alloc, name.bytes())?, count)?;
+    names.push(name.copy(alloc)?)?;
     Ok(())
 }
 
 /// The predicates that a domain declares.
 pub(crate) fn declared_predicates(alloc: Global, d: &Domain) -> Result<Predicates, NoMemory>
-    ensures few { IfOk result (λ predicates. length predicates.names < 2 ^ 32) }
-    ensures named { IfOk result (λ predicates. predicates.names ≡ predicate_names d.now) }
-    ensures numbered { IfOk result (λ predicates. predicates.numbers ≡ numbered_from 0 (predicate_names d.now)) }
+    ensures { IfOk result (λ predicates. predicates.names ≡ predicate_names d.now) }
 {
-    let mut predicates = Predicates {
-        names: Names::new(alloc),
-        numbers: TextIndex::new(alloc),
-    };
+    let mut names = Names::new(alloc);
+    let mut numbers = TextIndex::new(alloc);
     for i in 0..d.predicates.len() {
-        declare(alloc, &mut predicates, &d.predicates.get(i).name)?;
+        declare(alloc, &mut names, &mut numbers, &d.predicates.get(i).name)?;
     }
-    Ok(predicates)
+    Ok(Predicates { names, numbers })
 }
 
-/// The schemas of a domain with their positions, of which the first counts where several have one name. No file that
-/// is not too long has so many that a position is no u32.
+/// The names of the schemas of a domain, each with the position of its first schema. No file that is short enough has
+/// so many schemas that a position is no u32.
 pub(crate) fn schema_positions(alloc: Global, d: &Domain) -> Result<TextIndex, NoMemory>
-    ensures { IfOk result (λ positions. (name : List ℕ) → number_beside positions name ≡ position (λ schema. bytes_eq schema.name name) d.now.schemas) }
+    ensures { IfOk result (λ positions. IsPositionIndex positions d.now.schemas) }
 {
     let mut positions = TextIndex::new(alloc);
     for i in 0..d.schemas.len() {
@@ -74,9 +74,9 @@ pub(crate) fn schema_positions(alloc: Global, d: &Domain) -> Result<TextIndex, N
     Ok(positions)
 }
 
-/// The leaves of a side list.
+/// The names of the leaves of a side list.
 pub(crate) fn side_leaves(alloc: Global, s: &Side) -> Result<TextIndex, NoMemory>
-    ensures { IfOk result (λ leaves. (name : List ℕ) → is_some (number_beside leaves name) ≡ list_any (λ leaf. bytes_eq leaf.name name) s.now.names) }
+    ensures { IfOk result (λ leaves. IsLeafIndex leaves s.now.names) }
 {
     let mut leaves = TextIndex::new(alloc);
     for i in 0..s.names.len() {

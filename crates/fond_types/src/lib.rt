@@ -1,5 +1,6 @@
-//! From declarations to the task over numbers that they stand for, or the first fault of their names. So far there are
-//! no types and no objects: what is left are predicates, schemas and the side list.
+//! From declarations to the task over numbers that they stand for, or the first fault of their names. The crates above
+//! learn that each name was replaced by its number, or which fault of names comes first. Types and objects are not
+//! supported yet: names are those of predicates and schemas.
 #![tactic(auto)]
 
 mod first_fault;

@@ -1,109 +1,97 @@
-//! Atoms whose predicate is not declared.
+//! The first atom whose predicate is not declared.
 
-ghost use Rattle.fond_types.specs.Atoms.{condition_atoms, effect_atoms, domain_atoms, problem_atoms};
-ghost use Rattle.fond_types.specs.Walks.{unknown_step, first_unknown, earlier as earlier_of, is_before as stands_before};
-ghost use Rattle.std.specs.Prelude.{◌≡◌, None};
+ghost use Rattle.fond_text.specs.Firsts.{IsFirst};
+ghost use Rattle.fond_types.specs.Atoms.{condition_atoms, effect_atoms, schema_atoms, domain_atoms, problem_atoms};
+ghost use Rattle.fond_types.specs.Faults.{IsUnknownPredicate};
+ghost use Rattle.std.specs.Prelude.{◌∷◌, []};
 
-use fond_ast::files::{Domain, Problem};
+use crate::index::Predicates;
+use fond_ast::files::{Domain, Problem, Schema};
 use fond_ast::names::ReadAtom;
 use fond_ast::syntax::{Cond, Effect};
-use fond_names::text_index::TextIndex;
-use fond_text::place::Place;
+use fond_text::code::UNKNOWN_PREDICATE;
+use fond_text::first::{Found, earlier, found_if};
 
-/// Whether a place stands before another.
-pub(crate) fn is_before(place: Place, other: Place) -> bool
-    ensures { result ≡ stands_before place other }
+/// The head of an atom, if its predicate is not declared.
+fn of_atom(predicates: &Predicates, atom: &ReadAtom) -> Option<Found>
+    ensures { IsFirst (IsUnknownPredicate predicates.now.names (atom.now ∷ [])) result }
 {
-    place.line < other.line || (place.line == other.line && place.column < other.column)
+    let unknown = predicates.numbers.find(atom.name.bytes()).is_none();
+    found_if(unknown, atom.head, UNKNOWN_PREDICATE)
 }
 
-/// The earlier of a place, if there is one, and another.
-pub(crate) fn earlier(first: Option<Place>, other: Place) -> Place
-    ensures { result ≡ earlier_of first other }
-{
-    match first {
-        Some(place) if !is_before(other, place) => place,
-        _ => other,
-    }
-}
-
-/// The earliest place so far and the head of the atom, where its predicate has no number.
-fn of_atom(numbers: &TextIndex, first: Option<Place>, atom: &ReadAtom) -> Option<Place>
-    ensures { result ≡ unknown_step numbers.now first atom.now }
-{
-    if numbers.find(atom.name.bytes()).is_some() {
-        first
-    } else {
-        Some(earlier(first, atom.head))
-    }
-}
-
-/// The earliest place so far and those of the heads in a condition that have no number.
-fn of_condition(numbers: &TextIndex, first: Option<Place>, condition: &Cond) -> Option<Place>
-    ensures { result ≡ first_unknown numbers.now first (condition_atoms condition.now) }
+/// The first head in a condition that is not declared.
+fn of_condition(predicates: &Predicates, condition: &Cond) -> Option<Found>
+    ensures { IsFirst (IsUnknownPredicate predicates.now.names (condition_atoms condition.now)) result }
 {
     match condition {
-        Cond::Truth | Cond::Equal(_, _) => first,
-        Cond::Holds(atom) => of_atom(numbers, first, atom),
+        Cond::Truth | Cond::Equal(_, _) => None,
+        Cond::Holds(atom) => of_atom(predicates, atom),
         Cond::And(parts) | Cond::Or(parts) => {
-            let mut first = first;
+            let mut first = None;
             for part in parts {
-                first = of_condition(numbers, first, part);
+                first = earlier(first, of_condition(predicates, part));
             }
             first
         }
         Cond::Not(part) | Cond::Forall(_, part) | Cond::Exists(_, part) => {
-            of_condition(numbers, first, part)
+            of_condition(predicates, part)
         }
         Cond::Imply(part, other) => {
-            let first = of_condition(numbers, first, part);
-            of_condition(numbers, first, other)
+            let first = of_condition(predicates, part);
+            earlier(first, of_condition(predicates, other))
         }
     }
 }
 
-/// The earliest place so far and those of the heads in an effect that have no number.
-fn of_effect(numbers: &TextIndex, first: Option<Place>, effect: &Effect) -> Option<Place>
-    ensures { result ≡ first_unknown numbers.now first (effect_atoms effect.now) }
+/// The first head in an effect that is not declared.
+fn of_effect(predicates: &Predicates, effect: &Effect) -> Option<Found>
+    ensures { IsFirst (IsUnknownPredicate predicates.now.names (effect_atoms effect.now)) result }
 {
     match effect {
-        Effect::Nothing => first,
-        Effect::Add(atom) | Effect::Delete(atom) => of_atom(numbers, first, atom),
+        Effect::Nothing => None,
+        Effect::Add(atom) | Effect::Delete(atom) => of_atom(predicates, atom),
         Effect::And(parts) | Effect::OneOf(parts) => {
-            let mut first = first;
+            let mut first = None;
             for part in parts {
-                first = of_effect(numbers, first, part);
+                first = earlier(first, of_effect(predicates, part));
             }
             first
         }
-        Effect::Forall(_, part) => of_effect(numbers, first, part),
+        Effect::Forall(_, part) => of_effect(predicates, part),
         Effect::When(condition, part) => {
-            let first = of_condition(numbers, first, condition);
-            of_effect(numbers, first, part)
+            let first = of_condition(predicates, condition);
+            earlier(first, of_effect(predicates, part))
         }
     }
 }
 
-/// The earliest head in a domain's schemas that has no number.
-pub(crate) fn unknown_in_domain(numbers: &TextIndex, d: &Domain) -> Option<Place>
-    ensures { result ≡ first_unknown numbers.now None (domain_atoms d.now) }
+/// The first head in a schema that is not declared.
+fn of_schema(predicates: &Predicates, schema: &Schema) -> Option<Found>
+    ensures { IsFirst (IsUnknownPredicate predicates.now.names (schema_atoms schema.now)) result }
+{
+    let first = of_condition(predicates, &schema.pre);
+    earlier(first, of_effect(predicates, &schema.effect))
+}
+
+/// The first head in the schemas of a domain that is not declared.
+pub(crate) fn unknown_in_domain(predicates: &Predicates, d: &Domain) -> Option<Found>
+    ensures { IsFirst (IsUnknownPredicate predicates.now.names (domain_atoms d.now)) result }
 {
     let mut first = None;
     for i in 0..d.schemas.len() {
-        let schema = d.schemas.get(i);
-        first = of_condition(numbers, first, &schema.pre);
-        first = of_effect(numbers, first, &schema.effect);
+        first = earlier(first, of_schema(predicates, d.schemas.get(i)));
     }
     first
 }
 
-/// The earliest head in a problem's initial atoms and its goal that has no number.
-pub(crate) fn unknown_in_problem(numbers: &TextIndex, p: &Problem) -> Option<Place>
-    ensures { result ≡ first_unknown numbers.now None (problem_atoms p.now) }
+/// The first head in the initial atoms and the goal of a problem that is not declared.
+pub(crate) fn unknown_in_problem(predicates: &Predicates, p: &Problem) -> Option<Found>
+    ensures { IsFirst (IsUnknownPredicate predicates.now.names (problem_atoms p.now)) result }
 {
     let mut first = None;
     for i in 0..p.init.len() {
-        first = of_atom(numbers, first, &p.init.get(i).atom);
+        first = earlier(first, of_atom(predicates, &p.init.get(i).atom));
     }
-    of_condition(numbers, first, &p.goal)
+    earlier(first, of_condition(predicates, &p.goal))
 }

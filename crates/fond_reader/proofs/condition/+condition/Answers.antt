@@ -2,7 +2,7 @@ use Rattle.std.proofs.Common.{arith, ◌<◌, length}
 use Rattle.std.proofs.lemmas.Grind.{common_steps}
 use Rattle.fond_reader.specs.CleanForms.{seen_condition}
 use Rattle.fond_reader.specs.Forms.{is_condition}
-use Rattle.fond_reader.proofs.ReadLists.{read_more, fits_at, fits_behind, second_of_both}
+use Rattle.fond_reader.proofs.ReadLists.{read_more, fits_at, fits_after, second_of_both}
 use Rattle.fond_reader.proofs.condition.+condition.Goals as goal
 
 pub read_both-read_condition-requires-in-len2 : goal.read_both-read_condition-requires-in-len2
@@ -16,5 +16,5 @@ read_conditions-loop-tree-preserved t c =
     record {
       read = rw c.in_ok-push.ensures.items
           (read_more is_condition c.loop-tree.parts.items c.in_ok-read_condition.field-0 c.args.trees.now c.loop-tree.tree-index c.tree-item.result below c.tree-item.is c.loop-tree.invariant.read c.in_ok-read_condition.ensures);
-      clean = fits_behind (λ seen. seen.fits) seen_condition c.args.trees.now c.loop-tree.tree-index below c.loop-tree.invariant.clean;
+      clean = fits_after (λ seen. seen.fits) seen_condition c.args.trees.now c.loop-tree.tree-index below c.loop-tree.invariant.clean;
     }

@@ -2,7 +2,7 @@ use Rattle.std.proofs.Common.{codes, sym, ◌∙◌, subst, List, take, ◌+◌}
 use Rattle.fond_ast.specs.declared.files.Schema.{Schema}
 use Rattle.fond_reader.specs.CleanFiles.{fits_action}
 use Rattle.fond_reader.specs.Files.{headed, AreSchemasOf}
-use Rattle.fond_reader.proofs.ReadFiles.{fits_here, fit_behind, schemas_more, schemas_passed}
+use Rattle.fond_reader.proofs.ReadFiles.{fits_here, fit_after, schemas_more, schemas_passed}
 use Rattle.fond_reader.proofs.domain.read_schemas.Goals as goal
 use Rattle.fond_reader.proofs.domain.read_schemas.Goals.{then-begins+in_ok-read_action+in_ok-push, else-begins}
 
@@ -24,5 +24,5 @@ loop-section-preserved c = record {
             (schemas_passed (codes ":action") c.args.sections.now c.loop-section.section-index c.section-item.result c.loop-section-test.true c.section-item.is c.loop-section.schemas
             (sym c.begins.ensures ∙ w.if-begins.false) c.loop-section.invariant.read)
       ];
-  clean = fit_behind (codes ":action") c.args.sections.now c.loop-section.section-index c.section-item.result c.loop-section-test.true c.section-item.is fits_action c.loop-section.invariant.clean;
+  clean = fit_after (codes ":action") c.args.sections.now c.loop-section.section-index c.section-item.result c.loop-section-test.true c.section-item.is fits_action c.loop-section.invariant.clean;
 }

@@ -1,10 +1,10 @@
 use Rattle.std.proofs.Common.{◌≡◌, ◌∙◌, ◌+◌, ◌-◌, ◌++◌, ◌∷◌, [], Some, length, take, drop, ap, sym, arith}
 use Rattle.std.proofs.lemmas.Grind.{common_steps}
-use Rattle.fond_reader.specs.Words.{members_of}
+use Rattle.fond_tree.specs.Trees.{members_of}
 use Rattle.fond_reader.specs.Parts.{expected_parts}
 use Rattle.fond_reader.specs.Walks.{part_if, parts_left}
 use Rattle.fond_reader.specs.Faults.{Stands}
-use Rattle.fond_reader.proofs.Earliest.{least_found, clean_if_none}
+use Rattle.fond_text.proofs.Earliest.{least_found, clean_if_none}
 use Rattle.fond_reader.proofs.Steps.{node_members, leaf_members, all_left, none_left, nothing_left, leaf_first, part_looked_at, member_passed_over}
 use Rattle.fond_reader.proofs.fault.+first_fault.Goals as goal
 use Rattle.fond_reader.proofs.fault.+first_fault.Goals.{in-Some, in_default-inner}
@@ -22,9 +22,9 @@ loop-i-preserved t c =
     let i = c.loop-i.i in
     let member = c.index-trees-i.result in
     let at : drop i trees ≡ member ∷ take (length trees - (i + 1)) (drop (i + 1) trees) = grind (arith, common_steps) in
-    let behind : take (length trees - (i + 1)) (drop (i + 1) trees) ≡ drop (i + 1) trees = grind (arith, common_steps) in
+    let after : take (length trees - (i + 1)) (drop (i + 1) trees) ≡ drop (i + 1) trees = grind (arith, common_steps) in
     let split : parts_left c.loop-i.walk (drop i trees) ≡ part_if c.next-inner.result member ++ parts_left c.next-inner.new.self (drop (i + 1) trees) =
-    ap (parts_left c.loop-i.walk) at ∙ c.next-inner.ensures ∙ ap (λ ts. part_if c.next-inner.result member ++ parts_left c.next-inner.new.self ts) behind in
+    ap (parts_left c.loop-i.walk) at ∙ c.next-inner.ensures ∙ ap (λ ts. part_if c.next-inner.result member ++ parts_left c.next-inner.new.self ts) after in
     elim c.match-inner.branch [
       | in-Some w ↦
           let splits = split ∙ ap (λ role. part_if role member ++ parts_left c.next-inner.new.self (drop (i + 1) trees)) w.in-Some.is in

@@ -2,9 +2,9 @@ use Rattle.std.proofs.Common.{drop}
 use Rattle.fond_reader.specs.Faults.{Stands}
 use Rattle.fond_reader.specs.Walks.{parts_left}
 use Rattle.fond_reader.proofs.Among.{Among}
-use Rattle.fond_reader.proofs.Earliest.{IsFirstSoFar}
+use Rattle.fond_text.proofs.Earliest.{IsFirstSoFar}
 use Rattle.fond_reader.proofs.fault.+first_fault.Given as goal
 
--- the first so far of the faults of the tree, where those of the parts that are left were not looked for
+-- the first fault of the tree so far, without those of the parts that are left
 abbrev pub invariant-loop-i : goal.invariant-loop-i
 invariant-loop-i l = IsFirstSoFar (Stands l.fn.role l.tree) (Among (parts_left l.walk (drop l.i l.trees))) l.first

@@ -9,6 +9,6 @@ use Rattle.fond_reader.proofs.repeats.incomplete.Goals as goal
 pub returns-in-ProblemFile-Some : goal.returns-in-ProblemFile-Some
 returns-in-ProblemFile-Some c =
     let at = c.in-ProblemFile-Some in
-    let decides = subst (λ (ts : List Tree). Decides c.is_incomplete.result (Lacks (codes ":domain") ts ⊎ Lacks (codes ":goal") ts)) c.behind_header.ensures c.is_incomplete.ensures in
+    let decides = subst (λ (ts : List Tree). Decides c.is_incomplete.result (Lacks (codes ":domain") ts ⊎ Lacks (codes ":goal") ts)) c.after_header.ensures c.is_incomplete.ensures in
     rw at.is-0
-    (incomplete_where_lacking c.args.tree.now at.members.now (sym at.ensures) c.is_incomplete.result decides c.place_of.result c.place_of.ensures c.found_if.result c.found_if.ensures)
+    (incomplete_where_lacking c.args.tree.now at.members.now (sym at.ensures) c.is_incomplete.result decides c.place.result c.place.ensures c.found_if.result c.found_if.ensures)

@@ -1,5 +1,5 @@
 use Rattle.std.proofs.lemmas.Bool.Decides.{Decides-not, Decides-at}
-use Rattle.fond_reader.specs.Words.{head_of}
+use Rattle.fond_tree.specs.Trees.{head_of}
 use Rattle.fond_reader.proofs.Again.{any_headed}
 use Rattle.fond_reader.proofs.repeats.lacks.Goals as goal
 

@@ -1,6 +1,6 @@
 use Rattle.std.proofs.Common.{◌≡◌, [], drop, arith}
 use Rattle.std.proofs.lemmas.Grind.{common_steps}
-use Rattle.fond_reader.specs.Words.{head_of}
+use Rattle.fond_tree.specs.Trees.{head_of}
 use Rattle.fond_reader.proofs.Again.{all_repeated}
 use Rattle.fond_reader.proofs.repeats.repeated_head.Goals as goal
 

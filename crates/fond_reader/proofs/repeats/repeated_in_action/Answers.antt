@@ -1,7 +1,7 @@
 use Rattle.std.proofs.Common.{[], ◌∷◌}
 use Rattle.std.specs.Prelude.{codes}
 use Rattle.fond_reader.specs.Faults.{keys}
-use Rattle.fond_reader.specs.Words.{leaf_of}
+use Rattle.fond_tree.specs.Trees.{leaf_of}
 use Rattle.fond_reader.proofs.Again.{first_of_heads}
 use Rattle.fond_reader.proofs.repeats.repeated_in_action.Goals as goal
 

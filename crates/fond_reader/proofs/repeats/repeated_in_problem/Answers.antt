@@ -1,6 +1,6 @@
 use Rattle.std.proofs.Common.{[], ◌∷◌}
 use Rattle.std.specs.Prelude.{codes}
-use Rattle.fond_reader.specs.Words.{head_of}
+use Rattle.fond_tree.specs.Trees.{head_of}
 use Rattle.fond_reader.proofs.Again.{first_of_heads}
 use Rattle.fond_reader.proofs.repeats.repeated_in_problem.Goals as goal
 

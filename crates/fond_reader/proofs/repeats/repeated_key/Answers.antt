@@ -2,9 +2,9 @@ use Rattle.std.proofs.Common.{◌≡◌, ◌≤◌, ◌<◌, ◌-◌, ◌||◌, 
 use Rattle.std.proofs.lemmas.Grind.{common_steps}
 use Rattle.fond_tree.specs.declared.tree.Tree.{Tree}
 use Rattle.fond_reader.specs.Faults.{keys}
-use Rattle.fond_reader.specs.Words.{leaf_of}
+use Rattle.fond_tree.specs.Trees.{leaf_of}
 use Rattle.fond_reader.proofs.Again.{Again, again_step, all_repeated}
-use Rattle.fond_reader.proofs.Earliest.{IsFirstSoFar}
+use Rattle.fond_text.proofs.Earliest.{IsFirstSoFar}
 use Rattle.fond_reader.proofs.repeats.repeated_key.Goals as goal
 use Rattle.fond_reader.proofs.repeats.repeated_key.Goals.{then-seen, else-seen}
 
@@ -22,12 +22,12 @@ loop-rest-preserved c =
     let more : c.if-seen.seen ≡ (c.loop-rest.seen || c.is_leaf-headed.result) = elim c.if-seen.branch [ then-seen w ↦ cc | else-seen w ↦ cc ] in
     let front = key_in_front c.loop-rest.rest.now c.one-item.result (omega arith) c.one-item.is in
     let all : take (length c.loop-rest.rest.now - 1) (drop 1 c.loop-rest.rest.now) ≡ drop 1 c.loop-rest.rest.now = grind (arith, common_steps) in
-    let behind : c.behind_first-rest.result.now ≡ drop 1 (drop 1 c.loop-rest.rest.now) = c.behind_first-rest.ensures ∙ ap (drop 1) all in
-    let left = front ∙ ap (λ ts. c.one-item.result ∷ keys ts) (sym behind) in
+    let after : c.after_first-rest.result.now ≡ drop 1 (drop 1 c.loop-rest.rest.now) = c.after_first-rest.ensures ∙ ap (drop 1) all in
+    let left = front ∙ ap (λ ts. c.one-item.result ∷ keys ts) (sym after) in
     let before =
     subst (λ (ts : List Tree). IsFirstSoFar (Again leaf_of c.args.key.now false (keys c.args.pairs.now)) (Again leaf_of c.args.key.now c.loop-rest.seen ts) c.loop-rest.first) left
     c.loop-rest.invariant in
-    again_step leaf_of c.args.key.now (Again leaf_of c.args.key.now false (keys c.args.pairs.now)) c.one-item.result (keys c.behind_first-rest.result.now) c.loop-rest.seen c.is_leaf-headed.result
+    again_step leaf_of c.args.key.now (Again leaf_of c.args.key.now false (keys c.args.pairs.now)) c.one-item.result (keys c.after_first-rest.result.now) c.loop-rest.seen c.is_leaf-headed.result
     c.if-seen.seen c.is_leaf-headed.ensures more c.loop-rest.first c.again.result c.earlier-first.result before c.again.ensures c.earlier-first.ensures
 
 pub returns : goal.returns

@@ -1,11 +1,11 @@
 use Rattle.std.proofs.Common.{false, length}
-use Rattle.fond_reader.specs.Words.{leaf_of}
+use Rattle.fond_tree.specs.Trees.{leaf_of}
 use Rattle.fond_reader.specs.Faults.{keys}
 use Rattle.fond_reader.proofs.Again.{Again}
-use Rattle.fond_reader.proofs.Earliest.{IsFirstSoFar}
+use Rattle.fond_text.proofs.Earliest.{IsFirstSoFar}
 use Rattle.fond_reader.proofs.repeats.repeated_key.Given as goal
 
--- the first so far of the keys that stand again
+-- the first repeated key so far
 abbrev pub invariant-loop-rest : goal.invariant-loop-rest
 invariant-loop-rest l = IsFirstSoFar (Again leaf_of l.key false (keys l.pairs)) (Again leaf_of l.key l.seen (keys l.rest)) l.first
 

@@ -14,7 +14,7 @@ read_members-returns-in_err-read_next-clause-err t c =
     let unclosed = subst (λ v. TakesClosing v (marks_left c.loop-alloc.scanner) (marks_left c.closes.new.self)) c.loop-alloc-test.true c.closes.ensures.taken in
     let along = subst (Along c.args.left (marks_left c.args.scanner.now) c.loop-alloc.members.items) unclosed.0 c.loop-alloc.invariant.along in
     handed_on _ _ _ c.from_residual-in_err-read_next.ensures.1
-    (along_stops _ _ _ _ _ _ _ c.requires along (c.closes.ensures.end ∙ c.loop-alloc.invariant.end) c.in_err-read_next.ensures.err)
+    (along_stops c.args.file _ _ _ _ _ _ _ c.requires along (c.closes.ensures.end ∙ c.loop-alloc.invariant.end) c.in_err-read_next.ensures.err)
 
 pub read_members-loop-alloc-smaller : goal.read_members-loop-alloc-smaller
 read_members-loop-alloc-smaller t c =
@@ -40,7 +40,7 @@ pub read_next-returns-in_err-members-in-Open-clause-err :
     goal.read_next-returns-in_err-members-in-Open-clause-err
 read_next-returns-in_err-members-in-Open-clause-err t c =
     handed_on _ _ _ c.from_residual-in_err-members-in-Open.ensures.1
-    (node_stops _ c.in-Open.place _ _ _ _ _ c.if-left-gt0.true c.requires.within c.in-Open.ensures.yields c.next.ensures.end c.in_err-members-in-Open.ensures.err)
+    (node_stops c.args.file _ c.in-Open.place _ _ _ _ _ c.if-left-gt0.true c.requires.within c.in-Open.ensures.yields c.next.ensures.end c.in_err-members-in-Open.ensures.err)
 
 pub read_next-returns-in_ok-lower-in-Leaf-clause-ok :
     goal.read_next-returns-in_ok-lower-in-Leaf-clause-ok

@@ -1,4 +1,4 @@
--- Members were read, and the others stand behind them; a node has fewer parentheses left for its members.
+-- Members were read, and the others follow; a node has fewer parentheses left for its members.
 use Rattle.std.proofs.Common.{◌≡◌, ◌+◌, ◌*◌, length}
 use Rattle.fond_tree.specs.Scanning.{marks_left, end_left}
 use Rattle.fond_tree.proofs.Members.{Along}

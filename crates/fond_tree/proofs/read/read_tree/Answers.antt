@@ -1,12 +1,34 @@
--- A text that has a fault is read as no tree.
-use Rattle.std.proofs.Common.{refl, sym, subst}
-use Rattle.fond_tree.specs.Reading.{StopsText}
-use Rattle.fond_tree.specs.Refusal.{IsRefusal}
-use Rattle.fond_tree.proofs.NoTree.{no_tree_has_a_fault_lem}
+-- Nothing may follow a whole tree, and what stops the first tree is a fault of the text.
+use Rattle.std.proofs.Common.{refl, sym, subst, inl, arith}
+use Rattle.fond_text.specs.Faults.{Refuses}
+use Rattle.fond_tree.specs.Faults.{IsFaultOf}
+use Rattle.fond_tree.proofs.NoTree.{text_stops, after_stops, text_read}
+use Rattle.fond_tree.proofs.Stopped.{handed_on}
 use Rattle.fond_tree.proofs.read.read_tree.Goals as goal
 
-pub returns-in-Err-Fault-clause-refused : goal.returns-in-Err-Fault-clause-refused
-returns-in-Err-Fault-clause-refused c =
-    let fault = subst (StopsText c.args.b.now) c.in-Err-Fault.field-0-is c.in-Err-Fault.ensures.err in
-    subst (IsRefusal c.args.file c.args.b.now) (sym c.refused-in-Err-Fault.ensures)
-    (refl, fault, λ tree read. no_tree_has_a_fault_lem _ tree c.in-Err-Fault.place c.in-Err-Fault.code read fault)
+pub returns-in_err-tree-clause-refused : goal.returns-in_err-tree-clause-refused
+returns-in_err-tree-clause-refused c =
+    handed_on _ _ _ c.from_residual.ensures.1 (text_stops _ _ _ _ _ c.if-b-gt-LONGEST_TEXT.false c.new-scanner.ensures.tokens c.new-scanner.ensures.end c.in_err-tree.ensures.err)
+
+pub returns-in-End-clause-ok : goal.returns-in-End-clause-ok
+returns-in-End-clause-ok c = text_read _ _ _ _ c.if-b-gt-LONGEST_TEXT.false c.new-scanner.ensures.tokens c.in_ok-tree.ensures.ok c.in-End.ensures.yields.0
+
+pub returns-in-Stray-clause-refused : goal.returns-in-Stray-clause-refused
+returns-in-Stray-clause-refused c =
+    subst (Refuses (IsFaultOf c.args.file c.args.b.now)) (sym c.refused-in-Stray.ensures)
+    (after_stops c.args.file _ _ _ _ _ _ _ c.if-b-gt-LONGEST_TEXT.false c.new-scanner.ensures.tokens c.in_ok-tree.ensures.ok c.in-Stray.ensures.yields (λ before whole. refl))
+
+pub returns-in-Open-clause-refused : goal.returns-in-Open-clause-refused
+returns-in-Open-clause-refused c =
+    subst (Refuses (IsFaultOf c.args.file c.args.b.now)) (sym c.refused-in-Open.ensures)
+    (after_stops c.args.file _ _ _ _ _ _ _ c.if-b-gt-LONGEST_TEXT.false c.new-scanner.ensures.tokens c.in_ok-tree.ensures.ok c.in-Open.ensures.yields (λ before whole. inl (whole, refl)))
+
+pub returns-in-Close-clause-refused : goal.returns-in-Close-clause-refused
+returns-in-Close-clause-refused c =
+    subst (Refuses (IsFaultOf c.args.file c.args.b.now)) (sym c.refused-in-Close.ensures)
+    (after_stops c.args.file _ _ _ _ _ _ _ c.if-b-gt-LONGEST_TEXT.false c.new-scanner.ensures.tokens c.in_ok-tree.ensures.ok c.in-Close.ensures.yields (λ before whole. (omega (arith, whole.1), refl)))
+
+pub returns-in-Leaf-clause-refused : goal.returns-in-Leaf-clause-refused
+returns-in-Leaf-clause-refused c =
+    subst (Refuses (IsFaultOf c.args.file c.args.b.now)) (sym c.refused-in-Leaf.ensures)
+    (after_stops c.args.file _ _ _ _ _ _ _ c.if-b-gt-LONGEST_TEXT.false c.new-scanner.ensures.tokens c.in_ok-tree.ensures.ok c.in-Leaf.ensures.yields.0 (λ before whole. (whole, refl)))

@@ -1,34 +1,29 @@
-use Rattle.std.proofs.Common.{Some, None, sym, subst}
-use Rattle.fond_text.specs.declared.place.FileKind.{FileKind}
+use Rattle.std.proofs.Common.{◌⊎◌, ℕ, List, Some, None, sym, subst}
 use Rattle.fond_text.specs.Faults.{IsFirstAmong}
-use Rattle.fond_types.specs.Atoms.{problem_atoms}
-use Rattle.fond_types.specs.Faults.{Declarations, StandsInNames}
-use Rattle.fond_types.proofs.Heads.{unknown_found}
-use Rattle.fond_types.proofs.Order.{first_in_domain, first_in_problem, first_in_side, none_among}
+use Rattle.fond_text.specs.Firsts.{IsFirst}
+use Rattle.fond_types.specs.Atoms.{domain_atoms, problem_atoms}
+use Rattle.fond_types.specs.Faults.{Declarations, IsUnknownPredicate, IsRepeatedSchema, StandsInNames}
+use Rattle.fond_types.proofs.Order.{first_in_problem, first_in_side, none_among}
 use Rattle.fond_types.proofs.first_fault.first_fault.Goals as goal
 
-pub returns-in-Some : goal.returns-in-Some
-returns-in-Some c =
+pub returns-in-Some-unknown_in_problem-clause-first : goal.returns-in-Some-unknown_in_problem-clause-first
+returns-in-Some-unknown_in_problem-clause-first c =
     let files : Declarations = record { domain = c.args.d.now; problem = c.args.p.now; side = c.args.s.now } in
-    let fault = c.in-Some.fault in
-    subst (λ (file : FileKind). IsFirstAmong (StandsInNames files) (record { file = file; place = fault.place; code = fault.code })) (sym c.in-Some.ensures.0)
-    (first_in_domain files fault.place fault.code c.in-Some.ensures.1)
+    let found = c.in-Some-unknown_in_problem.found in
+    let domain = subst (λ (names : List (List ℕ)). IsFirst (λ place code. IsUnknownPredicate names (domain_atoms files.domain) place code ⊎ IsRepeatedSchema files.domain.schemas place code) None) c.requires.named c.in_default.ensures in
+    let problem = subst (λ (names : List (List ℕ)). IsFirst (IsUnknownPredicate names (problem_atoms files.problem)) (Some found)) c.requires.named c.in-Some-unknown_in_problem.ensures in
+    subst (IsFirstAmong (StandsInNames files)) (sym c.fault_in-in-Some-unknown_in_problem.ensures) (first_in_problem (StandsInNames files) domain found problem)
 
-pub returns-in-Some-unknown_in_problem : goal.returns-in-Some-unknown_in_problem
-returns-in-Some-unknown_in_problem c =
+pub returns-in-Some-unknown_schema-clause-first : goal.returns-in-Some-unknown_schema-clause-first
+returns-in-Some-unknown_schema-clause-first c =
     let files : Declarations = record { domain = c.args.d.now; problem = c.args.p.now; side = c.args.s.now } in
-    let place = c.in-Some-unknown_in_problem.place in
-    let unknown = unknown_found files.domain c.args.numbers.now c.requires.numbers (problem_atoms files.problem) (Some place) c.in-Some-unknown_in_problem.ensures in
-    first_in_problem files c.in_default.ensures place unknown
+    let domain = subst (λ (names : List (List ℕ)). IsFirst (λ place code. IsUnknownPredicate names (domain_atoms files.domain) place code ⊎ IsRepeatedSchema files.domain.schemas place code) None) c.requires.named c.in_default.ensures in
+    let problem = subst (λ (names : List (List ℕ)). IsFirst (IsUnknownPredicate names (problem_atoms files.problem)) None) c.requires.named c.in_default-unknown_in_problem.ensures in
+    subst (IsFirstAmong (StandsInNames files)) (sym c.fault_in-in-Some-unknown_schema.ensures) (first_in_side (StandsInNames files) domain problem c.in-Some-unknown_schema.found c.in-Some-unknown_schema.ensures)
 
-pub returns-in-Some-unknown_schema : goal.returns-in-Some-unknown_schema
-returns-in-Some-unknown_schema c =
+pub returns-in-None-clause-none : goal.returns-in-None-clause-none
+returns-in-None-clause-none c =
     let files : Declarations = record { domain = c.args.d.now; problem = c.args.p.now; side = c.args.s.now } in
-    let unknown = unknown_found files.domain c.args.numbers.now c.requires.numbers (problem_atoms files.problem) None c.in_default-unknown_in_problem.ensures in
-    first_in_side files c.in_default.ensures unknown c.in-Some-unknown_schema.place c.in-Some-unknown_schema.ensures
-
-pub returns-in-None : goal.returns-in-None
-returns-in-None c =
-    let files : Declarations = record { domain = c.args.d.now; problem = c.args.p.now; side = c.args.s.now } in
-    let unknown = unknown_found files.domain c.args.numbers.now c.requires.numbers (problem_atoms files.problem) None c.in_default-unknown_in_problem.ensures in
-    none_among files c.in_default.ensures unknown c.in-None.ensures
+    let domain = subst (λ (names : List (List ℕ)). IsFirst (λ place code. IsUnknownPredicate names (domain_atoms files.domain) place code ⊎ IsRepeatedSchema files.domain.schemas place code) None) c.requires.named c.in_default.ensures in
+    let problem = subst (λ (names : List (List ℕ)). IsFirst (IsUnknownPredicate names (problem_atoms files.problem)) None) c.requires.named c.in_default-unknown_in_problem.ensures in
+    none_among (StandsInNames files) domain problem c.in-None.ensures

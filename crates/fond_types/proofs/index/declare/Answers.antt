@@ -5,21 +5,21 @@ use Rattle.fond_types.proofs.Numbering.{declared_there, declared_new, numbered_n
 use Rattle.fond_types.proofs.index.declare.Goals as goal
 
 pub returns-then-is_some-clause-named : goal.returns-then-is_some-clause-named
-returns-then-is_some-clause-named c = λ are.
-    let there : is_some (number_beside c.args.predicates.now.numbers c.args.name.now) ≡ true = cc in
-    sym (declared_there c.args.predicates.now.numbers c.args.predicates.now.names are c.args.name.now there)
+returns-then-is_some-clause-named c =
+    let there : is_some (number_beside c.args.numbers.now c.args.name.now) ≡ true = cc in
+    sym (declared_there c.args.numbers.now c.args.names.now c.requires.numbered c.args.name.now there)
 
 pub returns-clause-named : goal.returns-clause-named
-returns-clause-named c = λ are.
-    let names = c.args.predicates.now.names in
-    let none : is_some (number_beside c.args.predicates.now.numbers c.args.name.now) ≡ false = cc in
-    c.in_ok-push.ensures.ok ∙ ap (λ name. names ++ name ∷ []) c.in_ok-copy.ensures ∙ sym (declared_new c.args.predicates.now.numbers names are c.args.name.now none)
+returns-clause-named c =
+    let names = c.args.names.now in
+    let none : is_some (number_beside c.args.numbers.now c.args.name.now) ≡ false = cc in
+    c.in_ok-push.ensures.ok ∙ ap (λ name. names ++ name ∷ []) c.in_ok-copy.ensures ∙ sym (declared_new c.args.numbers.now names c.requires.numbered c.args.name.now none)
 
 pub returns-clause-numbered : goal.returns-clause-numbered
-returns-clause-numbered c = λ are.
-    let numbers = c.args.predicates.now.numbers in
-    let names = c.args.predicates.now.names in
+returns-clause-numbered c =
+    let numbers = c.args.numbers.now in
+    let names = c.args.names.now in
     let none : is_some (number_beside numbers c.args.name.now) ≡ false = cc in
-    let named = c.in_ok-push.ensures.ok ∙ ap (λ name. names ++ name ∷ []) c.in_ok-copy.ensures ∙ sym (declared_new numbers names are c.args.name.now none) in
+    let named = c.in_ok-push.ensures.ok ∙ ap (λ name. names ++ name ∷ []) c.in_ok-copy.ensures ∙ sym (declared_new numbers names c.requires.numbered c.args.name.now none) in
     let copied = c.in_ok-from_slice.ensures.items ∙ c.bytes-2.ensures.value in
-    c.in_ok-insert.ensures.ok ∙ ap (λ text. with_text numbers text c.len-count.result) copied ∙ numbered_new numbers names are c.args.name.now none c.len-count.result c.len-count.ensures ∙ ap (numbered_from 0) (sym named)
+    c.in_ok-insert.ensures.ok ∙ ap (λ text. with_text numbers text c.len-count.result) copied ∙ numbered_new numbers names c.requires.numbered c.args.name.now none c.len-count.result c.len-count.ensures ∙ ap (numbered_from 0) (sym named)

@@ -6,10 +6,11 @@ use Rattle.fond_types.proofs.index.declared_predicates.Goals as goal
 
 pub loop-i-preserved : goal.loop-i-preserved
 loop-i-preserved c =
-    let names = c.loop-i.predicates.names in
+    let names = c.loop-i.names in
     let rest = map (λ (declared : Declared). declared.name) (drop (c.loop-i.i + 1) c.args.d.now.predicates) in
-    let left = ap (λ (ds : List Declared). fold declared_also names (map (λ (declared : Declared). declared.name) ds)) (next_left c.args.d.now.predicates c.loop-i.i c.get.result.now c.get.ensures) in (
-      c.in_ok-declare.ensures.few,
-      c.in_ok-declare.ensures.numbered c.loop-i.invariant.1,
-      ap (λ some. fold declared_also some rest) (c.in_ok-declare.ensures.named c.loop-i.invariant.1) ∙ sym left ∙ c.loop-i.invariant.2,
-    )
+    let left = ap (λ (ds : List Declared). fold declared_also names (map (λ (declared : Declared). declared.name) ds)) (next_left c.args.d.now.predicates c.loop-i.i c.get.result.now c.get.ensures) in
+    record {
+      few = c.in_ok-declare.ensures.few;
+      numbered = c.in_ok-declare.ensures.numbered;
+      named = ap (λ some. fold declared_also some rest) c.in_ok-declare.ensures.named ∙ sym left ∙ c.loop-i.invariant.named;
+    }

@@ -1,4 +1,4 @@
--- Nothing that was gone over begins a token, and the end stays where it is.
+-- Nothing that was skipped begins a token, and the end stays the same.
 use Rattle.std.proofs.Common.{◌≡◌, length}
 use Rattle.fond_tree.specs.Left.{marks_at, end_at}
 use Rattle.fond_tree.specs.Tokens.{Gap}

@@ -1,0 +1,34 @@
+use crate::domain::read_domain;
+use crate::fault::first_fault;
+use crate::laws::{clean_domains_are_read, clean_problems_are_read};
+use crate::problem::read_problem;
+use crate::role::Role;
+use fond_text::place::FileKind;
+use fond_tree::read::read_tree;
+use std::test::Fail;
+
+#[test]
+fn a_domain_is_read(rt: HostRuntime) -> Result<(), Fail> {
+    let alloc = rt.alloc();
+    let tree = read_tree(alloc, FileKind::Domain, b"(define (domain d))")?;
+    let domain = read_domain(alloc, &tree)?;
+    assert_eq!(rt; domain.schemas.len(), 0);
+    Ok(())
+}
+
+#[test]
+fn a_problem_is_read(rt: HostRuntime) -> Result<(), Fail> {
+    let alloc = rt.alloc();
+    let text = b"(define (problem p) (:domain d) (:goal ()))";
+    let tree = read_tree(alloc, FileKind::Problem, text)?;
+    assert_eq!(rt; first_fault(Role::ProblemFile, &tree), None);
+    let problem = read_problem(alloc, &tree)?;
+    assert_eq!(rt; problem.init.len(), 0);
+    Ok(())
+}
+
+#[test]
+fn laws_can_be_called() {
+    clean_domains_are_read();
+    clean_problems_are_read();
+}

@@ -1,0 +1,36 @@
+use crate::laws::{no_tree_has_a_fault, one_fault, one_tree};
+use crate::read::read_tree;
+use crate::scan::{Piece, Scanner};
+use crate::tree::front;
+use fond_text::place::{FileKind, Place};
+use std::test::Fail;
+
+#[test]
+fn a_text_is_read_as_its_tree(rt: HostRuntime) -> Result<(), Fail> {
+    let tree = read_tree(rt.alloc(), FileKind::Problem, b"; a\n (B\t(c))")?;
+    assert_eq!(rt; tree.place(), Place { line: 2, column: 2 });
+    assert_eq!(rt; tree.head(), Some(b"b".as_slice()));
+    assert_eq!(rt; tree.leaf(), None);
+    assert!(rt; tree.is_node());
+    if let Some(members) = tree.members() {
+        assert_eq!(rt; members.len(), 2);
+        assert_eq!(rt; front(members), Some(b"b".as_slice()));
+    }
+    Ok(())
+}
+
+#[test]
+fn a_scanner_goes_from_piece_to_piece(rt: HostRuntime) {
+    let mut scanner = Scanner::new(b"(a)");
+    assert!(rt; matches!(scanner.next(), Piece::Open(_)));
+    assert!(rt; matches!(scanner.next(), Piece::Leaf(_, _)));
+    assert!(rt; scanner.closes());
+    assert!(rt; matches!(scanner.next(), Piece::End(_)));
+}
+
+#[test]
+fn laws_can_be_called() {
+    one_tree();
+    no_tree_has_a_fault();
+    one_fault();
+}
