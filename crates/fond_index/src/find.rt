@@ -2,18 +2,18 @@
 
 ghost use Rattle.fond_index.specs.Indexes.{task_of};
 ghost use Rattle.fond_index.specs.Numbers.{act_number, atom_number};
-ghost use Rattle.fond_names.specs.Texts.{number_beside};
+ghost use Rattle.fond_lookup.specs.Texts.{number_beside};
 ghost use Rattle.std.specs.Prelude.{◌≡◌, IfOk, List, ℕ};
 
 use crate::task_index::TaskIndex;
-use fond_names::text_index::TextIndex;
+use fond_lookup::text_index::TextIndex;
 use fond_task::task::Task;
 use fond_task::text::{put_action, put_atom};
 use fond_text::fault::NoMemory;
 use std::alloc::Global;
 
 /// The texts of the actions with their numbers, of which the first counts where several are written alike.
-#[tactic(auto, using(fond_names::proofs::Firsts::has_more))]
+#[tactic(auto, using(fond_lookup::proofs::Firsts::has_more))]
 fn act_numbers(alloc: Global, task: &Task) -> Result<TextIndex, NoMemory>
     ensures { IfOk result (λ numbers. (text : List ℕ) → number_beside numbers text ≡ act_number task.now text) }
 {
@@ -27,7 +27,7 @@ fn act_numbers(alloc: Global, task: &Task) -> Result<TextIndex, NoMemory>
 }
 
 /// The texts of the atoms with their numbers, of which the first counts where several are written alike.
-#[tactic(auto, using(fond_names::proofs::Firsts::has_more))]
+#[tactic(auto, using(fond_lookup::proofs::Firsts::has_more))]
 fn atom_numbers(alloc: Global, task: &Task) -> Result<TextIndex, NoMemory>
     ensures { IfOk result (λ numbers. (text : List ℕ) → number_beside numbers text ≡ atom_number task.now text) }
 {

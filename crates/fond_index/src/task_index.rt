@@ -1,10 +1,10 @@
 //! What finds the actions and atoms of a task.
 
 ghost use Rattle.fond_index.specs.Numbers.{act_number, atom_number};
-ghost use Rattle.fond_names.specs.Texts.{number_beside};
+ghost use Rattle.fond_lookup.specs.Texts.{number_beside};
 ghost use Rattle.std.specs.Prelude.{◌≡◌, List, ℕ};
 
-use fond_names::text_index::TextIndex;
+use fond_lookup::text_index::TextIndex;
 use fond_task::task::Task;
 
 /// A task with its actions and atoms by their texts.

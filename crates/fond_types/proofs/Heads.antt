@@ -5,7 +5,7 @@ use Rattle.std.proofs.lemmas.List.Sums.{fold-append}
 use Rattle.fond_text.specs.declared.place.Place.{Place}
 use Rattle.fond_ast.specs.declared.names.ReadAtom.{ReadAtom}
 use Rattle.fond_ast.specs.declared.files.Domain.{Domain}
-use Rattle.fond_names.specs.Texts.{number_beside}
+use Rattle.fond_lookup.specs.Texts.{number_beside}
 use Rattle.fond_types.specs.Faults.{IsUnknownPredicate}
 use Rattle.fond_types.specs.Indexes.{numbered_from}
 use Rattle.fond_types.specs.Names.{is_among, predicate_names}

@@ -2,7 +2,7 @@
 use Rattle.std.specs.Prelude.{◌≡◌, ◌⊎◌, ℕ, ◌==◌, ◌&&◌, ◌||◌, nat_lt, Bool, List, Option, Some, None, fold, if◌then◌else◌}
 use Rattle.fond_text.specs.declared.place.Place.{Place}
 use Rattle.fond_ast.specs.declared.names.ReadAtom.{ReadAtom}
-use Rattle.fond_names.specs.Texts.{number_beside}
+use Rattle.fond_lookup.specs.Texts.{number_beside}
 use Rattle.fond_text.specs.Places.{IsBefore}
 
 -- whether a place stands before another

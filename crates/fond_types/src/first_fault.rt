@@ -1,6 +1,6 @@
 //! The first fault of names: by file, then by place, and at one place by code.
 
-ghost use Rattle.fond_names.specs.Texts.{number_beside};
+ghost use Rattle.fond_lookup.specs.Texts.{number_beside};
 ghost use Rattle.fond_text.specs.declared.place.FileKind.TheVariants.{Domain as DomainFile};
 ghost use Rattle.fond_types.specs.FirstFaults.{IsFirstInDomain, IsFirstFault};
 ghost use Rattle.fond_types.specs.Indexes.{numbered_from};
@@ -11,7 +11,7 @@ ghost use Rattle.std.specs.Str.{bytes_eq};
 use crate::repeated::{repeated_schema, unknown_schema};
 use crate::unknown::{is_before, unknown_in_domain, unknown_in_problem};
 use fond_ast::files::{Domain, Problem, Side};
-use fond_names::text_index::TextIndex;
+use fond_lookup::text_index::TextIndex;
 use fond_text::fault::Fault;
 use fond_text::place::{FileKind, Place};
 

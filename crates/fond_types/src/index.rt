@@ -1,6 +1,6 @@
 //! Indexes from names to numbers.
 
-ghost use Rattle.fond_names.specs.Texts.{number_beside};
+ghost use Rattle.fond_lookup.specs.Texts.{number_beside};
 ghost use Rattle.fond_types.specs.Indexes.{numbered_from};
 ghost use Rattle.fond_types.specs.Names.{predicate_names, declared_also};
 ghost use Rattle.std.specs.List.{list_any};
@@ -8,7 +8,7 @@ ghost use Rattle.std.specs.Prelude.{◌≡◌, ◌<◌, ◌^◌, ℕ, List, IfOk
 ghost use Rattle.std.specs.Str.{bytes_eq};
 
 use fond_ast::files::{Domain, Side};
-use fond_names::text_index::TextIndex;
+use fond_lookup::text_index::TextIndex;
 use fond_text::fault::NoMemory;
 use fond_text::name::{Name, Names};
 use std::alloc::Global;

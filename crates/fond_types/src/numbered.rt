@@ -2,7 +2,7 @@
 
 ghost use Rattle.fond_ast.specs.declared.files.Side.{Side};
 ghost use Rattle.fond_ast.specs.Within.{is_condition_within, is_effect_within, is_schema_within, is_atom_within};
-ghost use Rattle.fond_names.specs.Texts.{number_beside};
+ghost use Rattle.fond_lookup.specs.Texts.{number_beside};
 ghost use Rattle.fond_types.specs.Indexes.{numbered_from};
 ghost use Rattle.fond_types.specs.Names.{predicate_names};
 ghost use Rattle.fond_types.specs.Resolves.{is_number_of, is_resolved_condition, is_resolved_effect, is_resolved_atom, stand_for, positive, AreResolvedSchemas, IsResolved};
@@ -17,7 +17,7 @@ use fond_ast::form::{LAtom, LCond, LEffect};
 use fond_ast::names::ReadAtom;
 use fond_ast::syntax::{Cond, Effect};
 use fond_ast::task::{LSchema, LSchemas, LiftedTask};
-use fond_names::text_index::TextIndex;
+use fond_lookup::text_index::TextIndex;
 use fond_text::fault::NoMemory;
 use fond_text::atom::{Atom, Atoms, Objects};
 use std::alloc::Global;

@@ -1,7 +1,7 @@
 //! Schemas with the name of an earlier one, and leaves of the side list that name no schema.
 
 ghost use Rattle.fond_ast.specs.declared.files.Schema.{Schema};
-ghost use Rattle.fond_names.specs.Texts.{number_beside};
+ghost use Rattle.fond_lookup.specs.Texts.{number_beside};
 ghost use Rattle.fond_types.specs.Faults.{IsRepeatedSchema, IsUnknownSchema};
 ghost use Rattle.fond_types.specs.Names.{is_among};
 ghost use Rattle.fond_types.specs.Walks.{IsEarliest};
@@ -10,7 +10,7 @@ ghost use Rattle.std.specs.Str.{bytes_eq};
 
 use crate::unknown::earlier;
 use fond_ast::files::{Domain, Schema, Side};
-use fond_names::text_index::TextIndex;
+use fond_lookup::text_index::TextIndex;
 use fond_text::place::Place;
 
 /// Whether a schema, the one at this index, has the name of an earlier one.

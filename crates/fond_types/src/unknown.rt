@@ -7,7 +7,7 @@ ghost use Rattle.std.specs.Prelude.{◌≡◌, None};
 use fond_ast::files::{Domain, Problem};
 use fond_ast::names::ReadAtom;
 use fond_ast::syntax::{Cond, Effect};
-use fond_names::text_index::TextIndex;
+use fond_lookup::text_index::TextIndex;
 use fond_text::place::Place;
 
 /// Whether a place stands before another.

@@ -1,7 +1,7 @@
 use Rattle.std.proofs.Common.{arith}
 use Rattle.std.proofs.lemmas.Bool.Decides.{nat_tests}
 use Rattle.fond_task.specs.Texts.{action_text}
-use Rattle.fond_names.proofs.Firsts.{has_all}
+use Rattle.fond_lookup.proofs.Firsts.{has_all}
 use Rattle.fond_index.proofs.find.act_numbers.Goals as goal
 
 pub returns : goal.returns

@@ -1,5 +1,5 @@
 use Rattle.fond_task.specs.Texts.{atom_text}
-use Rattle.fond_names.proofs.Firsts.{HasFirsts}
+use Rattle.fond_lookup.proofs.Firsts.{HasFirsts}
 use Rattle.fond_index.proofs.find.atom_numbers.Given as goal
 
 abbrev pub invariant-loop-i : goal.invariant-loop-i

@@ -1,5 +1,5 @@
 use Rattle.std.proofs.Common.{◌≡◌, Some}
-use Rattle.fond_names.specs.Texts.{number_beside}
+use Rattle.fond_lookup.specs.Texts.{number_beside}
 use Rattle.fond_types.proofs.Numbering.{number_is}
 use Rattle.fond_types.proofs.numbered.numbered_atom.Goals as goal
 

@@ -3,7 +3,7 @@ use Rattle.std.specs.List.{list_all, list_any}
 use Rattle.std.specs.Str.{bytes_eq}
 use Rattle.fond_ast.specs.declared.files.Side.{Side}
 use Rattle.fond_ast.specs.Within.{is_schema_within}
-use Rattle.fond_names.specs.Texts.{number_beside}
+use Rattle.fond_lookup.specs.Texts.{number_beside}
 use Rattle.fond_types.specs.Indexes.{numbered_from}
 use Rattle.fond_types.specs.Resolves.{AreResolvedSchemas}
 use Rattle.fond_types.proofs.numbered.numbered_schemas.Given as goal

@@ -1,7 +1,7 @@
 use Rattle.std.proofs.Common.{◌≡◌, not, is_some, take, subst, sym, ap, ◌∙◌, arith}
 use Rattle.std.proofs.lemmas.List.{take_all}
 use Rattle.fond_ast.specs.declared.names.Kind.{Kind}
-use Rattle.fond_names.specs.Texts.{number_beside}
+use Rattle.fond_lookup.specs.Texts.{number_beside}
 use Rattle.fond_types.specs.Faults.{IsUnknownSchema}
 use Rattle.fond_types.specs.Names.{is_among, schema_names}
 use Rattle.fond_types.specs.Walks.{IsEarliest}

@@ -1,6 +1,6 @@
-//! Texts with numbers.
+//! Texts with numbers, found by a hash.
 
-ghost use Rattle.fond_names.specs.Texts.{number_beside, with_text};
+ghost use Rattle.fond_lookup.specs.Texts.{number_beside, with_text};
 ghost use Rattle.std.specs.Prelude.{◌≡◌, [], OnOk, OnErr};
 
 use fond_text::fault::NoMemory;
@@ -8,7 +8,7 @@ use indexmap::IndexMap;
 use std::alloc::Global;
 use std::marker::Model;
 
-/// Distinct texts, each with a number. A hash of a text leads to it.
+/// Distinct texts, each with a number, in the order in which they were inserted.
 #[derive(Drop)]
 pub struct TextIndex {
     numbers: IndexMap<Vec<u8>, u32>,
@@ -23,7 +23,7 @@ impl Model for TextIndex {
 }
 
 impl TextIndex {
-    /// None yet. Takes no memory.
+    /// An index of no texts. It takes no memory until a text is inserted.
     pub fn new(alloc: Global) -> TextIndex
         ensures { result ≡ [] }
     {
@@ -32,7 +32,8 @@ impl TextIndex {
         }
     }
 
-    /// Keeps the text with its number, where the text is not there yet. Takes the time of the text.
+    /// Inserts a text with its number, or changes nothing if the text is already there. Takes time in the length of
+    /// the text.
     pub fn insert(&mut self, text: Vec<u8>, number: u32) -> Result<(), NoMemory>
         ensures ok { OnOk result (self.new ≡ with_text self.old text.items number) }
         ensures err { OnErr result (self.new ≡ self.old) }
@@ -44,7 +45,7 @@ impl TextIndex {
         Ok(())
     }
 
-    /// The number beside the text, if the text is there. Takes the time of the text.
+    /// The number of a text, if the text is there. Takes time in the length of the text.
     pub fn find(&self, text: &[u8]) -> Option<u32>
         ensures { result ≡ number_beside self.now text.now }
     {

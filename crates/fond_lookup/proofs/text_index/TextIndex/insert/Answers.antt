@@ -2,9 +2,9 @@ use Rattle.std.proofs.Common.{◌≡◌, ◌∙◌, ◌++◌, ◌∷◌, [], Non
 use Rattle.std.proofs.lemmas.List.{map-append}
 use Rattle.std.specs.Str.{bytes_eq}
 use Rattle.indexmap.proofs.CallerLemmas.{insert_entry-new}
-use Rattle.fond_names.specs.Texts.{number_beside}
-use Rattle.fond_names.proofs.Entries.{shown, number_at, kept_last, not_some}
-use Rattle.fond_names.proofs.text_index.TextIndex.insert.Goals as goal
+use Rattle.fond_lookup.specs.Texts.{number_beside}
+use Rattle.fond_lookup.proofs.Entries.{shown, number_at, kept_last, not_some}
+use Rattle.fond_lookup.proofs.text_index.TextIndex.insert.Goals as goal
 
 pub returns-clause-ok : goal.returns-clause-ok
 returns-clause-ok c =

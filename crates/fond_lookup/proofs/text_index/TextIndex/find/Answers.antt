@@ -1,7 +1,7 @@
 use Rattle.std.proofs.Common.{◌∙◌, ap}
-use Rattle.fond_names.specs.Texts.{number_beside}
-use Rattle.fond_names.proofs.Entries.{number_at}
-use Rattle.fond_names.proofs.text_index.TextIndex.find.Goals as goal
+use Rattle.fond_lookup.specs.Texts.{number_beside}
+use Rattle.fond_lookup.proofs.Entries.{number_at}
+use Rattle.fond_lookup.proofs.text_index.TextIndex.find.Goals as goal
 
 pub returns : goal.returns
 returns c =
