@@ -2,7 +2,7 @@
 
 ghost use Rattle.fond_rules.specs.Belongs.{BelongTo};
 ghost use Rattle.fond_rules.specs.Select.{selected_rule, AreOver};
-ghost use Rattle.std.specs.Prelude.{◌≡◌, ◌<◌, ◌-◌, ◌^◌, List, [], ◌∷◌, ◌++◌, length, slice_get, Some, true, All, OnOk, OnErr};
+ghost use Rattle.std.specs.Prelude.{◌≡◌, ◌<◌, ◌-◌, ◌^◌, List, [], ◌∷◌, ◌++◌, length, slice_get, Some, true, All, IfSome, OnOk, OnErr};
 
 use fond_game::rule::Rule;
 use fond_state::state::State;
@@ -64,7 +64,7 @@ impl Rules {
     }
 
     /// Whether the conditions of all rules are over this many atoms. Takes time in the number of rules.
-    fn are_over(&self, atoms: usize) -> bool
+    pub fn are_over(&self, atoms: usize) -> bool
         ensures yes { result ≡ true → AreOver atoms self.now }
         ensures no { AreOver atoms self.now → result ≡ true }
     {
@@ -98,13 +98,24 @@ impl Rules {
         self.are_over(task.atoms.len()) && self.are_acts_below(task.acts.len())
     }
 
+    /// The index of the first rule whose literals all hold in the state.
+    fn first(&self, s: &State) -> Option<usize>
+        requires { AreOver (length s.now) self.now }
+        ensures selected { result ≡ selected_rule self.now s.now }
+        ensures within { IfSome result (λ i. i < 2 ^ 32) }
+    {
+        self.items
+            .as_slice()
+            .iter()
+            .position(|rule| rule.cond.holds(s))
+    }
+
     /// The number of the first rule whose literals all hold in the state, if there is one. Takes time in the number of
     /// rules times that of atoms.
     pub fn select(&self, s: &State) -> Option<u32>
         requires { AreOver (length s.now) self.now }
         ensures { result ≡ selected_rule self.now s.now }
     {
-        let first = self.items.iter().position(|rule| rule.cond.holds(s))?;
-        Some(first as u32)
+        Some(self.first(s)? as u32)
     }
 }

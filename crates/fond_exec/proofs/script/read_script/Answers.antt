@@ -1,5 +1,5 @@
-use Rattle.fond_script.proofs.Left.{over_word}
-use Rattle.fond_script.proofs.script.read_script.Goals as goal
+use Rattle.fond_exec.proofs.Left.{over_word}
+use Rattle.fond_exec.proofs.script.read_script.Goals as goal
 
 pub loop-further-preserved : goal.loop-further-preserved
 loop-further-preserved c =

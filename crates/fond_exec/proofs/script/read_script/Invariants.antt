@@ -1,7 +1,7 @@
 -- The numbers so far are those of the words before what is left.
 use Rattle.std.proofs.Common.{length}
-use Rattle.fond_script.proofs.Left.{Progress}
-use Rattle.fond_script.proofs.script.read_script.Given as goal
+use Rattle.fond_exec.proofs.Left.{Progress}
+use Rattle.fond_exec.proofs.script.read_script.Given as goal
 
 abbrev pub invariant-loop-further : goal.invariant-loop-further
 invariant-loop-further l = Progress l.text l.rest l.numbers.items

@@ -1,6 +1,6 @@
 use Rattle.std.proofs.Common.{◌<◌, ◌^◌, arith}
-use Rattle.fond_script.proofs.Numbers.{too_large}
-use Rattle.fond_script.proofs.script.number_of.Goals as goal
+use Rattle.fond_exec.proofs.Numbers.{too_large}
+use Rattle.fond_exec.proofs.script.number_of.Goals as goal
 
 pub returns-clause-none : goal.returns-clause-none
 returns-clause-none c =
