@@ -77,19 +77,14 @@ pub(crate) fn grow(
     };
     let line = match line {
         Line::Reach { count } => {
-            return match reach_of(piece, count) {
-                Ok(reach) => Ok(Some(reach)),
-                Err(error) => Err(error),
-            };
+            return Ok(Some(reach_of(piece, count)?));
         }
         Line::Rule(line) => line,
     };
     if rules.len() == u32::MAX {
         return Err(FORMLESS);
     }
-    match rule_of(alloc, index, piece, line) {
-        Ok(rule) => rules.push(rule)?,
-        Err(error) => return Err(error),
-    }
+    let rule = rule_of(alloc, index, piece, line)?;
+    rules.push(rule)?;
     Ok(None)
 }

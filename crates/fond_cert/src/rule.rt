@@ -14,7 +14,7 @@ use fond_game::rule::{Rule, Targets};
 use fond_task::task_index::TaskIndex;
 use std::alloc::Global;
 
-/// Behind `rule `.
+/// The byte of a line at which the action begins, after `rule `.
 const ACTION_AT: usize = 5;
 
 /// The rule of a line with the word `fair`, by the texts of its parts.
@@ -53,10 +53,7 @@ pub(crate) fn fair_rule(
             at: target_at,
         });
     };
-    let read = match read_literals(alloc, index, literals, literals_at) {
-        Ok(read) => read,
-        Err(error) => return Err(error),
-    };
+    let read = read_literals(alloc, index, literals, literals_at)?;
     if read.is_ordered {
         Ok(Rule {
             cond: read.cube,
@@ -90,14 +87,8 @@ pub(crate) fn unfair_rule(
             at: ACTION_AT,
         });
     };
-    let targets = match read_targets(alloc, targets, targets_at) {
-        Ok(targets) => targets,
-        Err(error) => return Err(error),
-    };
-    let read = match read_literals(alloc, index, literals, literals_at) {
-        Ok(read) => read,
-        Err(error) => return Err(error),
-    };
+    let targets = read_targets(alloc, targets, targets_at)?;
+    let read = read_literals(alloc, index, literals, literals_at)?;
     if read.is_ordered {
         Ok(Rule {
             cond: read.cube,
