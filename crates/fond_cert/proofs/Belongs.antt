@@ -10,8 +10,8 @@ use Rattle.fond_task.specs.declared.task.Task.{Task}
 use Rattle.fond_task.specs.Texts.{action_text}
 use Rattle.fond_game.specs.declared.rule.Rule.{Rule}
 use Rattle.fond_game.specs.declared.rule.Target.{Target}
-use Rattle.fond_rules.specs.Belongs.{HasTarget, BelongTo}
-use Rattle.fond_index.specs.Numbers.{act_number, atom_number}
+use Rattle.fond_rules.specs.Belongs.{HasTarget, HaveTargets, BelongTo}
+use Rattle.fond_task.specs.Numbers.{act_number, atom_number}
 use Rattle.fond_cert.specs.Lines.{group_text, WrittenTarget, WrittenLiteral, WrittenLine, PolicyHeader, FairRule, UnfairRule, ReachLine, EndLine, IsProper}
 use Rattle.fond_cert.specs.Texts.{written_targets, with_literal, cube_of, IsRuleLine, AreRuleLines}
 
@@ -46,13 +46,18 @@ rule_belongs task rule (ReachLine count) proper h = absurd h
 rule_belongs task rule EndLine proper h = absurd h
 
 pub rules_belong : (task : Task) (rules : List Rule) (lines : List WrittenLine) → AreRuleLines task rules lines → BelongTo task rules
-rules_belong task [] [] h = record { over = All-nil (λ (rule : Rule). length rule.cond ≡ length task.atoms); there = All-nil (λ (rule : Rule). rule.act < length task.acts); led = All-nil (λ (rule : Rule). HasTarget rule.targets) }
+rules_belong task [] [] h = record { over = All-nil (λ (rule : Rule). length rule.cond ≡ length task.atoms); there = All-nil (λ (rule : Rule). rule.act < length task.acts) }
 rules_belong task [] (line ∷ lines) h = absurd h
 rules_belong task (rule ∷ rules) [] h = absurd h
 rules_belong task (rule ∷ rules) (line ∷ lines) h =
-    let one = rule_belongs task rule line h.0 h.2 in
-    let more = rules_belong task rules lines h.3 in record {
+    let one = rule_belongs task rule line h.0.0 h.0.2 in
+    let more = rules_belong task rules lines h.1 in record {
       over = All-cons (λ (rule : Rule). length rule.cond ≡ length task.atoms) rule rules one.0 more.over;
       there = All-cons (λ (rule : Rule). rule.act < length task.acts) rule rules one.1 more.there;
-      led = All-cons (λ (rule : Rule). HasTarget rule.targets) rule rules one.2 more.led;
     }
+
+pub rules_led : (task : Task) (rules : List Rule) (lines : List WrittenLine) → AreRuleLines task rules lines → HaveTargets rules
+rules_led task [] [] h = All-nil (λ (rule : Rule). HasTarget rule.targets)
+rules_led task [] (line ∷ lines) h = absurd h
+rules_led task (rule ∷ rules) [] h = absurd h
+rules_led task (rule ∷ rules) (line ∷ lines) h = All-cons (λ (rule : Rule). HasTarget rule.targets) rule rules (rule_belongs task rule line h.0.0 h.0.2).2 (rules_led task rules lines h.1)

@@ -8,13 +8,13 @@ use Rattle.std.proofs.lemmas.List.Quantifiers.{position-Some}
 use Rattle.fond_text.specs.declared.atom.Atom.{Atom}
 use Rattle.fond_task.specs.declared.task.Task.{Task}
 use Rattle.fond_task.specs.Texts.{atom_text}
-use Rattle.fond_index.specs.Numbers.{atom_number}
+use Rattle.fond_task.specs.Numbers.{atom_number}
 use Rattle.fond_cert.specs.Lines.{IsGroup, group_text, WrittenLiteral, sign_text, piece_text, literal_pieces}
 use Rattle.fond_cert.specs.Parts.{IsGroupText, HasNoLiteral, AreLiterals, literal_text}
 use Rattle.fond_cert.specs.Words.{unknown, refused_or, first_refused, atom_numbers, is_increasing}
 use Rattle.fond_cert.specs.Texts.{with_literal, cube_of}
 use Rattle.fond_cert.specs.Checked.{IsCubeAt, IsLiteralRefused, rises}
-use Rattle.fond_cert.proofs.Groups.{same_behind}
+use Rattle.fond_cert.proofs.Groups.{same_rest}
 use Rattle.fond_cert.proofs.Literals.{literal_apart, same_head, behind_sign, behind_space}
 
 pub spelled : (literals : List WrittenLiteral) → flat_map literal_text literals ≡ flat_map piece_text (literal_pieces literals)
@@ -100,7 +100,7 @@ next_literal (first ∷ more) sign atom behind h group e =
     let P = λ (literal : WrittenLiteral). IsGroup literal.leaves in
     let apart = behind_space _ _ (e ∙ literal_apart first (flat_map literal_text more)) in
     let atoms = behind_sign sign first.sign _ _ apart in
-    let same = same_behind group.0 first.leaves _ _ group.1 (All-head P first more h) (ap (λ t. t ++ behind) (sym group.2) ∙ atoms) in
+    let same = same_rest group.0 first.leaves _ _ group.1 (All-head P first more h) (ap (λ t. t ++ behind) (sym group.2) ∙ atoms) in
     record {
       first = first;
       more = more;

@@ -6,7 +6,8 @@ use Rattle.std.specs.Str.Parse.{digits_value}
 use Rattle.fond_task.specs.declared.task.Task.{Task}
 use Rattle.fond_game.specs.declared.rule.Target.{Target}
 use Rattle.fond_game.specs.declared.rule.Targets.TheVariants.{One}
-use Rattle.fond_index.specs.Numbers.{act_number}
+use Rattle.fond_task.specs.Numbers.{act_number}
+use Rattle.fond_cert.specs.Refusals.{LineRefuses}
 use Rattle.fond_cert.specs.declared.error.LineError.{LineError}
 use Rattle.fond_cert.specs.declared.error.LineError.TheVariants.{Refused as RefusedLine, NoMemory}
 use Rattle.fond_cert.specs.Lines.{IsGroup, group_text, WrittenLiteral, WrittenLine, FairRule, line_text, Below, piece_text, target_piece, literal_pieces}
@@ -14,7 +15,7 @@ use Rattle.fond_cert.specs.Parts.{IsGroupText}
 use Rattle.fond_cert.specs.Shapes.{AreFair, fair_text}
 use Rattle.fond_cert.specs.Words.{Refused, unknown, piece_code, refused_or, first_refused, refusal_or_order, line_refusal, atom_numbers, is_increasing}
 use Rattle.fond_cert.specs.Texts.{written_target}
-use Rattle.fond_cert.specs.Checked.{as_target, IsCubeAt, IsLiteralRefused, IsLiteralsError, ReadsRule, IsRuleRefused, IsRuleError}
+use Rattle.fond_cert.specs.Checked.{as_target, IsCubeAt, IsLiteralRefused, ReadsRule, IsRuleRefused}
 use Rattle.fond_cert.proofs.Cubes.{spelled}
 use Rattle.fond_cert.proofs.Refusals.{below_right, below_wrong}
 use Rattle.fond_cert.proofs.Targets.{writes}
@@ -90,7 +91,7 @@ module _ (task : Task) (action outcome word literals : List ℕ) (group : IsGrou
         pub no_literals : (refused : Refused) → IsLiteralRefused task literals_at literals refused → IsRuleRefused task piece refused
         no_literals refused h = refused_with h.literals h.proper h.spelled refused (rw (sym some, below_right task (2 ^ 32) outcome small, right task, h.wrong) refl)
 
-        pub literals_error : (error : LineError) → IsLiteralsError task literals_at literals error → IsRuleError task piece error
+        pub literals_error : (error : LineError) → LineRefuses (IsLiteralRefused task literals_at literals) error → LineRefuses (IsRuleRefused task piece) error
         literals_error (RefusedLine code at) h = no_literals (record { code = code; at = at }) h
         literals_error NoMemory h = tt
 

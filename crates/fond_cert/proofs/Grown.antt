@@ -5,13 +5,14 @@ use Rattle.std.specs.Str.Parse.{digits_value}
 use Rattle.std.proofs.lemmas.List.{append-nil}
 use Rattle.std.proofs.lemmas.Bool.Decides.{nat_tests}
 use Rattle.fond_task.specs.declared.task.Task.{Task}
+use Rattle.fond_cert.specs.Refusals.{LineRefuses}
 use Rattle.fond_cert.specs.declared.error.LineError.{LineError}
 use Rattle.fond_cert.specs.declared.error.LineError.TheVariants.{Refused as RefusedLine, NoMemory}
 use Rattle.fond_cert.specs.Lines.{is_number, WrittenLine, PolicyHeader, FairRule, UnfairRule, ReachLine, EndLine, line_text}
 use Rattle.fond_cert.specs.Words.{Refused, line_refusal}
 use Rattle.fond_cert.specs.Shapes.{HasNoShape}
-use Rattle.fond_cert.specs.Faults.{RuleDue, EndDue, one_more, due_behind, IsRefusedLine}
-use Rattle.fond_cert.specs.Checked.{is_rule, ReadsReach, IsRuleRefused, IsRuleError, IsLineError}
+use Rattle.fond_cert.specs.Faults.{RuleDue, EndDue, one_more, due_after, IsRefusedLine}
+use Rattle.fond_cert.specs.Checked.{is_rule, ReadsReach, IsRuleRefused}
 use Rattle.fond_cert.proofs.Forms.{no_form, no_room}
 use Rattle.fond_cert.proofs.Refusals.{below_right, below_wrong}
 
@@ -48,17 +49,17 @@ below n h = grind (arith, nat_tests)
 pub more : (rules : ℕ) → rules + 1 < 2 ^ 32 → one_more rules ≡ Some (RuleDue (rules + 1))
 more rules h = ap (λ v. if v then Some (RuleDue (rules + 1)) else None) (below rules h)
 
-pub rule_behind : (rules : ℕ) (line : WrittenLine) → is_rule line ≡ true → rules + 1 < 2 ^ 32 → due_behind (RuleDue rules) line ≡ Some (RuleDue (rules + 1))
-rule_behind rules PolicyHeader kind h = absurd (cc)
-rule_behind rules (FairRule action outcome target literals) kind h = more rules h
-rule_behind rules (UnfairRule action targets literals) kind h = more rules h
-rule_behind rules (ReachLine count) kind h = absurd (cc)
-rule_behind rules EndLine kind h = absurd (cc)
+pub rule_after : (rules : ℕ) (line : WrittenLine) → is_rule line ≡ true → rules + 1 < 2 ^ 32 → due_after (RuleDue rules) line ≡ Some (RuleDue (rules + 1))
+rule_after rules PolicyHeader kind h = absurd (cc)
+rule_after rules (FairRule action outcome target literals) kind h = more rules h
+rule_after rules (UnfairRule action targets literals) kind h = more rules h
+rule_after rules (ReachLine count) kind h = absurd (cc)
+rule_after rules EndLine kind h = absurd (cc)
 
 rule_refused : (task : Task) (rules : ℕ) (piece : List ℕ) (refused : Refused) → rules + 1 < 2 ^ 32 → IsRuleRefused task piece refused → IsRefusedLine task (RuleDue rules) piece refused.code refused.at
-rule_refused task rules piece refused few h = inr (h.line, RuleDue (rules + 1), h.proper, rule_behind rules h.line h.kind few, h.spelled, h.wrong)
+rule_refused task rules piece refused few h = inr (h.line, RuleDue (rules + 1), h.proper, rule_after rules h.line h.kind few, h.spelled, h.wrong)
 
-pub rule_error : (task : Task) (rules : ℕ) (piece : List ℕ) (error : LineError) → rules + 1 < 2 ^ 32 → IsRuleError task piece error → IsLineError task rules piece error
+pub rule_error : (task : Task) (rules : ℕ) (piece : List ℕ) (error : LineError) → rules + 1 < 2 ^ 32 → LineRefuses (IsRuleRefused task piece) error → LineRefuses (λ (refused : Refused). IsRefusedLine task (RuleDue rules) piece refused.code refused.at) error
 rule_error task rules piece (RefusedLine code at) few h = rule_refused task rules piece (record { code = code; at = at }) few h
 rule_error task rules piece NoMemory few h = tt
 

@@ -5,7 +5,7 @@ use Rattle.std.specs.List.{flat_map}
 use Rattle.std.proofs.lemmas.List.Elements.{All-head, All-tail, All-cons, All-nil}
 use Rattle.fond_cert.specs.Lines.{IsGroup, group_text, WrittenLiteral, sign_text}
 use Rattle.fond_cert.specs.Parts.{IsGroupText, HasNoGroup, AreLiterals, HasNoLiteral, literal_text}
-use Rattle.fond_cert.proofs.Groups.{same_behind}
+use Rattle.fond_cert.proofs.Groups.{same_rest}
 
 pub literal_apart : (literal : WrittenLiteral) (rest : List ℕ) → literal_text literal ++ rest ≡ 32 ∷ (sign_text literal.sign ++ (group_text literal.leaves ++ rest))
 literal_apart literal rest = ap (λ t. 32 ∷ t) (append_assoc (sign_text literal.sign) (group_text literal.leaves) rest)
@@ -55,7 +55,7 @@ literals_less_by text atom rest sign group e (literal ∷ literals) h f =
     let P = λ (literal : WrittenLiteral). IsGroup literal.leaves in
     let apart = behind_space _ _ (sym e ∙ f ∙ literal_apart literal (flat_map literal_text literals)) in
     let atoms = behind_sign sign literal.sign _ _ apart in
-    (literals, All-tail P literal literals h, same_behind group.0 literal.leaves _ _ group.1 (All-head P literal literals h) (ap (λ t. t ++ rest) (sym group.2) ∙ atoms))
+    (literals, All-tail P literal literals h, same_rest group.0 literal.leaves _ _ group.1 (All-head P literal literals h) (ap (λ t. t ++ rest) (sym group.2) ∙ atoms))
 
 pub literals_less : (text atom rest : List ℕ) (sign : Bool) → IsGroupText atom → text ≡ 32 ∷ (sign_text sign ++ (atom ++ rest)) → AreLiterals text → AreLiterals rest
 literals_less text atom rest sign group e h = literals_less_by text atom rest sign group e h.0 h.1 h.2

@@ -1,5 +1,5 @@
 -- Digits and their value.
-use Rattle.std.proofs.Common.{◌≡◌, ◌≢◌, ℕ, ◌+◌, ◌-◌, ◌*◌, ◌^◌, ◌<◌, ◌≤◌, ◌==◌, ◌&&◌, ◌||◌, not, Bool, true, false, List, [], ◌∷◌, length, get_or, refl, sym, ap, ◌∙◌, arith}
+use Rattle.std.proofs.Common.{◌≡◌, ◌≢◌, ℕ, ◌+◌, ◌-◌, ◌*◌, ◌^◌, ◌<◌, ◌≤◌, ◌==◌, ◌&&◌, ◌||◌, not, nat_lt, Bool, true, false, List, [], ◌∷◌, length, get_or, refl, sym, ap, ◌∙◌, arith}
 use Rattle.std.specs.Char.{is_ascii_digit, digit_value}
 use Rattle.std.specs.Int.{IsInRange}
 use Rattle.std.specs.List.{list_all}
@@ -31,17 +31,9 @@ tells = record {
 model : IsNumeralModel (λ ds. list_all is_ascii_digit ds ≡ true) (digits_value 10)
 model = numerals_by_value (λ ds. list_all is_ascii_digit ds ≡ true) tells
 
--- more digits make no smaller number
-pub value_grows : (rest : List ℕ) (n : ℕ) → n ≤ digits_value_after 10 n rest
-value_grows [] n = omega arith
-value_grows (b ∷ rest) n = omega (arith, value_grows rest (n * 10 + digit_value b))
-
 pub number_digits : (digits : List ℕ) → is_number digits ≡ true → list_all is_ascii_digit digits ≡ true
 number_digits [] e = absurd (cc)
 number_digits (b ∷ rest) e = let p = number_first b rest e in rw p.0 p.1
-
-pub digits_first : (b : ℕ) (rest : List ℕ) → list_all is_ascii_digit (b ∷ rest) ≡ true → (is_ascii_digit b ≡ true) × (list_all is_ascii_digit rest ≡ true)
-digits_first b rest e = both (is_ascii_digit b) (list_all is_ascii_digit rest) e
 
 zero_alone : (v : Bool) (b : ℕ) (rest : List ℕ) → (b == 48) ≡ v → (not v || length rest == 0) ≡ true → b ≡ 48 → length (b ∷ rest) ≡ 1
 zero_alone true b rest e f z = let n : length rest ≡ 0 = eqb-true (length rest) 0 f in omega arith
@@ -61,18 +53,16 @@ written_value digits n e h f =
     let small : digits_value 10 digits < 2 ^ 64 = rw f at h in
     sym (decimal-digits_value model digits (number_digits digits e) k.0 k.1 small) ∙ ap decimal (sym f)
 
-pub large_value : (digits : List ℕ) → 2 ^ 64 ≤ digits_value 10 digits → (n : ℕ) → n < 2 ^ 64 → digits ≢ decimal n
-large_value digits large n h e =
-    let same : digits_value 10 (decimal n) ≡ n = digits_value-decimal model n h in
-    let big : 2 ^ 64 ≤ digits_value 10 (decimal n) = rw e at large in
-    omega arith
+-- a number whose digits these are is their value
+pub value_is : (digits : List ℕ) (n : ℕ) → n < 2 ^ 64 → digits ≡ decimal n → n ≡ digits_value 10 digits
+value_is digits n small same = sym (ap (digits_value 10) same ∙ digits_value-decimal model n small)
 
-pub overflows : (value b : ℕ) (rest behind digits : List ℕ) → rest ≡ b ∷ behind → digits_value_after 10 value rest ≡ digits_value 10 digits →
-    2 ^ 64 ≤ value * 10 + digit_value b → 2 ^ 64 ≤ digits_value 10 digits
-overflows value b rest behind digits e f large =
-    let g = rw e at f in
-    omega (arith, g, value_grows behind (value * 10 + digit_value b))
-
-pub all_read : (value : ℕ) (rest digits : List ℕ) → length rest ≡ 0 → digits_value_after 10 value rest ≡ digits_value 10 digits → value ≡ digits_value 10 digits
-all_read value [] digits e f = f
-all_read value (b ∷ rest) digits e f = absurd (omega arith)
+-- digits of no number below 2 ^ 64 have a value of 2 ^ 64 or more
+pub no_value : (digits : List ℕ) → is_number digits ≡ true → ((n : ℕ) → n < 2 ^ 64 → digits ≢ decimal n) → 2 ^ 64 ≤ digits_value 10 digits
+no_value digits number none = by_test (nat_lt (digits_value 10 digits) (2 ^ 64)) refl
+  where
+    by_test : (b : Bool) → nat_lt (digits_value 10 digits) (2 ^ 64) ≡ b → 2 ^ 64 ≤ digits_value 10 digits
+    by_test true below =
+        let fits : digits_value 10 digits < 2 ^ 64 = grind (arith, nat_tests) in
+        absurd (none (digits_value 10 digits) fits (written_value digits (digits_value 10 digits) number fits refl))
+    by_test false above = grind (arith, nat_tests)

@@ -1,21 +1,23 @@
 -- Certificates line by line.
+use Rattle.fond_cert.specs.Words.{Refused}
 use Rattle.std.proofs.Common.{◌≡◌, ◌≢◌, ℕ, ◌+◌, ◌-◌, ◌≤◌, ◌<◌, ◌^◌, true, List, [], ◌∷◌, ◌++◌, ◌⊎◌, Some, None, length, codes, inl, inr, refl, sym, ap, ◌∙◌, arith, append_assoc, length-append}
 use Rattle.std.specs.Fmt.{decimal}
 use Rattle.std.proofs.lemmas.Grind.{flat_map-append}
 use Rattle.std.proofs.lemmas.List.{append-nil}
+use Rattle.std.proofs.lemmas.Slice.Zip.{all_zipped_more}
 use Rattle.fond_task.specs.declared.task.Task.{Task}
 use Rattle.fond_game.specs.declared.rule.Rule.{Rule}
+use Rattle.fond_cert.specs.Refusals.{LineRefuses, CertRefuses}
 use Rattle.fond_cert.specs.declared.error.CertError.{CertError}
 use Rattle.fond_cert.specs.declared.error.LineError.{LineError}
 use Rattle.fond_cert.specs.declared.error.LineError.TheVariants.{Refused as RefusedLine, NoMemory}
 use Rattle.fond_cert.specs.Feeds.{HasNoFeed}
 use Rattle.fond_cert.specs.Lines.{WrittenLine, PolicyHeader, FairRule, UnfairRule, ReachLine, EndLine, line_text}
-use Rattle.fond_cert.specs.Texts.{IsRuleLine, AreRuleLines, lines_text, IsPolicyText}
-use Rattle.fond_cert.specs.Faults.{Due, HeaderDue, RuleDue, EndDue, NothingDue, due_behind, Lead, IsRefusedLine, IsRefusedRest, IsPolicyFault}
-use Rattle.fond_cert.specs.Refusals.{IsRefusal}
-use Rattle.fond_cert.specs.Checked.{is_rule, ReadsReach, IsGrown, IsLineError, IsMisplaced, IsWithin, IsPlaced}
+use Rattle.fond_cert.specs.Texts.{IsRuleLine, IsAcceptedRule, AreRuleLines, lines_text, IsPolicyText}
+use Rattle.fond_cert.specs.Faults.{Due, HeaderDue, RuleDue, EndDue, NothingDue, due_after, Lead, IsRefusedLine, IsRefusedRest, IsPolicyFault}
+use Rattle.fond_cert.specs.Checked.{is_rule, ReadsReach, IsGrown, IsMisplaced, IsPlaced}
 use Rattle.fond_cert.proofs.Feeds.{feed_or_none}
-use Rattle.fond_cert.proofs.Grown.{rule_behind}
+use Rattle.fond_cert.proofs.Grown.{rule_after}
 use Rattle.fond_cert.proofs.Refusals.{refusal_within}
 
 lead_more : (task : Task) (lines more : List WrittenLine) (due between end : Due) → Lead task due lines between → Lead task between more end → Lead task due (lines ++ more) end
@@ -35,13 +37,7 @@ lead_rules task before [] (line ∷ lines) h few = absurd h
 lead_rules task before (rule ∷ rules) [] h few = absurd h
 lead_rules task before (rule ∷ rules) (line ∷ lines) h few =
     let same : before + 1 + length rules ≡ before + length (rule ∷ rules) = omega arith in
-    (h.0, h.1, (RuleDue (before + 1), rule_behind before line (is_of_rule task rule line h.2) (omega (arith, few)), rw (sym same) (lead_rules task (before + 1) rules lines h.3 (omega (arith, few)))))
-
-rules_more : (task : Task) (rules : List Rule) (lines : List WrittenLine) (rule : Rule) (line : WrittenLine) → AreRuleLines task rules lines → AreRuleLines task (rule ∷ []) (line ∷ []) → AreRuleLines task (rules ++ (rule ∷ [])) (lines ++ (line ∷ []))
-rules_more task [] [] rule line h one = one
-rules_more task [] (other ∷ lines) rule line h one = absurd h
-rules_more task (other ∷ rules) [] rule line h one = absurd h
-rules_more task (first ∷ rules) (other ∷ lines) rule line h one = (h.0, h.1, h.2, rules_more task rules lines rule line h.3 one)
+    (h.0.0, h.0.1, (RuleDue (before + 1), rule_after before line (is_of_rule task rule line h.0.2) (omega (arith, few)), rw (sym same) (lead_rules task (before + 1) rules lines h.1 (omega (arith, few)))))
 
 -- the rules so far are those of the lines before the rest
 pub record RulesSo (task : Task) (text rest : List ℕ) (rules : List Rule) : Type 0 where
@@ -69,7 +65,7 @@ one_more_rule task text rest piece behind before after h e grown =
     let rule = grown.0 in
     let read = grown.3 in record {
       lines = h.lines ++ (read.line ∷ []);
-      are_rules = rw grown.1 (rules_more task before h.lines rule read.line h.are_rules (read.proper, read.right, read.rule_is, tt));
+      are_rules = rw grown.1 (all_zipped_more (IsAcceptedRule task) before h.lines rule read.line h.are_rules (read.proper, read.right, read.rule_is));
       few = grown.2;
       spelled = h.spelled ∙ ap (λ t. lines_text (PolicyHeader ∷ h.lines) ++ t) (e ∙ ap (λ t. t ++ (codes "\n" ++ behind)) read.spelled) ∙ text_more (PolicyHeader ∷ h.lines) read.line behind;
     }
@@ -98,12 +94,12 @@ line_within : (task : Task) (due : Due) (piece : List ℕ) (code at : ℕ) → I
 line_within task due piece code at (inl h) = omega (arith, h.2)
 line_within task due piece code at (inr h) = let within = refusal_within task h.0 (record { code = code; at = at }) h.5 in omega (arith, within, ap length h.4)
 
-pub within_rest : (task : Task) (rest piece behind : List ℕ) (rules : ℕ) (error : LineError) → rest ≡ piece ++ (codes "\n" ++ behind) → IsLineError task rules piece error → IsWithin (length rest) error
+pub within_rest : (task : Task) (rest piece behind : List ℕ) (rules : ℕ) (error : LineError) → rest ≡ piece ++ (codes "\n" ++ behind) → LineRefuses (λ (refused : Refused). IsRefusedLine task (RuleDue rules) piece refused.code refused.at) error → LineRefuses (λ (refused : Refused). refused.at ≤ length rest) error
 within_rest task rest piece behind rules NoMemory e h = tt
 within_rest task rest piece behind rules (RefusedLine code at) e h = omega (arith, line_within task (RuleDue rules) piece code at h, ap length e, length-append piece (codes "\n" ++ behind))
 
 pub line_fault : (task : Task) (text rest piece behind : List ℕ) (rules : List Rule) (error : LineError) (result : CertError) → RulesSo task text rest rules → HasNoFeed piece → rest ≡ piece ++ (codes "\n" ++ behind) →
-    IsLineError task (length rules) piece error → IsPlaced (length text - length rest) error result → IsRefusal task text result
+    LineRefuses (λ (refused : Refused). IsRefusedLine task (RuleDue (length rules)) piece refused.code refused.at) error → IsPlaced (length text - length rest) error result → CertRefuses (IsPolicyFault task text) result
 line_fault task text rest piece behind rules (RefusedLine code at) result h whole e refused placed = rw placed (fault_at task text rest rules code at h (inr (piece, behind, e, whole, refused)))
 line_fault task text rest piece behind rules NoMemory result h whole e refused placed = rw placed tt
 
@@ -111,20 +107,20 @@ pub end_fault : (task : Task) (text rest : List ℕ) (rules : List Rule) → Rul
 end_fault task text rest rules h none = fault_at task text rest rules 1 0 h (inl (none, refl, refl))
 
 -- where one line alone is allowed, a text that does not begin with it is refused
-not_begun : (task : Task) (due : Due) (line : WrittenLine) (text : List ℕ) → ((other : WrittenLine) (next : Due) → due_behind due other ≡ Some next → other ≡ line) →
+not_begun : (task : Task) (due : Due) (line : WrittenLine) (text : List ℕ) → ((other : WrittenLine) (next : Due) → due_after due other ≡ Some next → other ≡ line) →
     ((more : List ℕ) → text ≢ line_text line ++ (codes "\n" ++ more)) → HasNoFeed text ⊎ ((piece : List ℕ) × (behind : List ℕ) × HasNoFeed piece × (text ≡ piece ++ (codes "\n" ++ behind))) → IsRefusedRest task due text 1 0
 not_begun task due line text only none (inl whole) = inl (whole, refl, refl)
 not_begun task due line text only none (inr h) =
     inr (h.0, h.1, h.3, h.2, inl (λ other next proper allowed e. none h.1 (h.3 ∙ ap (λ t. t ++ (codes "\n" ++ h.1)) (e ∙ ap line_text (only other next allowed))), refl, refl))
 
-only_header : (other : WrittenLine) (next : Due) → due_behind HeaderDue other ≡ Some next → other ≡ PolicyHeader
+only_header : (other : WrittenLine) (next : Due) → due_after HeaderDue other ≡ Some next → other ≡ PolicyHeader
 only_header PolicyHeader next e = refl
 only_header (FairRule action outcome target literals) next e = absurd (cc)
 only_header (UnfairRule action targets literals) next e = absurd (cc)
 only_header (ReachLine count) next e = absurd (cc)
 only_header EndLine next e = absurd (cc)
 
-only_end : (other : WrittenLine) (next : Due) → due_behind EndDue other ≡ Some next → other ≡ EndLine
+only_end : (other : WrittenLine) (next : Due) → due_after EndDue other ≡ Some next → other ≡ EndLine
 only_end PolicyHeader next e = absurd (cc)
 only_end (FairRule action outcome target literals) next e = absurd (cc)
 only_end (UnfairRule action targets literals) next e = absurd (cc)
@@ -155,8 +151,8 @@ module _ (task : Task) (text rest piece behind : List ℕ) (rules : List Rule) (
       h.spelled ∙ ap (λ t. lines_text (PolicyHeader ∷ h.lines) ++ t) (e ∙ ap (λ t. t ++ (codes "\n" ++ behind)) read.spelled)
       ∙ text_more (PolicyHeader ∷ h.lines) (ReachLine (decimal reach)) behind
 
-  pub behind_short : length behind ≤ length text
-  behind_short = omega (arith, ap length reach_split, length-append (lines_text reached) behind)
+  pub after_short : length behind ≤ length text
+  after_short = omega (arith, ap length reach_split, length-append (lines_text reached) behind)
 
   pub policy_read : behind ≡ codes "end\n" → IsPolicyText task rules reach text
   policy_read end = record {
@@ -194,5 +190,5 @@ module _ (task : Task) (text rest piece behind : List ℕ) (rules : List Rule) (
       }
 
   pub misplaced_short : (left : List ℕ) → IsMisplaced behind left → length left ≤ length text
-  misplaced_short left (inl m) = omega (arith, ap length m.0, behind_short)
-  misplaced_short left (inr m) = omega (arith, ap length m.0, behind_short)
+  misplaced_short left (inl m) = omega (arith, ap length m.0, after_short)
+  misplaced_short left (inr m) = omega (arith, ap length m.0, after_short)

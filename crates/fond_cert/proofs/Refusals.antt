@@ -1,4 +1,5 @@
 -- Refusals of lines, piece by piece.
+use Rattle.std.proofs.Common.{Result, Ok, Err, IfErr, IsErrAnd, subst, sym}
 use Rattle.std.proofs.Common.{◌≡◌, ℕ, ◌+◌, ◌≤◌, ◌<◌, nat_lt, Bool, true, false, List, [], ◌∷◌, ◌++◌, Option, Some, None, length, if◌then◌else◌, refl, ap, ◌∙◌, arith, length-append}
 use Rattle.std.specs.List.{flat_map}
 use Rattle.std.specs.Str.Parse.{digits_value}
@@ -76,3 +77,8 @@ pub refusal_within : (task : Task) (line : WrittenLine) (refused : Refused) → 
 refusal_within task line refused e =
     order_within (first_refused task 0 (line_pieces line)) (is_ordered task line) refused (length (line_text line))
     (λ first. let h = within task 0 (line_pieces line) refused first in omega (arith, h)) e
+
+-- an error that a call hands on has what it had
+pub handed_on : {T E : Type 0} (r : Result T E) (error : E) (P : E → Type 0) → IsErrAnd r (λ e. e ≡ error) → P error → IfErr r P
+handed_on (Ok x) error P same holds = tt
+handed_on (Err e) error P same holds = subst P (sym same) holds

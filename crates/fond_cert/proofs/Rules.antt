@@ -5,7 +5,7 @@ use Rattle.fond_cert.specs.Parts.{IsGroupText, HasNoGroup}
 use Rattle.fond_cert.specs.Lines.{is_number}
 use Rattle.fond_cert.specs.Shapes.{FairShape, UnfairShape, ReachShape, HasNoShape}
 use Rattle.fond_cert.proofs.Bodies.{HasNoFair, HasNoUnfair}
-use Rattle.fond_cert.proofs.Groups.{same_behind}
+use Rattle.fond_cert.proofs.Groups.{same_rest}
 use Rattle.fond_cert.proofs.Literals.{same_head, same_tail}
 
 -- a text is no reach line
@@ -33,41 +33,41 @@ no_rule_no_line piece other_kind none (FairShape action outcome target literals)
 no_rule_no_line piece other_kind none (UnfairShape action targets literals) h f = none _ f
 no_rule_no_line piece other_kind none (ReachShape count) h f = other_kind _ f
 
-behind_rule : (piece inner more : List ℕ) → piece ≡ codes "rule " ++ inner → piece ≡ codes "rule " ++ more → inner ≡ more
-behind_rule piece inner more e f = append_cancel_left (codes "rule ") inner more (sym e ∙ f)
+after_rule : (piece inner more : List ℕ) → piece ≡ codes "rule " ++ inner → piece ≡ codes "rule " ++ more → inner ≡ more
+after_rule piece inner more e f = append_cancel_left (codes "rule ") inner more (sym e ∙ f)
 
 no_group_here : (inner action body : List ℕ) → HasNoGroup inner → IsGroupText action → inner ≢ action ++ body
 no_group_here inner action body none group e = none group.0 body group.1 (e ∙ ap (λ t. t ++ body) group.2)
 
 pub no_action_no_line : (piece inner : List ℕ) → IsNoReach piece → piece ≡ codes "rule " ++ inner → HasNoGroup inner → HasNoShape piece
-no_action_no_line piece inner other_kind e none (FairShape action outcome target literals) h f = no_group_here inner action _ none h.0 (behind_rule piece inner _ e f)
-no_action_no_line piece inner other_kind e none (UnfairShape action targets literals) h f = no_group_here inner action _ none h.0 (behind_rule piece inner _ e f)
+no_action_no_line piece inner other_kind e none (FairShape action outcome target literals) h f = no_group_here inner action _ none h.0 (after_rule piece inner _ e f)
+no_action_no_line piece inner other_kind e none (UnfairShape action targets literals) h f = no_group_here inner action _ none h.0 (after_rule piece inner _ e f)
 no_action_no_line piece inner other_kind e none (ReachShape count) h f = other_kind _ f
 
 -- what stands behind the action of a rule
-behind_action : (piece inner action rest other body : List ℕ) → piece ≡ codes "rule " ++ inner → (IsGroupText action × (inner ≡ action ++ rest)) →
+after_action : (piece inner action rest other body : List ℕ) → piece ≡ codes "rule " ++ inner → (IsGroupText action × (inner ≡ action ++ rest)) →
     IsGroupText other → piece ≡ codes "rule " ++ (other ++ body) → rest ≡ body
-behind_action piece inner action rest other body e group h f =
-    same_behind group.0.0 h.0 rest body group.0.1 h.1
-    (ap (λ t. t ++ rest) (sym group.0.2) ∙ sym group.1 ∙ behind_rule piece inner (other ++ body) e f ∙ ap (λ t. t ++ body) h.2)
+after_action piece inner action rest other body e group h f =
+    same_rest group.0.0 h.0 rest body group.0.1 h.1
+    (ap (λ t. t ++ rest) (sym group.0.2) ∙ sym group.1 ∙ after_rule piece inner (other ++ body) e f ∙ ap (λ t. t ++ body) h.2)
 
 module _ (piece inner action rest : List ℕ) (other_kind : IsNoReach piece) (e : piece ≡ codes "rule " ++ inner) (group : IsGroupText action × (inner ≡ action ++ rest)) where
   pub no_kind_no_line : ((text : List ℕ) → rest ≢ codes " fair " ++ text) → ((text : List ℕ) → rest ≢ codes " unfair" ++ text) → HasNoShape piece
-  no_kind_no_line fair unfair (FairShape other outcome target literals) h f = fair _ (behind_action piece inner action rest other _ e group h.0 f)
-  no_kind_no_line fair unfair (UnfairShape other targets literals) h f = unfair _ (behind_action piece inner action rest other _ e group h.0 f)
+  no_kind_no_line fair unfair (FairShape other outcome target literals) h f = fair _ (after_action piece inner action rest other _ e group h.0 f)
+  no_kind_no_line fair unfair (UnfairShape other targets literals) h f = unfair _ (after_action piece inner action rest other _ e group h.0 f)
   no_kind_no_line fair unfair (ReachShape count) h f = other_kind _ f
 
   pub no_fair_no_line : (text : List ℕ) → rest ≡ codes " fair " ++ text → HasNoFair text → HasNoShape piece
   no_fair_no_line text g none (FairShape other outcome target literals) h f =
-      none outcome target literals h.1 (append_cancel_left (codes " fair ") text _ (sym g ∙ behind_action piece inner action rest other _ e group h.0 f))
-  no_fair_no_line text g none (UnfairShape other targets literals) h f = fair_is_not_unfair _ _ (sym g ∙ behind_action piece inner action rest other _ e group h.0 f)
+      none outcome target literals h.1 (append_cancel_left (codes " fair ") text _ (sym g ∙ after_action piece inner action rest other _ e group h.0 f))
+  no_fair_no_line text g none (UnfairShape other targets literals) h f = fair_is_not_unfair _ _ (sym g ∙ after_action piece inner action rest other _ e group h.0 f)
   no_fair_no_line text g none (ReachShape count) h f = other_kind _ f
 
   pub no_unfair_no_line : (text : List ℕ) → rest ≡ codes " unfair" ++ text → HasNoUnfair text → HasNoShape piece
   no_unfair_no_line text g none (FairShape other outcome target literals) h f =
-      fair_is_not_unfair _ _ (sym (behind_action piece inner action rest other _ e group h.0 f) ∙ g)
+      fair_is_not_unfair _ _ (sym (after_action piece inner action rest other _ e group h.0 f) ∙ g)
   no_unfair_no_line text g none (UnfairShape other targets literals) h f =
-      none targets literals h.1 (append_cancel_left (codes " unfair") text _ (sym g ∙ behind_action piece inner action rest other _ e group h.0 f))
+      none targets literals h.1 (append_cancel_left (codes " unfair") text _ (sym g ∙ after_action piece inner action rest other _ e group h.0 f))
   no_unfair_no_line text g none (ReachShape count) h f = other_kind _ f
 
 -- a rule from its parts

@@ -5,14 +5,15 @@ use Rattle.std.proofs.lemmas.Grind.{flat_map-append}
 use Rattle.fond_task.specs.declared.task.Task.{Task}
 use Rattle.fond_game.specs.declared.rule.Target.{Target}
 use Rattle.fond_game.specs.declared.rule.Targets.TheVariants.{All as Each}
-use Rattle.fond_index.specs.Numbers.{act_number}
+use Rattle.fond_task.specs.Numbers.{act_number}
+use Rattle.fond_cert.specs.Refusals.{LineRefuses}
 use Rattle.fond_cert.specs.declared.error.LineError.{LineError}
 use Rattle.fond_cert.specs.declared.error.LineError.TheVariants.{Refused as RefusedLine, NoMemory}
 use Rattle.fond_cert.specs.Lines.{IsGroup, group_text, spaced, WrittenTarget, IsProperTarget, WrittenLiteral, WrittenLine, UnfairRule, line_text, Fixed, piece_text, target_pieces, literal_pieces}
 use Rattle.fond_cert.specs.Parts.{IsGroupText}
 use Rattle.fond_cert.specs.Shapes.{AreUnfair}
 use Rattle.fond_cert.specs.Words.{Refused, unknown, refused_or, first_refused, refusal_or_order, line_refusal, atom_numbers, is_increasing}
-use Rattle.fond_cert.specs.Checked.{AreTargetsText, AreTargetsAt, IsTargetRefused, IsTargetsError, IsCubeAt, IsLiteralRefused, IsLiteralsError, ReadsRule, IsRuleRefused, IsRuleError}
+use Rattle.fond_cert.specs.Checked.{AreTargetsText, AreTargetsAt, IsTargetRefused, IsCubeAt, IsLiteralRefused, ReadsRule, IsRuleRefused}
 use Rattle.fond_cert.proofs.Cubes.{spelled}
 use Rattle.fond_cert.proofs.Refusals.{behind_right, among_first}
 use Rattle.fond_cert.proofs.Targets.{as_written}
@@ -84,7 +85,7 @@ module _ (task : Task) (action targets literals : List ℕ) (group : IsGroupText
         refused_with h.written parts.2.2.0 (record { proper = h.proper; targets_are = h.spelled; right = parts.2.2.1; literals_are = parts.2.2.2 ∙ spelled parts.2.2.0 }) refused
         (rw (sym some, among_first task targets_at (target_pieces h.written) (Fixed (codes " :") ∷ literal_pieces parts.2.2.0) refused h.wrong) refl)
 
-    pub targets_error : (error : LineError) → IsTargetsError task targets_at targets error → IsRuleError task piece error
+    pub targets_error : (error : LineError) → LineRefuses (IsTargetRefused task targets_at targets) error → LineRefuses (IsRuleRefused task piece) error
     targets_error (RefusedLine code at) h = no_target (record { code = code; at = at }) h
     targets_error NoMemory h = tt
 
@@ -99,7 +100,7 @@ module _ (task : Task) (action targets literals : List ℕ) (group : IsGroupText
           refused_with found.written h.literals (record { proper = found.proper; targets_are = found.spelled; right = h.proper; literals_are = h.spelled }) refused
           (rw (sym some, over_targets h.literals, h.wrong) refl)
 
-      pub literals_error : (error : LineError) → IsLiteralsError task literals_at literals error → IsRuleError task piece error
+      pub literals_error : (error : LineError) → LineRefuses (IsLiteralRefused task literals_at literals) error → LineRefuses (IsRuleRefused task piece) error
       literals_error (RefusedLine code at) h = no_literals (record { code = code; at = at }) h
       literals_error NoMemory h = tt
 

@@ -1,4 +1,4 @@
--- What the words of a line are checked to be.
+-- What is read from the parts of a line, and which of its parts is refused.
 use Rattle.std.specs.Prelude.{◌≡◌, ◌≢◌, ◌⊎◌, ℕ, ◌<◌, ◌≤◌, ◌+◌, ◌^◌, nat_lt, Bool, true, false, List, [], ◌∷◌, ◌++◌, Option, Some, None, All, length, replicate, if◌then◌else◌, codes}
 use Rattle.std.specs.List.{flat_map}
 use Rattle.std.specs.Fmt.{decimal}
@@ -16,11 +16,11 @@ use Rattle.fond_cert.specs.Words.{Refused, first_refused, atom_numbers, is_incre
 use Rattle.fond_cert.specs.Texts.{written_targets, cube_of, IsRuleLine}
 use Rattle.fond_cert.specs.Faults.{RuleDue, IsRefusedLine}
 
--- the target that a word writes
+-- a word as a written target
 abbrev pub as_target : List ℕ → WrittenTarget
 as_target word = if bytes_eq word (codes "goal") then GoalWord else NumberWord word
 
--- a text is that of targets, each behind a space
+-- a text is that of targets, each after a space
 abbrev pub AreTargetsText : List ℕ → Type 0
 AreTargetsText text = (words : List (List ℕ)) × AreTargets words × (text ≡ spaced words)
 
@@ -32,16 +32,12 @@ pub record AreTargetsAt (task : Task) (at : ℕ) (text : List ℕ) (targets : Li
   pub right : first_refused task at (target_pieces written) ≡ None
   pub named : written ≡ written_targets targets
 
--- one of the targets is the first that is refused
+-- a text of targets that begins at this byte of a line has this first refusal
 pub record IsTargetRefused (task : Task) (at : ℕ) (text : List ℕ) (refused : Refused) : Type 0 where
   pub written : List WrittenTarget
   pub proper : All IsProperTarget written
   pub spelled : text ≡ flat_map piece_text (target_pieces written)
   pub wrong : first_refused task at (target_pieces written) ≡ Some refused
-
-abbrev pub IsTargetsError : Task → ℕ → List ℕ → LineError → Type 0
-IsTargetsError task at text (RefusedLine code byte) = IsTargetRefused task at text (record { code = code; at = byte })
-IsTargetsError task at text NoMemory = Unit {0}
 
 -- a cube is read from a text of literals that begins at this byte of a line, and none of them is refused
 pub record IsCubeAt (task : Task) (at : ℕ) (text : List ℕ) (cube : List (Option Bool)) (is_ordered : Bool) : Type 0 where
@@ -52,31 +48,25 @@ pub record IsCubeAt (task : Task) (at : ℕ) (text : List ℕ) (cube : List (Opt
   pub cube_is : cube ≡ cube_of task (replicate (length task.atoms) None) literals
   pub order_is : is_ordered ≡ is_increasing (atom_numbers task literals)
 
--- one of the literals is the first that is refused
+-- a text of literals that begins at this byte of a line has this first refusal
 pub record IsLiteralRefused (task : Task) (at : ℕ) (text : List ℕ) (refused : Refused) : Type 0 where
   pub literals : List WrittenLiteral
   pub proper : All (λ literal. IsGroup literal.leaves) literals
   pub spelled : text ≡ flat_map piece_text (literal_pieces literals)
   pub wrong : first_refused task at (literal_pieces literals) ≡ Some refused
 
-abbrev pub IsLiteralsError : Task → ℕ → List ℕ → LineError → Type 0
-IsLiteralsError task at text (RefusedLine code byte) = IsLiteralRefused task at text (record { code = code; at = byte })
-IsLiteralsError task at text NoMemory = Unit {0}
-
--- whether a number is above the one before it, if there is one
+-- whether a number is greater than the one before it, if there is one
 abbrev pub rises : Option ℕ → ℕ → Bool
 rises None number = true
 rises (Some last) number = nat_lt last number
 
--- whether a line is one of a rule
+-- whether a line is that of a rule
 abbrev pub is_rule : WrittenLine → Bool
-is_rule PolicyHeader = false
 is_rule (FairRule action outcome target literals) = true
 is_rule (UnfairRule action targets literals) = true
-is_rule (ReachLine count) = false
-is_rule EndLine = false
+is_rule line = false
 
--- a piece of text is a line of this rule, and is not refused
+-- a piece of text is a line of this rule that is not refused
 pub record ReadsRule (task : Task) (piece : List ℕ) (rule : Rule) : Type 0 where
   pub line : WrittenLine
   pub proper : IsProper line
@@ -85,17 +75,13 @@ pub record ReadsRule (task : Task) (piece : List ℕ) (rule : Rule) : Type 0 whe
   pub right : line_refusal task line ≡ None
   pub rule_is : IsRuleLine task rule line
 
--- a piece of text is a line of a rule, and is refused
+-- a piece of text is a line of a rule with this refusal
 pub record IsRuleRefused (task : Task) (piece : List ℕ) (refused : Refused) : Type 0 where
   pub line : WrittenLine
   pub proper : IsProper line
   pub kind : is_rule line ≡ true
   pub spelled : piece ≡ line_text line
   pub wrong : line_refusal task line ≡ Some refused
-
-abbrev pub IsRuleError : Task → List ℕ → LineError → Type 0
-IsRuleError task piece (RefusedLine code byte) = IsRuleRefused task piece (record { code = code; at = byte })
-IsRuleError task piece NoMemory = Unit {0}
 
 -- a piece of text is the reach line with this number, which is not refused
 pub record ReadsReach (task : Task) (piece : List ℕ) (reach : ℕ) : Type 0 where
@@ -104,27 +90,17 @@ pub record ReadsReach (task : Task) (piece : List ℕ) (reach : ℕ) : Type 0 wh
   pub spelled : piece ≡ line_text (ReachLine (decimal reach))
   pub right : line_refusal task (ReachLine (decimal reach)) ≡ None
 
--- what a line behind rules makes of them: one more rule, or the reach number behind them
+-- the rules after a line that follows rules: one more rule, or the same rules with the reach number
 abbrev pub IsGrown : Task → List Rule → List ℕ → Option ℕ → List Rule → Type 0
 IsGrown task before piece None after = (rule : Rule) × (after ≡ before ++ rule ∷ []) × (length after < 2 ^ 32) × ReadsRule task piece rule
 IsGrown task before piece (Some reach) after = (after ≡ before) × ReadsReach task piece reach
 
--- a line behind this many rules is refused
-abbrev pub IsLineError : Task → ℕ → List ℕ → LineError → Type 0
-IsLineError task rules piece (RefusedLine code byte) = IsRefusedLine task (RuleDue rules) piece code byte
-IsLineError task rules piece NoMemory = Unit {0}
-
--- what stands where the end is due, up to the end of the text: all of it where it does not begin with the end, or
--- what stands behind the end
+-- the rest of a text, from its first fault on, if the end line is due at its beginning: all of it if it does not begin
+-- with the end line, or else the bytes after the end line
 abbrev pub IsMisplaced : List ℕ → List ℕ → Type 0
 IsMisplaced text rest = ((rest ≡ text) × ((more : List ℕ) → text ≢ codes "end\n" ++ more)) ⊎ ((text ≡ codes "end\n" ++ rest) × (rest ≢ []))
 
--- an error of a line is within this many bytes
-abbrev pub IsWithin : ℕ → LineError → Type 0
-IsWithin bound (RefusedLine code byte) = byte ≤ bound
-IsWithin bound NoMemory = Unit {0}
-
--- an error of a text is that of its line that begins at this byte
+-- the error of a text is that of its line which begins at this byte
 abbrev pub IsPlaced : ℕ → LineError → CertError → Type 0
 IsPlaced start (RefusedLine code byte) error = error ≡ RefusedText code (start + byte)
 IsPlaced start NoMemory error = error ≡ WithoutMemory

@@ -2,7 +2,7 @@
 use Rattle.std.specs.Prelude.{ℕ, ◌==◌, not, Bool, List, IsTrue}
 use Rattle.std.specs.List.{list_all}
 
--- whether a byte may stand in a line: it is no line feed
+-- whether a byte may occur in a line: it is no line feed
 abbrev pub is_in_line : ℕ → Bool
 is_in_line b = not (b == 10)
 

@@ -1,14 +1,14 @@
--- The lines of a policy certificate as they are written, whatever their words name.
-use Rattle.std.specs.Prelude.{ℕ, ◌<◌, ◌^◌, ◌&&◌, ◌||◌, ◌==◌, nat_le, Bool, true, false, not, List, [], ◌∷◌, ◌++◌, All, length, IsTrue, codes}
+-- The lines of a policy certificate as they are written, whether or not the task has what their words name.
+use Rattle.std.specs.Prelude.{ℕ, ◌<◌, ◌^◌, ◌&&◌, ◌||◌, ◌==◌, nat_le, Bool, true, false, not, List, [], ◌∷◌, ◌++◌, All, length, IsTrue, codes, ⊤}
 use Rattle.std.specs.Char.{is_ascii_digit}
 use Rattle.std.specs.List.{flat_map, list_all}
 use Rattle.fond_text.specs.Bytes.{is_leaf_byte}
 
--- whether a byte may stand in a leaf of a certificate, where no capitals stand
+-- whether a byte may occur in a leaf of a certificate, which has no capitals
 abbrev pub is_plain_byte : ℕ → Bool
 is_plain_byte b = is_leaf_byte b && not (nat_le 65 b && nat_le b 90)
 
--- a leaf of a certificate has a byte, and all its bytes may stand in one
+-- a leaf of a certificate has a byte, and all its bytes may occur in leaves
 abbrev pub IsPlainLeaf : List ℕ → Type 0
 IsPlainLeaf leaf = (0 < length leaf) × IsTrue (list_all is_plain_byte leaf)
 
@@ -20,12 +20,12 @@ IsGroup leaves = (0 < length leaves) × All IsPlainLeaf leaves
 abbrev pub spaced : List (List ℕ) → List ℕ
 spaced leaves = flat_map (λ leaf. codes " " ++ leaf) leaves
 
--- leaves parted by single spaces, between parentheses
+-- leaves between parentheses, separated by single spaces
 abbrev pub group_text : List (List ℕ) → List ℕ
 group_text [] = codes "()"
 group_text (leaf ∷ leaves) = codes "(" ++ (leaf ++ (spaced leaves ++ codes ")"))
 
--- whether a text is that of a number: digits, of which the first is 0 only where it is alone
+-- whether a text is that of a number: digits, the first of which is 0 only if it is the only one
 abbrev pub is_number : List ℕ → Bool
 is_number [] = false
 is_number (b ∷ rest) = is_ascii_digit b && (not (b == 48) || length rest == 0) && list_all is_ascii_digit rest
@@ -37,7 +37,7 @@ pub data WrittenTarget : Type 0 where
 
 -- the digits of a target are those of a number
 abbrev pub IsProperTarget : WrittenTarget → Type 0
-IsProperTarget GoalWord = Unit {0}
+IsProperTarget GoalWord = ⊤
 IsProperTarget (NumberWord digits) = IsTrue (is_number digits)
 
 -- a literal as it is written: its sign and its atom
@@ -45,6 +45,7 @@ pub record WrittenLiteral : Type 0 where
   pub sign : Bool
   pub leaves : List (List ℕ)
 
+-- the text of a sign
 abbrev pub sign_text : Bool → List ℕ
 sign_text true = codes "+"
 sign_text false = codes "-"
@@ -57,29 +58,31 @@ pub data WrittenLine : Type 0 where
   ReachLine : (count : List ℕ) → WrittenLine
   EndLine : WrittenLine
 
--- a piece of a line: bytes that are never refused, an action, an atom, or a number that has to be below a bound
+-- a piece of a line: bytes that are never refused, an action, an atom, or a number that must be below a bound
 pub data Piece : Type 0 where
   Fixed : (text : List ℕ) → Piece
   ActionWord : (leaves : List (List ℕ)) → Piece
   AtomWord : (leaves : List (List ℕ)) → Piece
   Below : (bound : ℕ) (digits : List ℕ) → Piece
 
+-- the text of a piece
 abbrev pub piece_text : Piece → List ℕ
 piece_text (Fixed text) = text
 piece_text (ActionWord leaves) = group_text leaves
 piece_text (AtomWord leaves) = group_text leaves
 piece_text (Below bound digits) = digits
 
+-- the piece of a target
 abbrev pub target_piece : WrittenTarget → Piece
 target_piece GoalWord = Fixed (codes "goal")
 target_piece (NumberWord digits) = Below (2 ^ 32) digits
 
--- targets, each behind a space
+-- the pieces of targets, each after a space
 abbrev pub target_pieces : List WrittenTarget → List Piece
 target_pieces [] = []
 target_pieces (target ∷ targets) = Fixed (codes " ") ∷ target_piece target ∷ target_pieces targets
 
--- literals, each a sign and an atom behind a space
+-- the pieces of literals, each a sign and an atom after a space
 abbrev pub literal_pieces : List WrittenLiteral → List Piece
 literal_pieces [] = []
 literal_pieces (literal ∷ literals) = Fixed (codes " ") ∷ Fixed (sign_text literal.sign) ∷ AtomWord literal.leaves ∷ literal_pieces literals
@@ -98,10 +101,10 @@ line_pieces EndLine = Fixed (codes "end") ∷ []
 abbrev pub line_text : WrittenLine → List ℕ
 line_text line = flat_map piece_text (line_pieces line)
 
--- the atoms and actions of a line have leaves, its numbers are numbers, and an unfair rule has targets
+-- a line is proper: its atoms and actions have leaves, its numbers are numbers, and an unfair rule has targets
 abbrev pub IsProper : WrittenLine → Type 0
-IsProper PolicyHeader = Unit {0}
+IsProper PolicyHeader = ⊤
 IsProper (FairRule action outcome target literals) = IsGroup action × IsTrue (is_number outcome) × IsProperTarget target × All (λ literal. IsGroup literal.leaves) literals
 IsProper (UnfairRule action targets literals) = IsGroup action × (0 < length targets) × All IsProperTarget targets × All (λ literal. IsGroup literal.leaves) literals
 IsProper (ReachLine count) = IsTrue (is_number count)
-IsProper EndLine = Unit {0}
+IsProper EndLine = ⊤

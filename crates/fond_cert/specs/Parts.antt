@@ -1,5 +1,5 @@
--- The parts that stand in front of a text, and what stands behind them.
-use Rattle.std.specs.Prelude.{◌≡◌, ◌≢◌, ℕ, ◌==◌, ◌&&◌, ◌||◌, not, Bool, true, false, List, [], ◌∷◌, ◌++◌, Option, Some, None, All, IsTrue, codes, if◌then◌else◌}
+-- The parts of a line at the beginning of a text, and the rest of the text.
+use Rattle.std.specs.Prelude.{◌≡◌, ◌≢◌, ℕ, ◌==◌, ◌&&◌, ◌||◌, not, Bool, true, false, List, [], ◌∷◌, ◌++◌, Option, Some, None, All, IsTrue, codes, ⊤, if◌then◌else◌}
 use Rattle.std.specs.Str.{bytes_eq}
 use Rattle.std.specs.List.{flat_map, list_all}
 use Rattle.fond_cert.specs.Lines.{is_plain_byte, IsGroup, group_text, WrittenLiteral, sign_text, is_number}
@@ -12,12 +12,12 @@ IsGroupText text = (leaves : List (List ℕ)) × IsGroup leaves × (text ≡ gro
 abbrev pub HasNoGroup : List ℕ → Type 0
 HasNoGroup text = (leaves : List (List ℕ)) (rest : List ℕ) → IsGroup leaves → text ≢ group_text leaves ++ rest
 
--- what stands behind leaves and their closing parenthesis, where a leaf is open or is yet to begin
-abbrev pub behind_leaves : Bool → List ℕ → Option (List ℕ)
-behind_leaves is_open [] = None
-behind_leaves is_open (b ∷ rest) =
-    if is_plain_byte b then behind_leaves true rest
-    else if is_open && b == 32 then behind_leaves false rest
+-- the rest of a text after leaves and their closing parenthesis, if the text begins so inside a leaf or at its first byte
+abbrev pub after_leaves : Bool → List ℕ → Option (List ℕ)
+after_leaves is_open [] = None
+after_leaves is_open (b ∷ rest) =
+    if is_plain_byte b then after_leaves true rest
+    else if is_open && b == 32 then after_leaves false rest
     else if is_open && b == 41 then Some rest
     else None
 
@@ -34,16 +34,16 @@ AreLiterals text =
 abbrev pub HasNoLiteral : List ℕ → Type 0
 HasNoLiteral text = (literal : WrittenLiteral) (rest : List ℕ) → IsGroup literal.leaves → text ≢ literal_text literal ++ rest
 
--- whether a byte may stand in a word: it is no space
+-- whether a byte may occur in a word: it is no space
 abbrev pub is_in_word : ℕ → Bool
 is_in_word b = not (b == 32)
 
--- nothing is left, or a space comes next
+-- a text is empty, or begins with a space
 abbrev pub EndsWord : List ℕ → Type 0
-EndsWord [] = Unit {0}
+EndsWord [] = ⊤
 EndsWord (b ∷ rest) = b ≡ 32
 
--- a text is a word, which has no space and may be empty, and what stands behind it
+-- a text is a word, which has no space and may be empty, followed by a rest that is empty or begins with a space
 abbrev pub IsCut : List ℕ → List ℕ → List ℕ → Type 0
 IsCut text word rest = (text ≡ word ++ rest) × IsTrue (list_all is_in_word word) × EndsWord rest
 

@@ -1,11 +1,17 @@
--- What reading a certificate answers where it answers no policy.
-use Rattle.std.specs.Prelude.{ℕ, List}
-use Rattle.fond_task.specs.declared.task.Task.{Task}
+-- Errors, and what holds of the refusals among them.
+use Rattle.std.specs.Prelude.{ℕ, ⊤}
 use Rattle.fond_cert.specs.declared.error.CertError.{CertError}
-use Rattle.fond_cert.specs.declared.error.CertError.TheVariants.{Refused, NoMemory}
-use Rattle.fond_cert.specs.Faults.{IsPolicyFault}
+use Rattle.fond_cert.specs.declared.error.CertError.TheVariants.{Refused as RefusedText, NoMemory as WithoutMemory}
+use Rattle.fond_cert.specs.declared.error.LineError.{LineError}
+use Rattle.fond_cert.specs.declared.error.LineError.TheVariants.{Refused as RefusedLine, NoMemory}
+use Rattle.fond_cert.specs.Words.{Refused}
 
--- a text that is refused has its fault at that byte; want of memory says nothing of the text
-abbrev pub IsRefusal : Task → List ℕ → CertError → Type 0
-IsRefusal task text (Refused code byte) = IsPolicyFault task text code byte
-IsRefusal task text NoMemory = Unit {0}
+-- an error that refuses a certificate reports a code and a byte of which this holds; memory may run out at any time
+abbrev pub CertRefuses : (ℕ → ℕ → Type 0) → CertError → Type 0
+CertRefuses holds (RefusedText code byte) = holds code byte
+CertRefuses holds WithoutMemory = ⊤
+
+-- an error that refuses a line reports a refusal of which this holds; memory may run out at any time
+abbrev pub LineRefuses : (Refused → Type 0) → LineError → Type 0
+LineRefuses holds (RefusedLine code at) = holds (record { code = code; at = at })
+LineRefuses holds NoMemory = ⊤

@@ -1,25 +1,25 @@
--- Which word of a line is refused.
+-- The refusal of a line by its words or by their order.
 use Rattle.std.specs.Prelude.{ℕ, ◌+◌, nat_lt, ◌&&◌, Bool, true, false, List, [], ◌∷◌, Option, Some, None, length, if◌then◌else◌}
 use Rattle.std.specs.List.{filter_map}
 use Rattle.std.specs.Str.Parse.{digits_value}
 use Rattle.fond_task.specs.declared.task.Task.{Task}
-use Rattle.fond_index.specs.Numbers.{act_number, atom_number}
+use Rattle.fond_task.specs.Numbers.{act_number, atom_number}
 use Rattle.fond_cert.specs.Lines.{group_text, WrittenLiteral, WrittenLine, PolicyHeader, FairRule, UnfairRule, ReachLine, EndLine, Piece, Fixed, ActionWord, AtomWord, Below, piece_text, line_pieces}
 
--- the code of a word that names nothing
+-- this code, if a word names nothing
 abbrev pub unknown : ℕ → Option ℕ → Option ℕ
 unknown code None = Some code
 unknown code (Some number) = None
 
--- the code with which a piece is refused: 2 for an atom and 3 for an action that the task does not have, and 4 for
--- a number that is not below its bound
+-- the code with which a piece is refused, if it is: 2 for an atom and 3 for an action that the task does not have, and 4
+-- for a number that is not below its bound
 abbrev pub piece_code : Task → Piece → Option ℕ
 piece_code task (Fixed text) = None
 piece_code task (ActionWord leaves) = unknown 3 (act_number task (group_text leaves))
 piece_code task (AtomWord leaves) = unknown 2 (atom_number task (group_text leaves))
 piece_code task (Below bound digits) = if nat_lt (digits_value 10 digits) bound then None else Some 4
 
--- a refusal: its code, and the byte of the line at which it stands, counted from 0
+-- a refusal of a line: its code, and its byte in the line, counted from 0
 pub record Refused : Type 0 where
   pub code : ℕ
   pub at : ℕ
@@ -29,12 +29,12 @@ abbrev pub refused_or : Option ℕ → ℕ → Option Refused → Option Refused
 refused_or (Some code) at more = Some (record { code = code; at = at })
 refused_or None at more = more
 
--- the first of the pieces that is refused, at its first byte; the pieces begin at this byte
+-- the refusal of the first piece that is refused, at its first byte, if the pieces begin at this byte
 abbrev pub first_refused : Task → ℕ → List Piece → Option Refused
 first_refused task at [] = None
 first_refused task at (piece ∷ pieces) = refused_or (piece_code task piece) at (first_refused task (at + length (piece_text piece)) pieces)
 
--- the numbers of the atoms of literals, without those that the task does not have
+-- the numbers of the atoms of literals, leaving out atoms that the task does not have
 abbrev pub atom_numbers : Task → List WrittenLiteral → List ℕ
 atom_numbers task literals = filter_map (λ literal. atom_number task (group_text literal.leaves)) literals
 
@@ -44,20 +44,18 @@ is_increasing [] = true
 is_increasing (number ∷ []) = true
 is_increasing (number ∷ next ∷ rest) = nat_lt number next && is_increasing (next ∷ rest)
 
--- whether the atoms of a line stand in the order of their numbers, each once
+-- whether the atoms of a line strictly increase by their numbers
 abbrev pub is_ordered : Task → WrittenLine → Bool
-is_ordered task PolicyHeader = true
 is_ordered task (FairRule action outcome target literals) = is_increasing (atom_numbers task literals)
 is_ordered task (UnfairRule action targets literals) = is_increasing (atom_numbers task literals)
-is_ordered task (ReachLine count) = true
-is_ordered task EndLine = true
+is_ordered task line = true
 
--- a refusal by a word, or else code 1 at the first byte where the atoms are out of order
+-- a refusal by a word, or else code 1 at the first byte if the atoms are out of order
 abbrev pub refusal_or_order : Option Refused → Bool → Option Refused
 refusal_or_order (Some refused) ordered = Some refused
 refusal_or_order None true = None
 refusal_or_order None false = Some (record { code = 1; at = 0 })
 
--- a line is refused at its first piece that is refused, and else at its first byte where its atoms are out of order
+-- the refusal of a line: by its first piece that is refused, or else at its first byte if its atoms are out of order
 abbrev pub line_refusal : Task → WrittenLine → Option Refused
 line_refusal task line = refusal_or_order (first_refused task 0 (line_pieces line)) (is_ordered task line)

@@ -5,12 +5,15 @@ ghost use Rattle.fond_cert.specs.declared.error.LineError.TheVariants.{NoMemory 
 ghost use Rattle.std.specs.Prelude.{◌≡◌};
 
 use fond_text::fault::NoMemory;
+use thiserror::Error;
 
 /// Why a text is no certificate of a task. docs/CERTIFICATES.md lists the codes.
-#[derive(Clone, Copy, Debug, PartialEq, Eq)]
+#[derive(Clone, Copy, Debug, PartialEq, Eq, Error)]
 pub enum CertError {
-    /// The code, the number behind the C, and the byte at which it stands, counted from 0.
+    /// The code, the number after the C, and the byte of the fault, counted from 0.
+    #[error("the certificate is refused")]
     Refused { code: u8, byte: u64 },
+    #[error("out of memory")]
     NoMemory,
 }
 
@@ -22,7 +25,7 @@ impl From<NoMemory> for CertError {
     }
 }
 
-/// Why a line is refused: the code, and the byte of the line at which it stands.
+/// Why a line is refused: the code, and the byte of the fault in the line.
 #[derive(Clone, Copy, Debug, PartialEq, Eq)]
 pub(crate) enum LineError {
     Refused { code: u8, at: usize },

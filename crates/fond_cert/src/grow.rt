@@ -1,19 +1,20 @@
 //! Rules line by line.
 
-ghost use Rattle.fond_cert.specs.Checked.{IsGrown, IsLineError, ReadsReach, ReadsRule, IsRuleError};
+ghost use Rattle.fond_cert.specs.Faults.{IsRefusedLine, RuleDue};
+ghost use Rattle.fond_cert.specs.Refusals.{LineRefuses};
+ghost use Rattle.fond_cert.specs.Checked.{IsGrown, ReadsReach, ReadsRule, IsRuleRefused};
 ghost use Rattle.fond_cert.specs.Lines.{is_number};
 ghost use Rattle.fond_cert.specs.Shapes.{IsRuleOf};
-ghost use Rattle.fond_index.specs.Indexes.{task_of};
 ghost use Rattle.fond_task.specs.declared.task.Task.{Task};
 ghost use Rattle.std.specs.Prelude.{◌≡◌, ◌++◌, ℕ, IsTrue, codes, length, IfOk, IfErr};
 
 use crate::error::LineError;
 use crate::line::{Line, RuleLine, cut_line};
-use crate::number::number;
 use crate::rule::{fair_rule, unfair_rule};
+use crate::word::number;
 use fond_game::rule::Rule;
-use fond_index::task_index::TaskIndex;
 use fond_rules::rules::Rules;
+use fond_task::task_index::TaskIndex;
 use std::alloc::Global;
 
 /// The refusal of a line that has no form that is allowed at its place.
@@ -27,8 +28,8 @@ fn rule_of(
     line: RuleLine,
 ) -> Result<Rule, LineError>
     requires { IsRuleOf line piece.now }
-    ensures read { IfOk result (ReadsRule (task_of index.now) piece.now) }
-    ensures wrong { IfErr result (IsRuleError (task_of index.now) piece.now) }
+    ensures read { IfOk result (ReadsRule index.now piece.now) }
+    ensures wrong { IfErr result (LineRefuses (IsRuleRefused index.now piece.now)) }
 {
     match line {
         RuleLine::Fair {
@@ -50,7 +51,7 @@ fn reach_of(piece: &[u8], count: &[u8]) -> Result<u64, LineError>
     requires number { IsTrue (is_number count.now) }
     requires spelled { piece.now ≡ codes "reach " ++ count.now }
     ensures read { IfOk result (λ reach. (task : Task) → ReadsReach task piece.now reach) }
-    ensures wrong { IfErr result (λ error. (task : Task) (rules : ℕ) → IsLineError task rules piece.now error) }
+    ensures wrong { IfErr result (λ error. (task : Task) (rules : ℕ) → LineRefuses (λ refused. IsRefusedLine task (RuleDue rules) piece.now refused.code refused.at) error) }
 {
     match number(count) {
         Some(reach) => Ok(reach),
@@ -68,27 +69,22 @@ pub(crate) fn grow(
     rules: &mut Rules,
     piece: &[u8],
 ) -> Result<Option<u64>, LineError>
-    ensures grown { IfOk result (λ reach. IsGrown (task_of index.now) rules.old piece.now reach rules.new) }
-    ensures wrong { IfErr result (IsLineError (task_of index.now) (length rules.old) piece.now) }
+    ensures grown { IfOk result (λ reach. IsGrown index.now rules.old piece.now reach rules.new) }
+    ensures wrong { IfErr result (LineRefuses (λ refused. IsRefusedLine index.now (RuleDue (length rules.old)) piece.now refused.code refused.at)) }
 {
     let Some(line) = cut_line(piece) else {
         return Err(FORMLESS);
     };
     let line = match line {
         Line::Reach { count } => {
-            return match reach_of(piece, count) {
-                Ok(reach) => Ok(Some(reach)),
-                Err(error) => Err(error),
-            };
+            return Ok(Some(reach_of(piece, count)?));
         }
         Line::Rule(line) => line,
     };
     if rules.len() == u32::MAX {
         return Err(FORMLESS);
     }
-    match rule_of(alloc, index, piece, line) {
-        Ok(rule) => rules.push(rule)?,
-        Err(error) => return Err(error),
-    }
+    let rule = rule_of(alloc, index, piece, line)?;
+    rules.push(rule)?;
     Ok(None)
 }

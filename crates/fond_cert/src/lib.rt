@@ -7,7 +7,6 @@ mod feed;
 mod grow;
 mod line;
 mod literal;
-mod number;
 mod part;
 pub mod policy;
 #[cfg(test)]

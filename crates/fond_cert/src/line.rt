@@ -5,7 +5,7 @@ ghost use Rattle.fond_cert.specs.Lines.{spaced};
 ghost use Rattle.fond_cert.specs.Parts.{AreLiterals};
 
 use crate::part::{after, are_literals, group};
-use crate::word::{behind_targets, is_number, is_target, word};
+use crate::word::{after_targets, is_number, is_target, word};
 
 /// A rule by the texts of its parts. The targets and the literals each have a space before them.
 #[derive(Clone, Copy)]
@@ -68,7 +68,7 @@ fn unfair<'a>(text: &'a [u8]) -> Option<(&'a [u8], &'a [u8])>
         ((targets : List (List ℕ)) (literals : List ℕ) → AreUnfair targets literals → text.now ≢ unfair_text targets literals)
         (λ parts. (targets : List (List ℕ)) × (parts.0.now ≡ spaced targets) × AreUnfair targets parts.1.now × (text.now ≡ unfair_text targets parts.1.now)) }
 {
-    let rest = behind_targets(text);
+    let rest = after_targets(text);
     let targets = &text[..text.len() - rest.len()];
     let literals = after(rest, b" :")?;
     if are_unfair(targets, literals) {

@@ -1,15 +1,15 @@
 //! The literals of a rule.
 
-ghost use Rattle.fond_cert.specs.Checked.{rises, IsCubeAt, IsLiteralsError};
+ghost use Rattle.fond_cert.specs.Refusals.{LineRefuses};
+ghost use Rattle.fond_cert.specs.Checked.{rises, IsCubeAt, IsLiteralRefused};
 ghost use Rattle.fond_cert.specs.Parts.{AreLiterals};
-ghost use Rattle.fond_index.specs.Indexes.{task_of};
 ghost use Rattle.std.specs.Prelude.{◌≡◌, ◌+◌, ◌<◌, ◌^◌, ◌&&◌, None, Some, length, replicate, slice_set, IfOk, IfErr};
 
 use crate::error::LineError;
 use crate::part::literal;
-use fond_index::task_index::TaskIndex;
 use fond_state::cube::Cube;
 use fond_task::task::Task;
+use fond_task::task_index::TaskIndex;
 use fond_text::fault::NoMemory;
 use std::alloc::Global;
 
@@ -61,8 +61,8 @@ pub(crate) fn read_literals(
 ) -> Result<Literals, LineError>
     requires spelled { AreLiterals text.now }
     requires within { at + length text.now < 2 ^ 64 }
-    ensures read { IfOk result (λ literals. IsCubeAt (task_of index.now) at text.now literals.cube literals.is_ordered) }
-    ensures wrong { IfErr result (λ error. IsLiteralsError (task_of index.now) at text.now error) }
+    ensures read { IfOk result (λ literals. IsCubeAt index.now at text.now literals.cube literals.is_ordered) }
+    ensures wrong { IfErr result (LineRefuses (IsLiteralRefused index.now at text.now)) }
 {
     let mut literals = Literals {
         cube: whole_cube(alloc, index.task())?,

@@ -3,7 +3,7 @@
 
 ghost use Rattle.std.specs.Prelude.{◌≡◌, ◌≢◌, ◌++◌, ◌↔◌, ℕ, Bool, List, false, true, option_map, MatchOption, codes};
 ghost use Rattle.fond_cert.specs.Lines.{is_plain_byte, sign_text};
-ghost use Rattle.fond_cert.specs.Parts.{IsGroupText, HasNoGroup, behind_leaves, AreLiterals, HasNoLiteral};
+ghost use Rattle.fond_cert.specs.Parts.{IsGroupText, HasNoGroup, after_leaves, AreLiterals, HasNoLiteral};
 
 /// Whether the byte may stand in a leaf of a certificate.
 fn is_plain_byte(b: u8) -> bool
@@ -13,8 +13,8 @@ fn is_plain_byte(b: u8) -> bool
 }
 
 /// What stands behind leaves, parted by single spaces, and their closing parenthesis.
-fn behind_leaves<'a>(text: &'a [u8]) -> Option<&'a [u8]>
-    ensures { option_map (λ rest. rest.now) result ≡ behind_leaves false text.now }
+fn after_leaves<'a>(text: &'a [u8]) -> Option<&'a [u8]>
+    ensures { option_map (λ rest. rest.now) result ≡ after_leaves false text.now }
 {
     let mut is_open = false;
     let mut rest = text;
@@ -44,7 +44,7 @@ pub fn after<'a>(text: &'a [u8], word: &[u8]) -> Option<&'a [u8]>
 pub fn group<'a>(text: &'a [u8]) -> Option<(&'a [u8], &'a [u8])>
     ensures { MatchOption result (HasNoGroup text.now) (λ parts. IsGroupText parts.0.now × (text.now ≡ parts.0.now ++ parts.1.now)) }
 {
-    let rest = behind_leaves(after(text, b"(")?)?;
+    let rest = after_leaves(after(text, b"(")?)?;
     Some((&text[..text.len() - rest.len()], rest))
 }
 

@@ -1,19 +1,19 @@
 //! Reading a policy certificate.
 
-ghost use Rattle.fond_cert.specs.Checked.{IsMisplaced, IsPlaced, IsWithin};
-ghost use Rattle.fond_cert.specs.Refusals.{IsRefusal};
+ghost use Rattle.fond_cert.specs.Faults.{IsPolicyFault};
+ghost use Rattle.fond_cert.specs.Refusals.{LineRefuses, CertRefuses};
+ghost use Rattle.fond_cert.specs.Checked.{IsMisplaced, IsPlaced};
 ghost use Rattle.fond_cert.specs.Texts.{IsPolicyText};
-ghost use Rattle.fond_rules.specs.Belongs.{BelongTo};
-ghost use Rattle.fond_index.specs.Indexes.{task_of};
+ghost use Rattle.fond_rules.specs.Belongs.{BelongTo, HaveTargets};
 ghost use Rattle.std.specs.Prelude.{◌≡◌, ◌++◌, ◌+◌, ◌-◌, ◌≤◌, codes, length, MatchOption, IfOk, IfErr};
 
 use crate::error::{CertError, LineError};
 use crate::feed::line_of;
 use crate::grow::{FORMLESS, grow};
 use crate::part::after;
-use fond_index::task_index::TaskIndex;
 use fond_rules::rules::Rules;
 use fond_task::task::Task;
+use fond_task::task_index::TaskIndex;
 use std::alloc::Global;
 
 /// A policy certificate without layers and pairs: its rules, and how many states they reach.
@@ -26,7 +26,7 @@ pub struct Policy {
 /// The error of a text by that of its line at which the rest begins.
 fn placed(text: &[u8], rest: &[u8], error: LineError) -> CertError
     requires rest { length rest.now ≤ length text.now }
-    requires line { IsWithin (length rest.now) error }
+    requires line { LineRefuses (λ refused. refused.at ≤ length rest.now) error }
     ensures { IsPlaced (length text.now - length rest.now) error result }
 {
     match error {
@@ -56,8 +56,8 @@ fn read_lines(
     lines: &[u8],
 ) -> Result<Policy, CertError>
     requires { text.now ≡ codes "dualfond 1 policy\n" ++ lines.now }
-    ensures read { IfOk result (λ policy. IsPolicyText (task_of index.now) policy.rules policy.reach text.now) }
-    ensures refused { IfErr result (IsRefusal (task_of index.now) text.now) }
+    ensures read { IfOk result (λ policy. IsPolicyText index.now policy.rules policy.reach text.now) }
+    ensures refused { IfErr result (CertRefuses (IsPolicyFault index.now text.now)) }
 {
     let mut rules = Rules::new(alloc);
     let mut rest = lines;
@@ -81,7 +81,8 @@ fn read_lines(
 pub fn read_policy(alloc: Global, task: &Task, text: &[u8]) -> Result<Policy, CertError>
     ensures read { IfOk result (λ policy. IsPolicyText task.now policy.rules policy.reach text.now) }
     ensures belongs { IfOk result (λ policy. BelongTo task.now policy.rules) }
-    ensures refused { IfErr result (IsRefusal task.now text.now) }
+    ensures led { IfOk result (λ policy. HaveTargets policy.rules) }
+    ensures refused { IfErr result (CertRefuses (IsPolicyFault task.now text.now)) }
 {
     let Some(lines) = after(text, b"dualfond 1 policy\n") else {
         return Err(CertError::Refused { code: 1, byte: 0 });

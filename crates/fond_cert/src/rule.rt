@@ -1,20 +1,20 @@
 //! The rule that a line writes.
 
-ghost use Rattle.fond_cert.specs.Checked.{ReadsRule, IsRuleError};
+ghost use Rattle.fond_cert.specs.Refusals.{LineRefuses};
+ghost use Rattle.fond_cert.specs.Checked.{ReadsRule, IsRuleRefused};
 ghost use Rattle.fond_cert.specs.Parts.{IsGroupText};
 ghost use Rattle.fond_cert.specs.Shapes.{AreFair, AreUnfair, fair_text};
 ghost use Rattle.fond_cert.specs.Lines.{spaced};
-ghost use Rattle.fond_index.specs.Indexes.{task_of};
 ghost use Rattle.std.specs.Prelude.{◌≡◌, ◌+◌, ◌<◌, ◌^◌, ◌++◌, List, ℕ, length, codes, IfOk, IfErr};
 
 use crate::error::LineError;
 use crate::literal::read_literals;
 use crate::target::{read_targets, short_number, target};
 use fond_game::rule::{Rule, Targets};
-use fond_index::task_index::TaskIndex;
+use fond_task::task_index::TaskIndex;
 use std::alloc::Global;
 
-/// Behind `rule `.
+/// The byte of a line at which the action begins, after `rule `.
 const ACTION_AT: usize = 5;
 
 /// The rule of a line with the word `fair`, by the texts of its parts.
@@ -29,8 +29,8 @@ pub(crate) fn fair_rule(
     requires action { IsGroupText action.now }
     requires parts { AreFair outcome.now word.now literals.now }
     requires within { length action.now + length outcome.now + length word.now + length literals.now + 14 < 2 ^ 64 }
-    ensures read { IfOk result (ReadsRule (task_of index.now) (codes "rule " ++ (action.now ++ (codes " fair " ++ fair_text outcome.now word.now literals.now)))) }
-    ensures wrong { IfErr result (IsRuleError (task_of index.now) (codes "rule " ++ (action.now ++ (codes " fair " ++ fair_text outcome.now word.now literals.now)))) }
+    ensures read { IfOk result (ReadsRule index.now (codes "rule " ++ (action.now ++ (codes " fair " ++ fair_text outcome.now word.now literals.now)))) }
+    ensures wrong { IfErr result (LineRefuses (IsRuleRefused index.now (codes "rule " ++ (action.now ++ (codes " fair " ++ fair_text outcome.now word.now literals.now))))) }
 {
     let outcome_at = ACTION_AT + action.len() + 6;
     let target_at = outcome_at + outcome.len() + 1;
@@ -53,10 +53,7 @@ pub(crate) fn fair_rule(
             at: target_at,
         });
     };
-    let read = match read_literals(alloc, index, literals, literals_at) {
-        Ok(read) => read,
-        Err(error) => return Err(error),
-    };
+    let read = read_literals(alloc, index, literals, literals_at)?;
     if read.is_ordered {
         Ok(Rule {
             cond: read.cube,
@@ -79,8 +76,8 @@ pub(crate) fn unfair_rule(
     requires action { IsGroupText action.now }
     requires parts { (words : List (List ℕ)) × (targets.now ≡ spaced words) × AreUnfair words literals.now }
     requires within { length action.now + length targets.now + length literals.now + 14 < 2 ^ 64 }
-    ensures read { IfOk result (ReadsRule (task_of index.now) (codes "rule " ++ (action.now ++ (codes " unfair" ++ (targets.now ++ (codes " :" ++ literals.now)))))) }
-    ensures wrong { IfErr result (IsRuleError (task_of index.now) (codes "rule " ++ (action.now ++ (codes " unfair" ++ (targets.now ++ (codes " :" ++ literals.now)))))) }
+    ensures read { IfOk result (ReadsRule index.now (codes "rule " ++ (action.now ++ (codes " unfair" ++ (targets.now ++ (codes " :" ++ literals.now)))))) }
+    ensures wrong { IfErr result (LineRefuses (IsRuleRefused index.now (codes "rule " ++ (action.now ++ (codes " unfair" ++ (targets.now ++ (codes " :" ++ literals.now))))))) }
 {
     let targets_at = ACTION_AT + action.len() + 7;
     let literals_at = targets_at + targets.len() + 2;
@@ -90,14 +87,8 @@ pub(crate) fn unfair_rule(
             at: ACTION_AT,
         });
     };
-    let targets = match read_targets(alloc, targets, targets_at) {
-        Ok(targets) => targets,
-        Err(error) => return Err(error),
-    };
-    let read = match read_literals(alloc, index, literals, literals_at) {
-        Ok(read) => read,
-        Err(error) => return Err(error),
-    };
+    let targets = read_targets(alloc, targets, targets_at)?;
+    let read = read_literals(alloc, index, literals, literals_at)?;
     if read.is_ordered {
         Ok(Rule {
             cond: read.cube,

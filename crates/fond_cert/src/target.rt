@@ -1,6 +1,7 @@
 //! The targets of a rule.
 
-ghost use Rattle.fond_cert.specs.Checked.{as_target, AreTargetsText, AreTargetsAt, IsTargetsError};
+ghost use Rattle.fond_cert.specs.Refusals.{LineRefuses};
+ghost use Rattle.fond_cert.specs.Checked.{as_target, AreTargetsText, AreTargetsAt, IsTargetRefused};
 ghost use Rattle.fond_cert.specs.Lines.{is_number, target_piece};
 ghost use Rattle.fond_cert.specs.Parts.{is_target};
 ghost use Rattle.fond_cert.specs.Texts.{written_target};
@@ -11,9 +12,8 @@ ghost use Rattle.std.specs.Prelude.{◌≡◌, ◌+◌, ◌<◌, ◌≤◌, ◌^
 ghost use Rattle.std.specs.Str.Parse.{digits_value};
 
 use crate::error::LineError;
-use crate::number::number;
 use crate::part::after;
-use crate::word::word;
+use crate::word::{number, word};
 use fond_game::rule::{Target, TargetList};
 use std::alloc::Global;
 
@@ -43,7 +43,7 @@ pub(crate) fn read_targets(alloc: Global, text: &[u8], at: usize) -> Result<Targ
     requires spelled { AreTargetsText text.now }
     requires within { at + length text.now < 2 ^ 64 }
     ensures read { IfOk result (λ targets. (task : Task) → AreTargetsAt task at text.now targets) }
-    ensures wrong { IfErr result (λ error. (task : Task) → IsTargetsError task at text.now error) }
+    ensures wrong { IfErr result (λ error. (task : Task) → LineRefuses (IsTargetRefused task at text.now) error) }
 {
     let mut targets = TargetList::new(alloc);
     let mut rest = text;

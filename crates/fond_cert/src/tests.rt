@@ -1,7 +1,7 @@
 //! Lines and numbers worked out by hand.
 
 use crate::line::{Line, RuleLine, cut_line};
-use crate::number::number;
+use crate::word::number;
 
 #[test]
 fn a_fair_rule_is_cut(rt: HostRuntime) {

@@ -49,14 +49,3 @@ module _ (rules : List Rule) (state : List Bool) where
       let same : number ≡ act = same_Some number act (sym chosen ∙ is) in
       let at : slice_get task.acts act ≡ Some applicable.act = ap (slice_get task.acts) (sym same) ∙ applicable.numbered in
       differs answer fails (told applicable.act at ∙ applicable.holds)
-
--- the actions of the rules before this index are there
-abbrev pub ThereBefore : ℕ → List Rule → ℕ → Type 0
-ThereBefore count rules i = (k : ℕ) (d : Rule) → k < i → (get_or rules k d).act < count
-
--- so is that of the rule at it
-pub there_more : (count : ℕ) (rules : List Rule) (i : ℕ) (rule : Rule) → slice_get rules i ≡ Some rule → rule.act < count → ThereBefore count rules i → ThereBefore count rules (i + 1)
-there_more count rules i rule is there before k d within =
-    let P : ℕ → Type 0 = λ k. (d : Rule) → (get_or rules k d).act < count in
-    let Q : Rule → Type 0 = λ r. r.act < count in
-    below_more P i (λ k less d. before k d less) (λ d. subst Q (sym (get_or_from_slice_get rules i rule d is)) there) k within d

@@ -1,2 +1,4 @@
 pub mod Chosen
 pub mod Traced
+pub mod Left
+pub mod Numbers

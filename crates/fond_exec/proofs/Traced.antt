@@ -1,24 +1,29 @@
--- Traces, step by step: what was written so far, and what goes on behind it.
-use Rattle.std.proofs.Common.{◌≡◌, ℕ, ◌+◌, List, [], ◌∷◌, ◌++◌, Bool, true, false, length, refl, sym, ap, ◌∙◌, subst, inl, inr, append_assoc, append-nil}
+-- Traces step by step: the lines so far, and the traces that go on from there.
+use Rattle.std.proofs.Common.{◌≡◌, ℕ, ◌≤◌, List, [], ◌∷◌, ◌++◌, Bool, true, false, length, refl, sym, ap, ◌∙◌, subst, append_assoc, append-nil, arith}
 use Rattle.std.specs.Prelude.{Result, Ok, Err, OnOk, codes, if◌then◌else◌}
-use Rattle.std.proofs.lemmas.Bool.{true≢false}
+use Rattle.fond_task.specs.declared.task.Act.{Act}
 use Rattle.fond_task.specs.declared.task.Task.{Task}
+use Rattle.fond_task.specs.Texts.{state_text}
 use Rattle.fond_task.specs.Truth.{is_true}
 use Rattle.fond_game.specs.declared.rule.Rule.{Rule}
+use Rattle.fond_game.specs.Policies.{IsGoal}
 use Rattle.fond_exec.specs.declared.step.Step.{Step}
-use Rattle.fond_exec.specs.declared.step.Step.TheVariants.{Took, Done, Stuck, BadOutcome}
-use Rattle.fond_exec.specs.Lines.{told_line, is_taken}
-use Rattle.fond_exec.specs.Steps.{IsStep}
-use Rattle.fond_exec.specs.Traces.{goal_line, Trace}
+use Rattle.fond_exec.specs.Runs.{Run}
+use Rattle.fond_exec.specs.Steps.{IsChosen, IsStuck, IsTaken, IsStep}
+use Rattle.fond_exec.specs.Traces.{goal_line, outcome_line, step_line, Trace, goal, ended, stuck, past, took}
 use Rattle.fond_exec.proofs.Chosen.{differs}
 
--- what an Ok gives, and what that gives
-pub on_ok_map : {T E A B : Type 0} (r : Result T E) → (A → B) → OnOk r A → OnOk r B
-on_ok_map (Ok x) f a = f a
-on_ok_map (Err e) f a = tt
+-- what an Ok gives, through a function
+pub on_ok : {T E A B : Type 0} (r : Result T E) → (A → B) → OnOk r A → OnOk r B
+on_ok (Ok x) f a = f a
+on_ok (Err e) f a = tt
+
+pub none_left : (left : List ℕ) → length left ≡ 0 → left ≡ []
+none_left [] none = refl
+none_left (outcome ∷ left) none = absurd (omega (arith, none))
 
 module _ (task : Task) (rules : List Rule) where
-  -- a step of the same task and rules
+  -- a step of an equal task and equal rules
   pub step_of : (other : Task) (more : List Rule) (state : List Bool) (outcome : ℕ) (step : Step) (after : List Bool) → other ≡ task → more ≡ rules →
       IsStep other more state outcome step after → IsStep task rules state outcome step after
   step_of other more state outcome step after same same_rules is =
@@ -26,70 +31,85 @@ module _ (task : Task) (rules : List Rule) where
       let Q : List Rule → Type 0 = λ r. IsStep task r state outcome step after in
       subst Q same_rules (subst P same is)
 
-  -- a whole trace whose lines stand behind what was there before
-  pub record IsTraced (start : List Bool) (outcomes : List ℕ) (last : List Bool) (before now : List ℕ) : Type 0 where
-    pub text : List ℕ
-    pub told : Trace task rules start outcomes text last
-    pub written : now ≡ before ++ text
+  -- a whole trace, whose lines follow the bytes before
+  abbrev pub IsTraced : List Bool → List ℕ → List Bool → List ℕ → List ℕ → Type 0
+  IsTraced start outcomes last before now = (text : List ℕ) × Trace task rules start outcomes text last × (now ≡ before ++ text)
 
-  -- behind the lines so far whatever trace goes on from the state over the numbers that are left makes a trace
-  -- from the start
+  -- the lines so far, followed by any trace from the state over the outcomes that are left, are a trace from the start
   pub record Progress (start : List Bool) (outcomes : List ℕ) (state : List Bool) (left before now : List ℕ) : Type 0 where
     pub front : List ℕ
     pub written : now ≡ before ++ front
     pub onward : (text : List ℕ) (last : List Bool) → Trace task rules state left text last → Trace task rules start outcomes (front ++ text) last
 
   pub begins : (start : List Bool) (outcomes before : List ℕ) → Progress start outcomes start outcomes before before
-  begins start outcomes before = record { front = []; written = sym (append-nil before); onward = λ text last told. told }
+  begins start outcomes before = record { front = []; written = sym (append-nil before); onward = λ text last trace. trace }
 
   module _ (start : List Bool) (outcomes : List ℕ) (state : List Bool) (left before now : List ℕ) (so_far : Progress start outcomes state left before now) where
-    -- the trace ends with this line
+    -- the trace ends with these lines
     ends_by : (line : List ℕ) (last : List Bool) (after : List ℕ) → Trace task rules state left line last → after ≡ now ++ line → IsTraced start outcomes last before after
-    ends_by line last after told put = record {
-      text = so_far.front ++ line;
-      told = so_far.onward line last told;
-      written = put ∙ ap (λ w. w ++ line) so_far.written ∙ append_assoc before so_far.front line;
-    }
+    ends_by line last after trace put =
+        (so_far.front ++ line, so_far.onward line last trace, put ∙ ap (λ w. w ++ line) so_far.written ∙ append_assoc before so_far.front line)
 
-    -- no number is left
+    at_goal : (last : List Bool) (after : List ℕ) → IsGoal task state → last ≡ state → after ≡ now ++ goal_line (length left) → IsTraced start outcomes last before after
+    at_goal last after is same put = ends_by (goal_line (length left)) last after (subst (λ s. Trace task rules state left (goal_line (length left)) s) (sym same) (goal state left is)) put
+
+    -- no outcome is left
     ended_by : (is_goal : Bool) (after : List ℕ) → left ≡ [] → is_goal ≡ is_true state task.goal → after ≡ now ++ (if is_goal then goal_line 0 else codes "ended\n") → IsTraced start outcomes state before after
-    ended_by true after none is put =
-        let P : List ℕ → Type 0 = λ w. Trace task rules state w (goal_line 0) state in
-        ends_by (goal_line 0) state after (subst P (sym none) (inl (sym is, refl, refl))) put
+    ended_by true after none is put = at_goal state after (sym is) refl (put ∙ ap (λ w. now ++ goal_line (length w)) (sym none))
     ended_by false after none is put =
-        let P : List ℕ → Type 0 = λ w. Trace task rules state w (codes "ended\n") state in
-        ends_by (codes "ended\n") state after (subst P (sym none) (inr (differs _ (sym is), refl, refl))) put
+        ends_by (codes "ended\n") state after (subst (λ w. Trace task rules state w (codes "ended\n") state) (sym none) (ended state (differs _ (sym is)))) put
 
-    pub ended : (is_goal : Bool) (after : List ℕ) → left ≡ [] → is_goal ≡ is_true state task.goal → after ≡ now ++ (if is_goal then goal_line 0 else codes "ended\n") → IsTraced start outcomes state before after
-    ended is_goal after none is put = ended_by is_goal after none is put
+    pub at_end : (is_goal : Bool) (after : List ℕ) → left ≡ [] → is_goal ≡ is_true state task.goal → after ≡ now ++ (if is_goal then goal_line 0 else codes "ended\n") → IsTraced start outcomes state before after
+    at_end is_goal after none is put = ended_by is_goal after none is put
+
+    pub at_done : (last : List Bool) (after : List ℕ) → IsGoal task state × (last ≡ state) → after ≡ now ++ goal_line (length left) → IsTraced start outcomes last before after
+    at_done last after is put = at_goal last after is.0 is.1 put
 
     module _ (outcome : ℕ) (more : List ℕ) (next : left ≡ outcome ∷ more) where
-      -- a step that is not taken ends the trace
-      pub stopped : (step : Step) (last : List Bool) (after : List ℕ) → IsStep task rules state outcome step last → is_taken step ≡ false → after ≡ now ++ told_line task outcome (1 + length more) step →
-          IsTraced start outcomes last before after
-      stopped Done last after is fails put =
-          let P : List ℕ → Type 0 = λ w. Trace task rules state w (goal_line (1 + length more)) last in
-          ends_by _ last after (subst P (sym next) (Done, last, is, (refl, refl))) put
-      stopped Stuck last after is fails put =
-          let P : List ℕ → Type 0 = λ w. Trace task rules state w (codes "stuck\n") last in
-          ends_by _ last after (subst P (sym next) (Stuck, last, is, (refl, refl))) put
-      stopped (BadOutcome count) last after is fails put =
-          let P : List ℕ → Type 0 = λ w. Trace task rules state w (told_line task outcome (1 + length more) (BadOutcome count)) last in
-          ends_by _ last after (subst P (sym next) (BadOutcome count, last, is, (refl, refl))) put
-      stopped (Took rule number) last after is fails put = absurd (true≢false fails)
+      -- a trace of one line
+      one_line : (line : List ℕ) (last : List Bool) (after : List ℕ) → Trace task rules state (outcome ∷ more) line state → last ≡ state → after ≡ now ++ line → IsTraced start outcomes last before after
+      one_line line last after trace same put =
+          let P : List Bool → Type 0 = λ s. Trace task rules state (outcome ∷ more) line s in
+          let Q : List ℕ → Type 0 = λ w. Trace task rules state w line last in
+          ends_by line last after (subst Q (sym next) (subst P (sym same) trace)) put
+
+      pub at_stuck : (last : List Bool) (after : List ℕ) → (¬ IsGoal task state) × IsStuck task rules state × (last ≡ state) → after ≡ now ++ codes "stuck\n" → IsTraced start outcomes last before after
+      at_stuck last after is put = one_line (codes "stuck\n") last after (stuck state outcome more is.0 is.1) is.2 put
+
+      pub at_past : (count : ℕ) (last : List Bool) (after : List ℕ) →
+          (¬ IsGoal task state) × ((number : ℕ) × (act : Act) × IsChosen task rules state number act × (count ≡ length act.outcomes)) × (count ≤ outcome) × (last ≡ state) →
+          after ≡ now ++ outcome_line outcome count → IsTraced start outcomes last before after
+      at_past count last after is put =
+          let act = is.1.1 in
+          let counted : count ≡ length act.outcomes = is.1.3 in
+          let beyond : length act.outcomes ≤ outcome = subst (λ n. n ≤ outcome) counted is.2 in
+          one_line (outcome_line outcome (length act.outcomes)) last after (past state outcome more is.1.0 act is.0 is.1.2 beyond) is.3 (put ∙ ap (λ n. now ++ outcome_line outcome n) counted)
 
       -- a step that is taken goes on from the next state
-      pub went_on : (step : Step) (last : List Bool) (after : List ℕ) (count : ℕ) → IsStep task rules state outcome step last → is_taken step ≡ true → after ≡ now ++ told_line task outcome count step →
+      pub went_on : (rule number : ℕ) (last : List Bool) (after : List ℕ) → IsTaken task rules state outcome rule number last → after ≡ now ++ step_line task rule number outcome →
           Progress start outcomes last more before after
-      went_on Done last after count is holds put = absurd (true≢false (sym holds))
-      went_on Stuck last after count is holds put = absurd (true≢false (sym holds))
-      went_on (BadOutcome n) last after count is holds put = absurd (true≢false (sym holds))
-      went_on (Took rule number) last after count is holds put = record {
-        front = so_far.front ++ told_line task outcome count (Took rule number);
-        written = put ∙ ap (λ w. w ++ told_line task outcome count (Took rule number)) so_far.written ∙ append_assoc before so_far.front _;
-        onward = λ text end told.
-            let P : List ℕ → Type 0 = λ w. Trace task rules state w (told_line task outcome count (Took rule number) ++ text) end in
+      went_on rule number last after is put = record {
+        front = so_far.front ++ step_line task rule number outcome;
+        written = put ∙ ap (λ w. w ++ step_line task rule number outcome) so_far.written ∙ append_assoc before so_far.front _;
+        onward = λ text end trace.
+            let P : List ℕ → Type 0 = λ w. Trace task rules state w (step_line task rule number outcome ++ text) end in
             let Q : List ℕ → Type 0 = λ w. Trace task rules start outcomes w end in
-            subst Q (sym (append_assoc so_far.front (told_line task outcome count (Took rule number)) text))
-            (so_far.onward _ end (subst P (sym next) (Took rule number, last, is, (text, refl, told))));
+            subst Q (sym (append_assoc so_far.front (step_line task rule number outcome) text))
+            (so_far.onward _ end (subst P (sym next) (took state outcome more rule number last text end is trace)));
       }
+
+-- the trace of a run from the initial state, followed by the text of its last state
+pub traced_and_state : (task : Task) (rules : List Rule) (outcomes : List ℕ) (start end : Run) (before now after : List ℕ) (is_goal : Bool) (last : List Bool) →
+    start ≡ record { task = task; rules = rules; state = task.init } → end.task ≡ start.task →
+    (text : List ℕ) × Trace start.task start.rules start.state outcomes text end.state × (now ≡ before ++ text) → after ≡ now ++ state_text task last → last ≡ end.state →
+    is_goal ≡ is_true end.state end.task.goal →
+    (text : List ℕ) × (last : List Bool) × Trace task rules task.init outcomes text last × (after ≡ before ++ (text ++ state_text task last)) × (is_goal ≡ is_true last task.goal)
+traced_and_state task rules outcomes start end before now after is_goal last starts same traced put shown is =
+    let P : Run → Type 0 = λ r. Trace r.task r.rules r.state outcomes traced.0 end.state in
+    let own : end.task ≡ task = same ∙ ap (λ (r : Run). r.task) starts in (
+      traced.0,
+      end.state,
+      subst P starts traced.1,
+      put ∙ ap (λ w. w ++ state_text task last) traced.2 ∙ append_assoc before traced.0 (state_text task last) ∙ ap (λ s. before ++ (traced.0 ++ state_text task s)) shown,
+      is ∙ ap (λ (t : Task). is_true end.state t.goal) own,
+    )

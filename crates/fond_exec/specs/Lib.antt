@@ -1,4 +1,5 @@
-pub mod Executors
+pub mod Runs
 pub mod Steps
 pub mod Traces
-pub mod Lines
+pub mod Words
+pub mod Scripts

@@ -11,21 +11,31 @@ use Rattle.fond_rules.specs.Select.{selected_rule}
 use Rattle.fond_exec.specs.declared.step.Step.{Step}
 use Rattle.fond_exec.specs.declared.step.Step.TheVariants.{Took, Done, Stuck, BadOutcome}
 
--- the first rule that holds in the state has this action, which is applicable there
+-- the first rule that holds in a state has this action, which is applicable there
 pub record IsChosen (task : Task) (rules : List Rule) (state : List Bool) (number : ℕ) (act : Act) : Type 0 where
   pub selects : selected rules state ≡ Some number
   pub numbered : slice_get task.acts number ≡ Some act
   pub holds : is_true state act.pre ≡ true
 
--- what a step may answer, in the order in which it is looked for: the goal is reached; no rule holds or the
--- first one's action is not applicable; the number is not below the count of the action's outcomes; or the step
--- is taken to the next state by that outcome. Only a step that is taken changes the state
+-- no rule holds in a state, or the action of the first one that holds is not applicable there
+abbrev pub IsStuck : Task → List Rule → List Bool → Type 0
+IsStuck task rules state = (number : ℕ) → selected rules state ≡ Some number → ¬ IsApplicable task state number
+
+-- the first rule that holds in a state and its action, by their numbers, lead to another state by an outcome
+pub record IsTaken (task : Task) (rules : List Rule) (state : List Bool) (outcome rule number : ℕ) (after : List Bool) : Type 0 where
+  pub open_ : ¬ IsGoal task state
+  pub selects : selected_rule rules state ≡ Some rule
+  pub act : Act
+  pub chosen : IsChosen task rules state number act
+  pub entries : List Entry
+  pub picked : slice_get act.outcomes outcome ≡ Some entries
+  pub given : after ≡ next_state state entries
+
+-- the answer of a step, and the state after it: the state is a goal; it is no goal and stuck; it is no goal, and the
+-- chosen action has no outcome of this number; or the outcome leads to the state after the step
 abbrev pub IsStep : Task → List Rule → List Bool → ℕ → Step → List Bool → Type 0
 IsStep task rules state outcome Done after = IsGoal task state × (after ≡ state)
-IsStep task rules state outcome Stuck after =
-    (IsGoal task state → ⊥) × ((number : ℕ) → selected rules state ≡ Some number → IsApplicable task state number → ⊥) × (after ≡ state)
+IsStep task rules state outcome Stuck after = (¬ IsGoal task state) × IsStuck task rules state × (after ≡ state)
 IsStep task rules state outcome (BadOutcome count) after =
-    (IsGoal task state → ⊥) × ((number : ℕ) × (act : Act) × IsChosen task rules state number act × (count ≡ length act.outcomes)) × (count ≤ outcome) × (after ≡ state)
-IsStep task rules state outcome (Took rule number) after =
-    (IsGoal task state → ⊥) × (selected_rule rules state ≡ Some rule)
-    × ((act : Act) × IsChosen task rules state number act × ((entries : List Entry) × (slice_get act.outcomes outcome ≡ Some entries) × (after ≡ next_state state entries)))
+    (¬ IsGoal task state) × ((number : ℕ) × (act : Act) × IsChosen task rules state number act × (count ≡ length act.outcomes)) × (count ≤ outcome) × (after ≡ state)
+IsStep task rules state outcome (Took rule number) after = IsTaken task rules state outcome rule number after

@@ -1,22 +1,102 @@
-//! What is stepped through the states of a task.
+//! Stepping a rule list through the states of a task.
 
-ghost use Rattle.std.specs.Prelude.{◌≡◌, length};
-ghost use Rattle.fond_rules.specs.Select.{AreOver};
-ghost use Rattle.fond_rules.specs.Belongs.{AreActsThere};
+ghost use Rattle.std.specs.Prelude.{◌≡◌, IfOk};
+ghost use Rattle.fond_task.specs.Truth.{is_true};
+ghost use Rattle.fond_rules.specs.Belongs.{BelongTo};
+ghost use Rattle.fond_exec.specs.Steps.{IsStep};
 
+use crate::step::Step;
 use fond_rules::rules::Rules;
 use fond_state::state::State;
+use fond_task::step::apply_into;
 use fond_task::task::Task;
+use fond_task::truth::{applicable, is_goal};
+use fond_text::fault::NoMemory;
+use std::alloc::Global;
+use std::marker::Model;
 
-/// A rule list that is stepped through the states of a task, from its first state on.
+/// A rule list at a state of a task. It keeps a second state of the same length, so that a step takes no memory.
 #[derive(Drop)]
 pub struct Executor<'a> {
-    pub(crate) task: &'a Task,
-    pub(crate) rules: &'a Rules,
-    pub(crate) state: State,
-    pub(crate) next: State,
-    ghost state_long: { length state ≡ length task.now.atoms },
-    ghost next_long: { length next ≡ length task.now.atoms },
-    ghost rules_over: { AreOver (length task.now.atoms) rules.now },
-    ghost acts_there: { AreActsThere task.now rules.now },
+    task: &'a Task,
+    rules: &'a Rules,
+    state: State,
+    next: State,
+}
+
+impl<'a> Model for Executor<'a> {
+    ghost use Rattle.std.specs.Prelude.{◌≡◌, length};
+    ghost use Rattle.fond_rules.specs.Belongs.{BelongTo};
+    ghost use Rattle.fond_exec.specs.Runs.{Run};
+    ghost use Rattle.fond_task.specs.contracts.form.Form as form;
+    ghost use Rattle.std.specs.Coded.{codes};
+
+    ghost Value = { Run };
+
+    ghost coded = { Prim.hlevel (codes, form.the_row.coded) };
+
+    ghost view = { λ e. record { task = e.task.now; rules = e.rules.now; state = e.state } };
+
+    ghost invariant = { λ e. BelongTo e.task.now e.rules.now
+        × (length e.state ≡ length e.task.now.atoms)
+        × (length e.next ≡ length e.task.now.atoms) };
+}
+
+impl<'a> Executor<'a> {
+    /// The rules at the initial state of the task.
+    pub fn start(alloc: Global, task: &'a Task, rules: &'a Rules) -> Result<Executor<'a>, NoMemory>
+        requires { BelongTo task.now rules.now }
+        ensures { IfOk result (λ e. e ≡ record { task = task.now; rules = rules.now; state = task.now.init }) }
+    {
+        let state = task.init.copy(alloc)?;
+        let next = task.init.copy(alloc)?;
+        Ok(Executor {
+            task,
+            rules,
+            state,
+            next,
+        })
+    }
+
+    /// Whether the state is a goal.
+    pub fn done(&self) -> bool
+        ensures { result ≡ is_true self.now.state self.now.task.goal }
+    {
+        is_goal(self.task, &self.state)
+    }
+
+    /// The state.
+    pub fn state(&self) -> &State
+        ensures { result.now ≡ self.now.state }
+    {
+        &self.state
+    }
+
+    /// Takes the action of the first rule that holds, with its outcome of this number. A step that is not taken changes
+    /// nothing. Takes time in the number of rules times that of atoms and in the size of the action, and no memory.
+    pub fn step(&mut self, outcome: u32) -> Step
+        ensures step { IsStep self.old.task self.old.rules self.old.state outcome result self.new.state }
+        ensures task { self.new.task ≡ self.old.task }
+        ensures rules { self.new.rules ≡ self.old.rules }
+    {
+        if self.done() {
+            return Step::Done;
+        }
+        let Some(rule) = self.rules.select(&self.state) else {
+            return Step::Stuck;
+        };
+        let act = self.rules.get(rule).act;
+        if !applicable(self.task, &self.state, act) {
+            return Step::Stuck;
+        }
+        let count = self.task.acts.get(act as usize).outcomes.len();
+        if outcome as usize >= count {
+            return Step::BadOutcome {
+                count: count as u32,
+            };
+        }
+        apply_into(self.task, &self.state, act, outcome, &mut self.next);
+        std::mem::swap(&mut self.state, &mut self.next);
+        Step::Took { rule, act }
+    }
 }

@@ -1,10 +1,10 @@
-//! Stepping a rule list through the states of a task, by outcomes that are told from outside, and the trace of
-//! such steps. Each step is the one that the rules and the task say; who picks the outcomes is left to others.
+//! Running a rule list through the states of a task by recorded outcomes: the script that has the outcomes, each step,
+//! and the trace of all steps. Each step is the one that the rules and the task determine. Who picks the outcomes, and
+//! whether the rules are a solution, is left to others.
 #![tactic(auto)]
 
 pub mod executor;
-pub mod fits;
-pub mod run;
+pub mod script;
 pub mod step;
 #[cfg(test)]
 mod tests;

@@ -1,14 +1,14 @@
-//! One step.
+//! The answer of a step.
 
-/// What a step met.
+/// What a step did, or why it was not taken.
 #[derive(Clone, Copy, Debug, PartialEq, Eq)]
 pub enum Step {
-    /// The rule of this number held first, and its action was taken.
+    /// The first rule that holds has this number, and its action, of this number, was taken.
     Took { rule: u32, act: u32 },
     /// The state is a goal.
     Done,
-    /// No rule holds, or the action of the first one is not applicable.
+    /// No rule holds, or the action of the first rule that holds is not applicable.
     Stuck,
-    /// The action of the first rule has only this many outcomes.
+    /// The action of the first rule that holds has only this many outcomes.
     BadOutcome { count: u32 },
 }

@@ -21,7 +21,7 @@ use Rattle.fond_game.specs.Policies.{IsGoal, IsNext, Policy, Reach, start, onwar
 use Rattle.fond_game.specs.Solutions.{StaysIn, IsSolution, IsSolvable}
 use Rattle.fond_game.specs.Layers.{CubeView, Forces, IsSureLayer, AreSureLayers, Leads}
 use Rattle.fond_game.specs.Certificates.{LiesInLayers, IsRightRefusal}
-use Rattle.fond_game.proofs.Lists.{Contains_numbered, same_numbered, Contains-here, Contains-behind, Contains-cases, Contains-map}
+use Rattle.fond_game.proofs.Lists.{Contains_numbered, same_numbered, Contains-here, Contains-later, Contains-cases, Contains-map}
 use Rattle.fond_game.proofs.Reached.{reached_long, next_lies}
 
 -- all states of so many atoms
@@ -44,7 +44,7 @@ chosen_list P [] none = none [] (λ state has. absurd (nothing_in state has)) (�
 chosen_list P (one ∷ all) none = chosen_list P all (λ chosen sound whole.
     let fails : P one → ⊥ = λ holds. none (one ∷ chosen)
     (λ state has. ⊎_elim (λ same. subst P same holds) (sound state) (Contains-cases state one chosen has))
-    (λ state has of_state. ⊎_elim (λ same. subst (Contains (one ∷ chosen)) same (Contains-here one chosen)) (λ behind. Contains-behind state one chosen (whole state behind of_state)) (Contains-cases state one all has)) in
+    (λ state has of_state. ⊎_elim (λ same. subst (Contains (one ∷ chosen)) same (Contains-here one chosen)) (λ behind. Contains-later state one chosen (whole state behind of_state)) (Contains-cases state one all has)) in
     none chosen sound (λ state has of_state. ⊎_elim (λ same. absurd (fails (subst P (sym same) of_state))) (λ behind. whole state behind of_state) (Contains-cases state one all has)))
 
 no_false : (state : List Bool) (cube : CubeView) (form : Form) → LiesIn state cube → value cube form ≡ No → is_true state form ≡ false

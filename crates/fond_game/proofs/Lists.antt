@@ -1,8 +1,7 @@
 -- Elements of lists by their numbers, and the first one that passes a test.
 use Rattle.std.proofs.Common.{inl, inr, ⊎_elim, ◌≡◌, ℕ, zero, suc, ◌<◌, ◌≤◌, List, [], ◌∷◌, Bool, true, false, Option, Some, None, length, map, get_or, refl, sym, ap, ◌∙◌, arith}
 use Rattle.std.specs.Prelude.{◌⊎◌, find, slice_get, Contains, IsSome}
-use Rattle.std.specs.List.{list_all}
-use Rattle.std.proofs.lemmas.Bool.{cond-true, cond-false, cases_Bool, false≢true, and_parts}
+use Rattle.std.proofs.lemmas.Bool.{cond-true, cond-false, cases_Bool, false≢true}
 use Rattle.std.proofs.lemmas.List.{length-map, get_or-map}
 use Rattle.std.proofs.lemmas.Option.{none-some, same_Some, slice_get-get_or, slice_get_within, get_or_from_slice_get}
 
@@ -15,12 +14,6 @@ module _ {X : Type 0} where
 
   pub same_numbered : (xs : List X) (i : ℕ) (x y : X) → slice_get xs i ≡ Some x → slice_get xs i ≡ Some y → x ≡ y
   same_numbered xs i x y is also = same_Some x y (sym is ∙ also)
-
-  -- a test that all elements pass
-  pub passes_numbered : (test : X → Bool) (xs : List X) (i : ℕ) (x : X) → list_all test xs ≡ true → slice_get xs i ≡ Some x → test x ≡ true
-  passes_numbered test [] i x all is = absurd (none-some x is)
-  passes_numbered test (y ∷ xs) zero x all is = rw (← same_Some y x is) (and_parts _ _ all).0
-  passes_numbered test (y ∷ xs) (suc i) x all is = passes_numbered test xs i x (and_parts _ _ all).1 is
 
   -- the first that passes has a number
   pub record Found (test : X → Bool) (xs : List X) (bound : ℕ) : Type 0 where
@@ -58,8 +51,8 @@ module _ {X : Type 0} where
   pub Contains-here : (x : X) (xs : List X) → Contains (x ∷ xs) x
   Contains-here x xs = (zero, omega arith, refl)
 
-  pub Contains-behind : (x y : X) (xs : List X) → Contains xs x → Contains (y ∷ xs) x
-  Contains-behind x y xs has = let within : has.0 < length xs = has.1 in (suc has.0, omega arith, has.2)
+  pub Contains-later : (x y : X) (xs : List X) → Contains xs x → Contains (y ∷ xs) x
+  Contains-later x y xs has = let within : has.0 < length xs = has.1 in (suc has.0, omega arith, has.2)
 
   pub Contains-cases : (x y : X) (xs : List X) → Contains (y ∷ xs) x → (y ≡ x) ⊎ Contains xs x
   Contains-cases x y xs has = go has.0 has.1 has.2

@@ -101,7 +101,7 @@ ranks_exclude task layers pairs rules reach right = record {
       none_below task pairs rules right.rules_sure trap is (suc at.0) is.some.0 is.some.1 at.0 found.0 (omega arith) at.1 found.1;
 }
   where
-    found_rule : (state : List Bool) → Reach task (selected rules) state → (IsGoal task state → ⊥) → (rule : Rule) × (find (λ rule. lies_in state rule.cond) rules ≡ Some rule)
+    found_rule : (state : List Bool) → Reach task (selected rules) state → ¬ IsGoal task state → (rule : Rule) × (find (λ rule. lies_in state rule.cond) rules ≡ Some rule)
     found_rule state reached open_ = something (find (λ rule. lies_in state rule.cond) rules) (is_some_from (find (λ rule. lies_in state rule.cond) rules) (right.ruled state reached open_))
       where
         is_some_from : (o : Option Rule) → IsSome (option_map (λ (rule : Rule). rule.act) o) → IsSome o

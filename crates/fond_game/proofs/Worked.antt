@@ -151,8 +151,8 @@ heads_next = simp is_true-Truth
 heads_reached : Reach (coin false) (selected (flip_rule ∷ [])) heads
 heads_reached = onward tails 0 heads start (tails_open false) refl (record { act = flip false; numbered = refl; holds = is_true-Truth tails true; outcome = sets 0 true ∷ []; one = (0, omega arith, refl); given = sym heads_next })
 
-behind_tails : (number : ℕ) (after : List Bool) → IsNext (coin false) tails number after → Contains (tails ∷ heads ∷ []) after
-behind_tails number after next =
+after_tails : (number : ℕ) (after : List Bool) → IsNext (coin false) tails number after → Contains (tails ∷ heads ∷ []) after
+after_tails number after next =
     at_each (λ act. Contains act.outcomes next.outcome → Contains (tails ∷ heads ∷ []) after) (flip false ∷ []) (
       (λ one. at_each (λ outcome. after ≡ next_state tails outcome → Contains (tails ∷ heads ∷ []) after) (flip false).outcomes
           ((λ given. subst (Contains (tails ∷ heads ∷ [])) (sym (given ∙ heads_next)) (1, omega arith, refl)), ((λ given. subst (Contains (tails ∷ heads ∷ [])) (sym given) (0, omega arith, refl)), tt))
@@ -164,8 +164,8 @@ behind_tails number after next =
 only_these : (state : List Bool) → Reach (coin false) (selected (flip_rule ∷ [])) state → Contains (tails ∷ heads ∷ []) state
 only_these state start = (0, omega arith, refl)
 only_these state (onward before number after reached open_ chosen next) =
-    at_each (λ s. (IsGoal (coin false) s → ⊥) → IsNext (coin false) s number after → Contains (tails ∷ heads ∷ []) after) (tails ∷ heads ∷ [])
-    ((λ open_ next. behind_tails number after next), ((λ open_ next. absurd (open_ (is_true-Lit heads 0 true))), tt))
+    at_each (λ s. ¬ IsGoal (coin false) s → IsNext (coin false) s number after → Contains (tails ∷ heads ∷ []) after) (tails ∷ heads ∷ [])
+    ((λ open_ next. after_tails number after next), ((λ open_ next. absurd (open_ (is_true-Lit heads 0 true))), tt))
     before (only_these before reached) open_ next
 
 -- so the certificate with this rule is right, and the rule a solution

@@ -1,4 +1,4 @@
--- Right certificates.
+-- Right certificates of policies and of unsolvability.
 use Rattle.std.specs.Prelude.{◌≡◌, ℕ, List, [], ◌∷◌, Bool, Some, slice_get, length, Contains, IsSome}
 use Rattle.fond_text.specs.Lists.{AreDistinct}
 use Rattle.fond_state.specs.Cubes.{LiesIn}
@@ -9,7 +9,7 @@ use Rattle.fond_game.specs.Policies.{IsGoal, Policy, Reach, selected}
 use Rattle.fond_game.specs.Layers.{CubeView, AreSureLayers, IsSurePair}
 use Rattle.fond_game.specs.Rules.{IsSureRule}
 
--- a policy reaches this many states: some list has each of them once and nothing else, and is as long
+-- a policy reaches this many states: some list of this length has each of them once and nothing else
 pub record ReachesCount (task : Task) (policy : Policy) (count : ℕ) : Type 0 where
   pub states : List (List Bool)
   pub once : AreDistinct states
@@ -17,16 +17,16 @@ pub record ReachesCount (task : Task) (policy : Policy) (count : ℕ) : Type 0 w
   pub all : (state : List Bool) → Reach task policy state → Contains states state
   pub counted : length states ≡ count
 
--- a policy certificate is right where its layers, pairs and rules are sure, each reached state that is no goal
--- has a rule, and its number is that of the reached states
+-- a policy certificate is right if its layers, pairs and rules are sure, each reached state that is no goal has a
+-- rule, and its number is that of the reached states
 pub record IsRightPolicy (task : Task) (layers : List (List CubeView)) (pairs : List Pair) (rules : List Rule) (reach : ℕ) : Type 0 where
   pub layers_sure : AreSureLayers task layers
   pub pairs_sure : (pair : Pair) → Contains pairs pair → IsSurePair task layers pair
   pub rules_sure : (number : ℕ) (rule : Rule) → slice_get rules number ≡ Some rule → IsSureRule task pairs rules number rule
-  pub ruled : (state : List Bool) → Reach task (selected rules) state → (IsGoal task state → ⊥) → IsSome (selected rules state)
+  pub ruled : (state : List Bool) → Reach task (selected rules) state → ¬ IsGoal task state → IsSome (selected rules state)
   pub counted : ReachesCount task (selected rules) reach
 
--- the state lies in a cube of one of the layers
+-- a state lies in a cube of one of the layers
 pub record LiesInLayers (state : List Bool) (layers : List (List CubeView)) : Type 0 where
   pub layer : List CubeView
   pub one : Contains layers layer
@@ -34,7 +34,7 @@ pub record LiesInLayers (state : List Bool) (layers : List (List CubeView)) : Ty
   pub has : Contains layer cube
   pub lies : LiesIn state cube
 
--- a refusal certificate is right where its layers are sure and the first state lies in one of them
+-- a refusal certificate is right if its layers are sure and the initial state lies in one of them
 pub record IsRightRefusal (task : Task) (layers : List (List CubeView)) : Type 0 where
   pub layers_sure : AreSureLayers task layers
   pub start : LiesInLayers task.init layers

@@ -12,10 +12,10 @@ use Rattle.fond_game.specs.Certificates.{IsRightPolicy, LiesInLayers, IsRightRef
 abbrev pub RanksExcludeTraps : Type 0
 RanksExcludeTraps = (task : Task) (layers : List (List CubeView)) (pairs : List Pair) (rules : List Rule) (reach : ℕ) → IsRightPolicy task layers pairs rules reach → IsSolution task (selected rules)
 
--- a policy that reaches a state of a sure layer, below which all layers are sure, is no solution
+-- a policy that reaches a state of one of the sure layers is no solution
 abbrev pub LayersForce : Type 0
-LayersForce = (task : Task) (layers : List (List CubeView)) (policy : Policy) (state : List Bool) → AreSureLayers task layers → Reach task policy state → LiesInLayers state layers → IsSolution task policy → ⊥
+LayersForce = (task : Task) (layers : List (List CubeView)) (policy : Policy) (state : List Bool) → AreSureLayers task layers → Reach task policy state → LiesInLayers state layers → ¬ IsSolution task policy
 
 -- a task with a right refusal certificate is not solvable
 abbrev pub RefusalsHold : Type 0
-RefusalsHold = (task : Task) (layers : List (List CubeView)) → IsRightRefusal task layers → IsSolvable task → ⊥
+RefusalsHold = (task : Task) (layers : List (List CubeView)) → IsRightRefusal task layers → ¬ IsSolvable task

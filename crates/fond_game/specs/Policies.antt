@@ -8,17 +8,17 @@ use Rattle.fond_task.specs.Truth.{is_true}
 use Rattle.fond_task.specs.Steps.{next_state}
 use Rattle.fond_game.specs.declared.rule.Rule.{Rule}
 
--- the goal is true in the state
+-- a state is a goal: the goal of the task is true in it
 abbrev pub IsGoal : Task → List Bool → Type 0
 IsGoal task state = IsTrue (is_true state task.goal)
 
--- the action of this number is there, and its precondition is true in the state
+-- an action is applicable in a state: the task has it, and its precondition is true in the state
 pub record IsApplicable (task : Task) (state : List Bool) (number : ℕ) : Type 0 where
   pub act : Act
   pub numbered : slice_get task.acts number ≡ Some act
   pub holds : IsTrue (is_true state act.pre)
 
--- the action is applicable in the state, and some outcome of it gives the other state
+-- a state is one that an action may lead to: the action is applicable, and one of its outcomes gives the state
 pub record IsNext (task : Task) (state : List Bool) (number : ℕ) (after : List Bool) : Type 0 where
   pub act : Act
   pub numbered : slice_get task.acts number ≡ Some act
@@ -27,17 +27,17 @@ pub record IsNext (task : Task) (state : List Bool) (number : ℕ) (after : List
   pub one : Contains act.outcomes outcome
   pub given : after ≡ next_state state outcome
 
--- an opponent picks the outcome of the action of this number
+-- an action is unfair: an opponent picks its outcome, and not chance
 pub record IsUnfair (task : Task) (number : ℕ) : Type 0 where
   pub act : Act
   pub numbered : slice_get task.acts number ≡ Some act
   pub flagged : act.unfair ≡ true
 
--- a policy chooses an action in a state, or none
+-- a policy chooses an action in a state, by its number, or none
 abbrev pub Policy : Type 0
 Policy = List Bool → Option ℕ
 
--- a policy is a finite map where a list has each state in which it chooses
+-- a policy is a finite map if some list has each state in which it chooses an action
 abbrev pub IsFiniteMap : Policy → Type 0
 IsFiniteMap policy = (states : List (List Bool)) × ((state : List Bool) → IsSome (policy state) → Contains states state)
 
@@ -45,8 +45,8 @@ IsFiniteMap policy = (states : List (List Bool)) × ((state : List Bool) → IsS
 abbrev pub selected : List Rule → Policy
 selected rules state = option_map (λ rule. rule.act) (find (λ rule. lies_in state rule.cond) rules)
 
--- the states at the end of a finite walk from the first state, which goes on from states that are no goals to
--- the next states of the chosen action
+-- the states that a policy reaches: the initial state, and from each reached state that is no goal, the states to
+-- which the chosen action may lead
 pub data Reach (task : Task) (policy : Policy) : List Bool → Type 0 where
   start : Reach task policy task.init
-  onward : (state : List Bool) (number : ℕ) (after : List Bool) → Reach task policy state → (IsGoal task state → ⊥) → policy state ≡ Some number → IsNext task state number after → Reach task policy after
+  onward : (state : List Bool) (number : ℕ) (after : List Bool) → Reach task policy state → ¬ IsGoal task state → policy state ≡ Some number → IsNext task state number after → Reach task policy after

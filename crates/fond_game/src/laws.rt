@@ -1,15 +1,15 @@
-//! The laws of the game, each the contract of a function that does nothing.
+//! The laws of the game, each the contract of a function with an empty body.
 
 ghost use Rattle.fond_game.specs.Laws.{RanksExcludeTraps, LayersForce, RefusalsHold};
 
-/// The rules of a right policy certificate are a solution: a trap would have a state whose selected rule is
-/// the least, and the outcome that this rule names would stay in the trap and select a smaller one.
+/// The rules of a right policy certificate are a solution. Otherwise a trap would have a state whose selected rule has
+/// the least number, and the outcome that this rule names would stay in the trap and select a smaller number.
 pub fn ranks_exclude_traps()
     ensures { RanksExcludeTraps }
 {}
 
-/// A policy that reaches a state of a sure layer, below which all layers are sure, is no solution: the states
-/// that it reaches of the least layer that it meets would be a trap.
+/// A policy that reaches a state of one of the sure layers is no solution. Otherwise the states that it reaches in the
+/// first layer that it meets would be a trap.
 pub fn layers_force()
     ensures { LayersForce }
 {}

@@ -1,10 +1,9 @@
-//! Rules and forbidden pairs as certificates have them.
-
+//! The rules and forbidden pairs of certificates.
 
 use fond_state::cube::Cube;
 use fond_text::list::List;
 
-/// Where an outcome leads: to the goal, or to the rule of this number.
+/// What an outcome leads to: the goal, or the condition of the rule of this number.
 #[derive(Clone, Copy, Debug, PartialEq, Eq)]
 pub enum Target {
     Goal,
@@ -14,14 +13,14 @@ pub enum Target {
 /// Targets, one for each outcome of an action.
 pub type TargetList = List<Target>;
 
-/// The targets of a rule: of a fair action one outcome and where it leads, of an unfair one where each leads.
+/// The targets of a rule: one outcome and its target for a fair action, a target for each outcome for an unfair one.
 #[derive(Drop)]
 pub enum Targets {
     One { outcome: u32, target: Target },
     All(TargetList),
 }
 
-/// In the states of the condition that no earlier rule holds in, the action is chosen.
+/// A rule chooses its action in the states of its condition in which no earlier rule holds.
 #[derive(Drop)]
 pub struct Rule {
     pub cond: Cube,
@@ -29,7 +28,7 @@ pub struct Rule {
     pub targets: Targets,
 }
 
-/// In the states of the condition the action is barred: its outcome leads into a cube of a sure layer.
+/// A pair bars its action in the states of its condition: the outcome leads into a cube of a sure layer.
 #[derive(Drop)]
 pub struct Pair {
     pub cond: Cube,

@@ -1,22 +1,25 @@
 -- Rules that belong to a task.
-use Rattle.std.specs.Prelude.{◌<◌, List, All, length}
+use Rattle.std.specs.Prelude.{◌<◌, List, All, length, ⊤}
 use Rattle.fond_task.specs.declared.task.Task.{Task}
 use Rattle.fond_game.specs.declared.rule.Rule.{Rule}
 use Rattle.fond_game.specs.declared.rule.Targets.{Targets}
 use Rattle.fond_game.specs.declared.rule.Targets.TheVariants.{One, All as Each}
 use Rattle.fond_rules.specs.Select.{AreOver}
 
--- the actions of the rules are there in the task
+-- the task has the actions of all rules
 abbrev pub AreActsThere : Task → List Rule → Type 0
 AreActsThere task rules = All (λ rule. rule.act < length task.acts) rules
 
--- a rule has a target
+-- the targets of a rule are at least one
 abbrev pub HasTarget : Targets → Type 0
-HasTarget (One outcome target) = Unit {0}
+HasTarget (One outcome target) = ⊤
 HasTarget (Each targets) = 0 < length targets
 
--- rules belong to a task: their conditions are over its atoms, their actions are there, and each has a target
+-- rules belong to a task: their conditions are over its atoms, and it has their actions
 pub record BelongTo (task : Task) (rules : List Rule) : Type 0 where
   pub over : AreOver (length task.atoms) rules
   pub there : AreActsThere task rules
-  pub led : All (λ rule. HasTarget rule.targets) rules
+
+-- each rule of a list has a target
+abbrev pub HaveTargets : List Rule → Type 0
+HaveTargets rules = All (λ rule. HasTarget rule.targets) rules

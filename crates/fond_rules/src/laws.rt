@@ -1,8 +1,8 @@
-//! What the selected rule is to the policy of the rules, as the contract of a function that does nothing.
+//! The law of the selected rule, the contract of a function with an empty body.
 
 ghost use Rattle.fond_rules.specs.Laws.{SelectedRuleIsPolicy};
 
-/// The action of the selected rule is what the policy of the rules chooses.
+/// The policy of the rules chooses the action of the selected rule.
 pub fn selected_rule_is_policy()
     ensures { SelectedRuleIsPolicy }
 {}

@@ -1,16 +1,17 @@
-//! A list of rules.
+//! Ordered lists of rules.
 
+ghost use Rattle.fond_rules.specs.Belongs.{BelongTo};
 ghost use Rattle.fond_rules.specs.Select.{selected_rule, AreOver};
-ghost use Rattle.std.specs.Prelude.{◌≡◌, ◌<◌, ◌-◌, ◌^◌, List, [], ◌∷◌, ◌++◌, length, slice_get, Some, true, OnOk, OnErr};
+ghost use Rattle.std.specs.Prelude.{◌≡◌, ◌<◌, ◌-◌, ◌^◌, List, [], ◌∷◌, ◌++◌, length, slice_get, Some, true, All, IfSome, OnOk, OnErr};
 
 use fond_game::rule::Rule;
-use fond_state::cube::holds;
 use fond_state::state::State;
+use fond_task::task::Task;
 use fond_text::fault::NoMemory;
 use std::alloc::Global;
 use std::marker::Model;
 
-/// Rules, in order, fewer than 2^32.
+/// Fewer than 2^32 rules, in order. In a state, the first rule whose literals all hold counts.
 #[derive(Drop)]
 pub struct Rules {
     items: Vec<Rule>,
@@ -28,7 +29,7 @@ impl Model for Rules {
 }
 
 impl Rules {
-    /// None yet. Takes no memory.
+    /// A list of no rules. It takes no memory until a rule is added.
     pub fn new(alloc: Global) -> Rules
         ensures { result ≡ [] }
     {
@@ -37,7 +38,7 @@ impl Rules {
         }
     }
 
-    /// Puts one at the end.
+    /// Adds a rule at the end.
     pub fn push(&mut self, rule: Rule) -> Result<(), NoMemory>
         requires { length self.old < 2 ^ 32 - 1 }
         ensures ok { OnOk result (self.new ≡ self.old ++ rule ∷ []) }
@@ -47,7 +48,7 @@ impl Rules {
         Ok(())
     }
 
-    /// How many there are.
+    /// The number of rules.
     pub fn len(&self) -> u32
         ensures { result ≡ length self.now }
     {
@@ -62,30 +63,59 @@ impl Rules {
         &self.items[i as usize]
     }
 
-    /// Whether the conditions of all rules are over this many atoms.
+    /// Whether the conditions of all rules are over this many atoms. Takes time in the number of rules.
     pub fn are_over(&self, atoms: usize) -> bool
         ensures yes { result ≡ true → AreOver atoms self.now }
         ensures no { AreOver atoms self.now → result ≡ true }
     {
-        for i in 0..self.len() {
-            if self.get(i).cond.len() != atoms {
+        for rule in self.items.as_slice() {
+            if rule.cond.len() != atoms {
                 return false;
             }
         }
         true
     }
 
-    /// The number of the first rule whose literals all hold in the state, if there is one. Takes time by the
-    /// number of rules and of atoms.
+    /// Whether the actions of all rules are among this many. Takes time in the number of rules.
+    fn are_acts_below(&self, acts: usize) -> bool
+        ensures yes { result ≡ true → All (λ rule. rule.act < acts) self.now }
+        ensures no { All (λ rule. rule.act < acts) self.now → result ≡ true }
+    {
+        for rule in self.items.as_slice() {
+            if rule.act as usize >= acts {
+                return false;
+            }
+        }
+        true
+    }
+
+    /// Whether the rules belong to the task: their conditions are over its atoms, and it has their actions. Takes time
+    /// in the number of rules.
+    pub fn belong_to(&self, task: &Task) -> bool
+        ensures yes { result ≡ true → BelongTo task.now self.now }
+        ensures no { BelongTo task.now self.now → result ≡ true }
+    {
+        self.are_over(task.atoms.len()) && self.are_acts_below(task.acts.len())
+    }
+
+    /// The index of the first rule whose literals all hold in the state.
+    fn first(&self, s: &State) -> Option<usize>
+        requires { AreOver (length s.now) self.now }
+        ensures selected { result ≡ selected_rule self.now s.now }
+        ensures within { IfSome result (λ i. i < 2 ^ 32) }
+    {
+        self.items
+            .as_slice()
+            .iter()
+            .position(|rule| rule.cond.holds(s))
+    }
+
+    /// The number of the first rule whose literals all hold in the state, if there is one. Takes time in the number of
+    /// rules times that of atoms.
     pub fn select(&self, s: &State) -> Option<u32>
         requires { AreOver (length s.now) self.now }
         ensures { result ≡ selected_rule self.now s.now }
     {
-        for i in 0..self.len() {
-            if holds(&self.get(i).cond, s) {
-                return Some(i);
-            }
-        }
-        None
+        Some(self.first(s)? as u32)
     }
 }

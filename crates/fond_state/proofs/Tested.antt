@@ -1,4 +1,4 @@
--- The test of lying in a cube decides it, and lying in cubes goes on from cube to cube.
+-- The test of lying in a cube decides it, and a state of a cube lies in each cube around it.
 use Rattle.std.proofs.Common.{◌≡◌, ℕ, zero, suc, ◌+◌, List, [], ◌∷◌, Bool, true, false, Option, Some, None, refl, ap, ◌∙◌, arith}
 use Rattle.std.specs.Bool.{Decides}
 use Rattle.std.specs.List.{list_all, enumerate_from}
@@ -16,7 +16,7 @@ agreed_from None truth told = refl
 agreed_from (Some true) truth told = told true refl
 agreed_from (Some false) truth told = not_from_false truth (told false refl)
 
--- the test of lying in the cube of these literals, of which the first is that of this atom
+-- whether a state agrees with literals, the first of which is that of this atom
 abbrev pub lies_from : List Bool → ℕ → List (Option Bool) → Bool
 lies_from state n cube = list_all (λ item. agrees (truth_at state item.0) item.1) (enumerate_from n cube)
 
@@ -42,7 +42,7 @@ test_from state n (known ∷ cube) lies =
     ap (truth_at state) next ∙ lies (suc atom) sign is) in
     and_from _ _ here there
 
--- the test is true exactly where the state lies in the cube
+-- the test is true if and only if the state lies in the cube
 pub lies_in-Decides : (state : List Bool) (cube : List (Option Bool)) → Decides (lies_in state cube) (LiesIn state cube)
 lies_in-Decides state cube = (
   λ lies atom sign is.

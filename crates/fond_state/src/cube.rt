@@ -1,4 +1,4 @@
-//! What is known of each atom.
+//! Cubes: partial states, given by the literals that hold in them.
 
 ghost use Rattle.std.specs.Prelude.{◌≡◌, ◌<◌, ◌^◌, List, Bool, Option, Some, None, length, replicate, slice_set, IfOk};
 ghost use Rattle.fond_state.specs.Cubes.{literal_at, full_cube, without_literal, agrees, lies_in};
@@ -8,7 +8,7 @@ use fond_text::fault::NoMemory;
 use std::alloc::Global;
 use std::marker::Model;
 
-/// A set of literals over distinct atoms, which stands for the states in which they all hold.
+/// A set of literals over distinct atoms. It denotes the states in which they all hold.
 #[derive(Drop)]
 pub struct Cube {
     literals: Vec<Option<bool>>,
@@ -22,71 +22,7 @@ impl Model for Cube {
     ghost invariant = { λ c. length c.literals.items < 2 ^ 32 };
 }
 
-impl Cube {
-    /// The cube over this many atoms that has no literal.
-    pub fn new(alloc: Global, atoms: u32) -> Result<Cube, NoMemory>
-        ensures { IfOk result (λ c. c ≡ replicate atoms None) }
-    {
-        Ok(Cube {
-            literals: vec![in alloc; None; atoms as usize]?,
-        })
-    }
-
-    /// The cube that has a literal of each atom, as it is in the state.
-    pub fn full(alloc: Global, s: &State) -> Result<Cube, NoMemory>
-        ensures { IfOk result (λ c. c ≡ full_cube s.now) }
-    {
-        Ok(Cube {
-            literals: s.values().iter().map(|value| Some(*value)).collect(alloc)?,
-        })
-    }
-
-    /// The same cube again.
-    pub fn copy(&self, alloc: Global) -> Result<Cube, NoMemory>
-        ensures { IfOk result (λ c. c ≡ self.now) }
-    {
-        Ok(Cube {
-            literals: Vec::from_slice(alloc, self.literals.as_slice())?,
-        })
-    }
-
-    /// How many atoms there are.
-    pub fn len(&self) -> usize
-        ensures counted { result ≡ length self.now }
-        ensures few { result < 2 ^ 32 }
-    {
-        self.literals.len()
-    }
-
-    /// The sign of the atom's literal, if the cube has one. There is none past the last atom.
-    pub fn literal(&self, atom: u32) -> Option<bool>
-        ensures { result ≡ literal_at self.now atom }
-    {
-        match self.literals.get(atom as usize) {
-            Some(known) => *known,
-            None => None,
-        }
-    }
-
-    /// Gives the atom a literal of this sign, in place of the one that it had.
-    pub fn put_literal(&mut self, atom: u32, v: bool)
-        requires { atom < length self.old }
-        ensures { self.new ≡ slice_set self.old atom (Some v) }
-    {
-        self.literals[atom as usize] = Some(v);
-    }
-
-    /// Takes the atom's literal away. Past the last atom nothing changes.
-    pub fn drop_literal(&mut self, atom: u32)
-        ensures { self.new ≡ without_literal self.old atom }
-    {
-        if (atom as usize) < self.literals.len() {
-            self.literals[atom as usize] = None;
-        }
-    }
-}
-
-/// Whether the truth value is the one that is known, if one is.
+/// Whether an atom with this truth value has the sign of the literal, if there is a literal.
 fn agrees_with(value: bool, known: Option<bool>) -> bool
     ensures { result ≡ agrees value known }
 {
@@ -96,15 +32,79 @@ fn agrees_with(value: bool, known: Option<bool>) -> bool
     }
 }
 
-/// Whether all literals of the cube hold in the state. Takes time by the number of atoms.
-pub fn holds(c: &Cube, s: &State) -> bool
-    requires { length c.now ≡ length s.now }
-    ensures { result ≡ lies_in s.now c.now }
-{
-    for atom in 0..c.len() as u32 {
-        if !agrees_with(s.get(atom), c.literal(atom)) {
-            return false;
+impl Cube {
+    /// The cube over this many atoms without literals.
+    pub fn new(alloc: Global, atoms: u32) -> Result<Cube, NoMemory>
+        ensures { IfOk result (λ c. c ≡ replicate atoms None) }
+    {
+        Ok(Cube {
+            literals: vec![in alloc; None; atoms as usize]?,
+        })
+    }
+
+    /// The cube with a literal of each atom, of which the state is the only one.
+    pub fn full(alloc: Global, s: &State) -> Result<Cube, NoMemory>
+        ensures { IfOk result (λ c. c ≡ full_cube s.now) }
+    {
+        Ok(Cube {
+            literals: s.values().iter().map(|value| Some(*value)).collect(alloc)?,
+        })
+    }
+
+    /// A copy of the cube.
+    pub fn copy(&self, alloc: Global) -> Result<Cube, NoMemory>
+        ensures { IfOk result (λ c. c ≡ self.now) }
+    {
+        Ok(Cube {
+            literals: Vec::from_slice(alloc, self.literals.as_slice())?,
+        })
+    }
+
+    /// The number of atoms, with or without a literal.
+    pub fn len(&self) -> usize
+        ensures counted { result ≡ length self.now }
+        ensures few { result < 2 ^ 32 }
+    {
+        self.literals.len()
+    }
+
+    /// The sign of the atom's literal, if the cube has one. An atom past the last one has none.
+    pub fn literal(&self, atom: u32) -> Option<bool>
+        ensures { result ≡ literal_at self.now atom }
+    {
+        match self.literals.get(atom as usize) {
+            Some(known) => *known,
+            None => None,
         }
     }
-    true
+
+    /// Gives the atom a literal of this sign and drops any literal that it had.
+    pub fn put_literal(&mut self, atom: u32, v: bool)
+        requires { atom < length self.old }
+        ensures { self.new ≡ slice_set self.old atom (Some v) }
+    {
+        self.literals[atom as usize] = Some(v);
+    }
+
+    /// Drops the atom's literal. An atom past the last one changes nothing.
+    pub fn drop_literal(&mut self, atom: u32)
+        ensures { self.new ≡ without_literal self.old atom }
+    {
+        if (atom as usize) < self.literals.len() {
+            self.literals[atom as usize] = None;
+        }
+    }
+
+    /// Whether all literals of the cube hold in the state. Takes time in the number of atoms.
+    pub fn holds(&self, s: &State) -> bool
+        requires { length self.now ≡ length s.now }
+        ensures { result ≡ lies_in s.now self.now }
+    {
+        for atom in 0..self.len() as u32 {
+            if !agrees_with(s.get(atom), self.literal(atom)) {
+                return false;
+            }
+        }
+        true
+    }
 }

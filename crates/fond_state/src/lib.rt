@@ -1,5 +1,6 @@
-//! States and cubes of a ground task, by the numbers of its atoms. A state is seen as the list of its truth
-//! values, a cube as the list of what it says of each atom. What the atoms are is left to the crates above.
+//! States and cubes of a ground task, by the numbers of its atoms. Contracts see a state as the list of its truth
+//! values, and a cube as the list of the literals that it has or lacks, atom by atom. What the atoms mean is left to
+//! the crates above.
 #![tactic(auto)]
 
 pub mod cube;

@@ -1,4 +1,4 @@
-//! A truth value for each atom.
+//! States: a truth value for each atom.
 
 ghost use Rattle.std.specs.Prelude.{◌≡◌, ◌<◌, ◌^◌, List, Bool, false, length, replicate, slice_set, IfOk};
 ghost use Rattle.fond_state.specs.Cubes.{truth_at};
@@ -22,7 +22,7 @@ impl Model for State {
 }
 
 impl State {
-    /// The state of this many atoms in which none is true.
+    /// The state over this many atoms in which none is true.
     pub fn new(alloc: Global, atoms: u32) -> Result<State, NoMemory>
         ensures { IfOk result (λ s. s ≡ replicate atoms false) }
     {
@@ -31,7 +31,7 @@ impl State {
         })
     }
 
-    /// The same state again.
+    /// A copy of the state.
     pub fn copy(&self, alloc: Global) -> Result<State, NoMemory>
         ensures { IfOk result (λ s. s ≡ self.now) }
     {
@@ -40,7 +40,7 @@ impl State {
         })
     }
 
-    /// How many atoms there are.
+    /// The number of atoms.
     pub fn len(&self) -> usize
         ensures counted { result ≡ length self.now }
         ensures few { result < 2 ^ 32 }
@@ -64,7 +64,7 @@ impl State {
         self.values[atom as usize] = v;
     }
 
-    /// Takes the truth values of the other state, without more memory.
+    /// Copies the truth values of another state over as many atoms. Takes no memory.
     pub fn copy_from(&mut self, other: &State)
         requires { length self.old ≡ length other.now }
         ensures { self.new ≡ other.now }
@@ -72,7 +72,7 @@ impl State {
         self.values.copy_from_slice(other.values());
     }
 
-    /// The truth values, in order of number.
+    /// The truth values, in the order of the atoms.
     pub(crate) fn values(&self) -> &[bool]
         ensures value { result.now ≡ self.now }
         ensures few { length self.now < 2 ^ 32 }

@@ -1,4 +1,4 @@
-use crate::cube::{Cube, holds};
+use crate::cube::Cube;
 use crate::state::State;
 use std::test::Fail;
 
@@ -62,12 +62,12 @@ fn cubes_hold_in_their_states(rt: HostRuntime) -> Result<(), Fail> {
     for (atom, known) in [(0, Some(false)), (1, Some(true)), (2, Some(false))] {
         assert_eq!(rt; cube.literal(atom), known);
     }
-    assert!(rt; holds(&cube, &state));
+    assert!(rt; cube.holds(&state));
     cube.put_literal(2, true);
-    assert!(rt; !holds(&cube, &state));
+    assert!(rt; !cube.holds(&state));
     cube.drop_literal(2);
-    assert!(rt; holds(&cube, &state));
+    assert!(rt; cube.holds(&state));
     state.set(0, true);
-    assert!(rt; !holds(&cube, &state));
+    assert!(rt; !cube.holds(&state));
     Ok(())
 }

@@ -16,7 +16,7 @@ use Rattle.fond_task.specs.Truth.{is_true, is_true_step}
 use Rattle.fond_text.specs.Bools.{is_same}
 use Rattle.fond_task.specs.Steps.{adds, deletes, next_state}
 use Rattle.fond_task.specs.Values.{lesser, greater, literal_value, value, value_step}
-use Rattle.fond_task.specs.Images.{added_value, deleted_value, behind_deletes, behind_adds, image}
+use Rattle.fond_task.specs.Images.{added_value, deleted_value, after_deletes, after_adds, image}
 use Rattle.fond_task.proofs.Indices.{map-by_index_from}
 use Rattle.fond_task.proofs.Tells.{and_assoc, or_assoc}
 
@@ -100,7 +100,7 @@ module _ (state : List Bool) where
         let each = and_parts _ _ within in
         exact_one entry entries (passes entry) x each.0 (λ x. exact_among entries x each.1)
 
-exact_table : (adds deletes was : Bool) → behind_adds (known adds) (behind_deletes (known deletes) (Some was)) ≡ Some (adds || (was && not deletes))
+exact_table : (adds deletes was : Bool) → after_adds (known adds) (after_deletes (known deletes) (Some was)) ≡ Some (adds || (was && not deletes))
 exact_table true deletes was = refl
 exact_table false true true = refl
 exact_table false true false = refl
@@ -110,7 +110,7 @@ exact_table false false false = refl
 -- the image of the full cube is the full cube of the next state
 pub exact-image : (state : List Bool) (outcome : List Entry) → IsTrue (list_all (is_entry_within (length state)) outcome) → image (full_cube state) outcome ≡ full_cube (next_state state outcome)
 exact-image state outcome within = map-by_index_from (λ value. Some value) (λ atom value. adds state outcome atom || (value && not (deletes state outcome atom)))
-    (λ atom known. behind_adds (added_value (full_cube state) outcome atom) (behind_deletes (deleted_value (full_cube state) outcome atom) known))
+    (λ atom known. after_adds (added_value (full_cube state) outcome atom) (after_deletes (deleted_value (full_cube state) outcome atom) known))
     (λ atom was.
     let added : added_value (full_cube state) outcome atom ≡ known (adds state outcome atom) = exact_among state (λ entry. entry.add && entry.atom == atom) outcome false within in
     let deleted : deleted_value (full_cube state) outcome atom ≡ known (deletes state outcome atom) = exact_among state (λ entry. not entry.add && entry.atom == atom) outcome false within in

@@ -5,4 +5,3 @@ pub mod Exact
 pub mod Forms
 pub mod Found
 pub mod Puts
-pub mod Lines

@@ -13,7 +13,7 @@ use Rattle.fond_task.specs.Within.{is_entry_within}
 use Rattle.fond_task.specs.Truth.{is_true}
 use Rattle.fond_task.specs.Steps.{adds, deletes, next_state}
 use Rattle.fond_task.specs.Values.{greater, value}
-use Rattle.fond_task.specs.Images.{added_value, deleted_value, behind_deletes, behind_adds, image}
+use Rattle.fond_task.specs.Images.{added_value, deleted_value, after_deletes, after_adds, image}
 use Rattle.fond_task.proofs.Indices.{get_or-by_index, by_index_past}
 use Rattle.fond_task.proofs.Tells.{Tells, Tells_here, Tells-greater, Tells-value, or_assoc, or_none}
 
@@ -67,7 +67,7 @@ next_truth state outcome atom within = ⊎_elim
 
 -- the two tables, beside what happens to an atom that is or is not true
 table : (added deleted : Kleene) (known : Option Bool) (adds deletes was sign : Bool) → Tells added adds → Tells deleted deletes → ((said : Bool) → known ≡ Some said → was ≡ said) →
-    behind_adds added (behind_deletes deleted known) ≡ Some sign → (adds || (was && not deletes)) ≡ sign
+    after_adds added (after_deletes deleted known) ≡ Some sign → (adds || (was && not deletes)) ≡ sign
 table Yes deleted known adds deletes was sign of_adds of_deletes told is = rw of_adds (same_Some _ _ is)
 table No No known adds deletes was sign of_adds of_deletes told is = rw (of_adds, of_deletes) (and_true was ∙ told sign is)
   where
@@ -90,11 +90,11 @@ table Unknown Unknown (Some false) adds deletes was sign of_adds of_deletes told
 pub image_holds_next : (state : List Bool) (cube : List (Option Bool)) (outcome : List Entry) → IsTrue (list_all (is_entry_within (length state)) outcome) → LiesIn state cube → LiesIn (next_state state outcome) (image cube outcome)
 image_holds_next state cube outcome within lies atom sign is = ⊎_elim
     (λ small.
-    let here = get_or-by_index (λ atom known. behind_adds (added_value cube outcome atom) (behind_deletes (deleted_value cube outcome atom) known)) cube atom None small in
+    let here = get_or-by_index (λ atom known. after_adds (added_value cube outcome atom) (after_deletes (deleted_value cube outcome atom) known)) cube atom None small in
     next_truth state outcome atom within
     ∙ table (added_value cube outcome atom) (deleted_value cube outcome atom) (literal_at cube atom) (adds state outcome atom) (deletes state outcome atom) (truth_at state atom) sign
     (Tells_among state cube lies (λ entry. entry.add && entry.atom == atom) outcome No false refl)
     (Tells_among state cube lies (λ entry. not entry.add && entry.atom == atom) outcome No false refl)
     (lies atom) (sym here ∙ is))
-    (λ past. absurd (none-some _ (sym (by_index_past (λ atom known. behind_adds (added_value cube outcome atom) (behind_deletes (deleted_value cube outcome atom) known)) cube atom None past) ∙ is)))
+    (λ past. absurd (none-some _ (sym (by_index_past (λ atom known. after_adds (added_value cube outcome atom) (after_deletes (deleted_value cube outcome atom) known)) cube atom None past) ∙ is)))
     (cases_lt atom (length cube))

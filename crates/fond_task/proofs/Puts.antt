@@ -10,37 +10,6 @@ use Rattle.fond_task.specs.Steps.{adds, deletes, next_state}
 use Rattle.fond_task.proofs.Found.{drop_at}
 use Rattle.fond_task.proofs.Indices.{length-by_index, get_or-by_index}
 
--- whether entries give the atom this value
-abbrev gives : List Bool → Bool → List Entry → ℕ → Bool
-gives state value entries k = if value then adds state entries k else deletes state entries k
-
-given_later : (here later value was : Bool) → (if later then value else (if here then value else was)) ≡ (if here || later then value else was)
-given_later true true value was = refl
-given_later true false value was = refl
-given_later false true value was = refl
-given_later false false value was = refl
-
-gives-first : (state : List Bool) (value : Bool) (entry : Entry) (entries : List Entry) (k : ℕ) (given : Bool) → entry.add ≡ given →
-    gives state value (entry ∷ entries) k ≡ ((is_same given value && entry.atom == k && is_true state entry.cond) || gives state value entries k)
-gives-first state true entry entries k true is = ap (λ b. (b && entry.atom == k && is_true state entry.cond) || adds state entries k) is
-gives-first state true entry entries k false is = ap (λ b. (b && entry.atom == k && is_true state entry.cond) || adds state entries k) is
-gives-first state false entry entries k true is = ap (λ b. (not b && entry.atom == k && is_true state entry.cond) || deletes state entries k) is
-gives-first state false entry entries k false is = ap (λ b. (not b && entry.atom == k && is_true state entry.cond) || deletes state entries k) is
-
--- the entry at an index, and then those behind it
-pub put_more : (state : List Bool) (entries : List Entry) (value : Bool) (i : ℕ) (entry : Entry) (out new : List Bool) (k : ℕ) → slice_get entries i ≡ Some entry →
-    truth_at new k ≡ (if is_same entry.add value && entry.atom == k && is_true state entry.cond then value else truth_at out k) →
-    (if (if value then adds state (drop (i + 1) entries) k else deletes state (drop (i + 1) entries) k) then value else truth_at new k)
-    ≡ (if (if value then adds state (drop i entries) k else deletes state (drop i entries) k) then value else truth_at out k)
-put_more state entries value i entry out new k is given =
-    let rest = drop (i + 1) entries in
-    let here = is_same entry.add value && entry.atom == k && is_true state entry.cond in
-    let all : gives state value (drop i entries) k ≡ (here || gives state value rest k) =
-    ap (λ w. gives state value w k) (drop_at entries i entry is) ∙ gives-first state value entry rest k entry.add refl in
-    ap (λ b. if gives state value rest k then value else b) given
-    ∙ given_later here (gives state value rest k) value (truth_at out k)
-    ∙ ap (λ b. if b then value else truth_at out k) (sym all)
-
 next_value : (added deleted was : Bool) → (if added then true else (if deleted then false else was)) ≡ (added || (was && not deleted))
 next_value true deleted was = refl
 next_value false true true = refl

@@ -10,28 +10,28 @@ use Rattle.fond_task.specs.Values.{greatest, value}
 abbrev pub added_value : List (Option Bool) → List Entry → ℕ → Kleene
 added_value cube outcome atom = greatest (map (λ entry. value cube entry.cond) (filter (λ entry. entry.add && entry.atom == atom) outcome))
 
--- the same of the entries that delete it
+-- the greatest value, on the cube, of the conditions of the entries that delete the atom
 abbrev pub deleted_value : List (Option Bool) → List Entry → ℕ → Kleene
 deleted_value cube outcome atom = greatest (map (λ entry. value cube entry.cond) (filter (λ entry. not entry.add && entry.atom == atom) outcome))
 
--- what is known of an atom behind the deletes: it stays where no delete happens, is false where one does, and
--- where one may, only an atom that was false is known
-abbrev pub behind_deletes : Kleene → Option Bool → Option Bool
-behind_deletes No known = known
-behind_deletes Unknown None = None
-behind_deletes Unknown (Some true) = None
-behind_deletes Unknown (Some false) = Some false
-behind_deletes Yes known = Some false
+-- what is known of an atom after the deletes: what was known if no delete happens, that it is false if one does,
+-- and if one may happen, only that an atom that was false is still false
+abbrev pub after_deletes : Kleene → Option Bool → Option Bool
+after_deletes No known = known
+after_deletes Unknown None = None
+after_deletes Unknown (Some true) = None
+after_deletes Unknown (Some false) = Some false
+after_deletes Yes known = Some false
 
--- what is known of it behind the adds: it is true where an add happens, stays where none does, and where one
--- may, only an atom that was true is known
-abbrev pub behind_adds : Kleene → Option Bool → Option Bool
-behind_adds No known = known
-behind_adds Unknown None = None
-behind_adds Unknown (Some true) = Some true
-behind_adds Unknown (Some false) = None
-behind_adds Yes known = Some true
+-- what is known of an atom after the adds: what was known if no add happens, that it is true if one does, and if
+-- one may happen, only that an atom that was true is still true
+abbrev pub after_adds : Kleene → Option Bool → Option Bool
+after_adds No known = known
+after_adds Unknown None = None
+after_adds Unknown (Some true) = Some true
+after_adds Unknown (Some false) = None
+after_adds Yes known = Some true
 
--- the image of a cube under an outcome
+-- the image of a cube under an outcome: the cube of what is known of each atom after its deletes and then its adds
 abbrev pub image : List (Option Bool) → List Entry → List (Option Bool)
-image cube outcome = by_index (λ atom known. behind_adds (added_value cube outcome atom) (behind_deletes (deleted_value cube outcome atom) known)) cube
+image cube outcome = by_index (λ atom known. after_adds (added_value cube outcome atom) (after_deletes (deleted_value cube outcome atom) known)) cube

@@ -1,4 +1,4 @@
--- The laws of values and images: what a cube says is true of its states, and a full cube says all.
+-- The laws of values and images: they are sound on each cube, and exact on full cubes.
 use Rattle.std.specs.Prelude.{◌≡◌, List, Bool, true, false, length, IsTrue, Option, if◌then◌else◌}
 use Rattle.std.specs.List.{list_all}
 use Rattle.fond_state.specs.Cubes.{LiesIn, full_cube}
@@ -19,11 +19,11 @@ YesIsTrue = (state : List Bool) (cube : List (Option Bool)) (form : Form) → Li
 abbrev pub NoIsFalse : Type 0
 NoIsFalse = (state : List Bool) (cube : List (Option Bool)) (form : Form) → LiesIn state cube → value cube form ≡ No → is_true state form ≡ false
 
--- where a state lies in a cube, the next state lies in the cube's image
+-- if a state lies in a cube, the next state lies in the cube's image
 abbrev pub ImageHoldsNext : Type 0
 ImageHoldsNext = (state : List Bool) (cube : List (Option Bool)) (outcome : List Entry) → IsTrue (list_all (is_entry_within (length state)) outcome) → LiesIn state cube → LiesIn (next_state state outcome) (image cube outcome)
 
--- on the full cube of a state a form is Yes where it is true in the state, and else No
+-- on the full cube of a state a form is Yes if it is true in the state, and No otherwise
 abbrev pub FullValueIsTruth : Type 0
 FullValueIsTruth = (state : List Bool) (form : Form) → IsTrue (is_form_within (length state) form) → value (full_cube state) form ≡ (if is_true state form then Yes else No)
 

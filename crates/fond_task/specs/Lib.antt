@@ -5,3 +5,4 @@ pub mod Values
 pub mod Images
 pub mod Laws
 pub mod Texts
+pub mod Numbers

@@ -1,4 +1,4 @@
--- The three-valued value of ground forms on a cube.
+-- The value of ground forms on a cube, in Kleene's strong three-valued logic.
 use Rattle.std.specs.Prelude.{List, Bool, Option, Some, None, fold, if◌then◌else◌}
 use Rattle.fond_state.specs.Cubes.{literal_at}
 use Rattle.fond_task.specs.declared.form.Form.{Form}
@@ -8,7 +8,7 @@ use Rattle.fond_task.specs.declared.form.Kleene.{Kleene}
 use Rattle.fond_task.specs.declared.form.Kleene.TheVariants.{No, Unknown, Yes}
 use Rattle.fond_text.specs.Bools.{is_same}
 
--- the lesser of two values, where No is below Unknown and Unknown below Yes
+-- the lesser of two values: No is below Unknown, and Unknown below Yes
 abbrev pub lesser : Kleene → Kleene → Kleene
 lesser No other = No
 lesser Unknown No = No
@@ -24,19 +24,20 @@ greater Unknown Unknown = Unknown
 greater Unknown Yes = Yes
 greater Yes other = Yes
 
--- the least of the values, Yes where there is none
+-- the least of some values, and Yes if there are none
 abbrev pub least : List Kleene → Kleene
 least values = fold lesser Yes values
 
--- the greatest of the values, No where there is none
+-- the greatest of some values, and No if there are none
 abbrev pub greatest : List Kleene → Kleene
 greatest values = fold greater No values
 
--- a literal is Yes where the cube has it, No where the cube has the opposite, and else Unknown
+-- the value of a literal: Yes if the cube has it, No if the cube has the opposite, and Unknown otherwise
 abbrev pub literal_value : Option Bool → Bool → Kleene
 literal_value None sign = Unknown
 literal_value (Some value) sign = if is_same value sign then Yes else No
 
+-- the value of one layer of a form on a cube, given the values of its parts
 abbrev pub value_step : List (Option Bool) → Form-F Kleene → Kleene
 value_step cube (Truth value) = if value then Yes else No
 value_step cube (Lit atom sign) = literal_value (literal_at cube atom) sign

@@ -1,6 +1,6 @@
 //! Ground conditions.
 
-/// The value of a condition on a cube, from false to true.
+/// The value of a condition on a cube: false in all its states, not known, or true in all.
 #[derive(Clone, Copy, Debug, PartialEq, Eq)]
 pub enum Kleene {
     No,
@@ -8,10 +8,10 @@ pub enum Kleene {
     Yes,
 }
 
-/// The members of a conjunction or disjunction.
+/// The parts of a conjunction or a disjunction.
 pub type Forms = Vec<Form>;
 
-/// A condition over the atoms' numbers. A literal has the atom and the truth value that it wants.
+/// A condition over the atoms, by their numbers. A literal is an atom and the truth value that it requires.
 #[derive(Drop)]
 pub enum Form {
     Truth(bool),

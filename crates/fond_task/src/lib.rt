@@ -1,13 +1,15 @@
-//! Ground tasks: fluent atoms, kept actions with their outcomes, a first state and a goal, and what these
-//! mean on states and on cubes.
+//! Ground tasks: fluent atoms, actions with their outcomes, an initial state and a goal, and what these mean on
+//! states and on cubes. Values and images of cubes follow Kleene's strong three-valued logic; the laws say that they
+//! are sound on each cube and exact on full ones. Grounding a task is left to the crates above.
 #![tactic(auto)]
 
 pub mod form;
 pub mod laws;
+pub mod parts;
 pub mod step;
 pub mod task;
+pub mod task_index;
 #[cfg(test)]
 mod tests;
 pub mod text;
 pub mod truth;
-pub mod within;

@@ -1,4 +1,4 @@
-//! The next state.
+//! The state after an outcome.
 
 ghost use Rattle.fond_task.specs.Within.{is_entry_within};
 ghost use Rattle.fond_task.specs.Truth.{is_true};
@@ -14,8 +14,7 @@ use crate::task::{Entry, Outcome, Task};
 use crate::truth::evaluate;
 use fond_state::state::State;
 
-/// Gives the entry's atom this truth value, where the entry gives this one and its condition is true in the
-/// state before.
+/// Gives the entry's atom this truth value, if it is the entry's and the entry's condition is true in `state`.
 fn put(entry: &Entry, state: &State, value: bool, out: &mut State)
     requires within { IsTrue (is_entry_within (length state.now) entry.now) }
     requires long { length out.old ≡ length state.now }
@@ -28,7 +27,7 @@ fn put(entry: &Entry, state: &State, value: bool, out: &mut State)
     }
 }
 
-/// Gives this truth value to each atom to which the outcome gives it in the state before.
+/// Gives this truth value to each atom to which the outcome gives it in `state`.
 fn put_all(entries: &Outcome, state: &State, value: bool, out: &mut State)
     requires within { IsTrue (list_all (is_entry_within (length state.now)) entries.now) }
     requires long { length out.old ≡ length state.now }
@@ -36,13 +35,13 @@ fn put_all(entries: &Outcome, state: &State, value: bool, out: &mut State)
     ensures put { (k : ℕ) → k < length out.old →
         truth_at out.new k ≡ (if (if value then adds state.now entries.now k else deletes state.now entries.now k) then value else truth_at out.old k) }
 {
-    for i in 0..entries.len() {
-        put(entries.get(i), state, value, out);
+    for entry in entries.as_slice() {
+        put(entry, state, value, out);
     }
 }
 
-/// Makes `out` the state that comes next by this outcome of the action. Deletes come first, so that an add
-/// wins, and each condition is looked at in the state before. Takes no memory.
+/// Makes `out` the state after this outcome of the action. Deletes come first, so that an add wins, and each
+/// condition is evaluated in `state`. Takes time in the number of atoms and the size of the outcome, and no memory.
 pub fn apply_into(task: &Task, state: &State, act: u32, outcome: u32, out: &mut State)
     requires long { length state.now ≡ length task.now.atoms }
     requires out_long { length out.old ≡ length task.now.atoms }

@@ -1,4 +1,4 @@
-//! Ground tasks as they are kept.
+//! The types of a ground task.
 
 ghost use Rattle.fond_task.specs.Within.{is_form_within, is_act_within};
 ghost use Rattle.std.specs.List.{list_all};
@@ -7,10 +7,10 @@ ghost use Rattle.std.specs.Prelude.{◌≡◌, ◌<◌, ◌^◌, length, IsTrue}
 use crate::form::Form;
 use fond_state::state::State;
 use fond_text::atom::{Atoms, GroundAction};
-use fond_text::name::Names;
 use fond_text::list::List;
+use fond_text::name::Names;
 
-/// One effect of an outcome: where the condition holds, the atom becomes true (`add`) or false.
+/// One effect of an outcome: if the condition holds, the atom becomes true (`add`) or false.
 #[derive(Drop)]
 pub struct Entry {
     pub cond: Form,
@@ -24,8 +24,8 @@ pub type Outcome = List<Entry>;
 /// The outcomes of an action, in order.
 pub type Outcomes = List<Outcome>;
 
-/// A kept ground action: its name, its precondition, who picks its outcome (an opponent where it is unfair,
-/// chance where not), and its outcomes.
+/// A ground action: its name, its precondition, who picks its outcome (an opponent if it is unfair, chance if it is
+/// not), and its outcomes.
 #[derive(Drop)]
 pub struct Act {
     pub ground: GroundAction,
@@ -34,10 +34,10 @@ pub struct Act {
     pub outcomes: Outcomes,
 }
 
-/// Kept ground actions, in order.
+/// Ground actions, in order.
 pub type Acts = List<Act>;
 
-/// The names that the numbers of a task stand for.
+/// The names of a task's predicates, objects and schemas, by their numbers.
 #[derive(Drop)]
 pub struct Labels {
     pub predicates: Names,
@@ -45,8 +45,8 @@ pub struct Labels {
     pub schemas: Names,
 }
 
-/// A ground task. Every number of an atom in its conditions and effects is that of one of its atoms, its initial
-/// state has as many, and each action has an outcome.
+/// A ground task. Its conditions and effects are over its atoms, its initial state gives a truth value to each of
+/// them, and each action has an outcome.
 #[derive(Drop)]
 pub struct Task {
     pub atoms: Atoms,

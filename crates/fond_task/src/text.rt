@@ -1,4 +1,4 @@
-//! How ground atoms, ground actions and states are written.
+//! Writing ground atoms, ground actions and states. Each call appends its whole text, or nothing if memory runs out.
 
 ghost use Rattle.fond_task.specs.Texts.{name_at, named_text, atom_text, action_text, state_text};
 ghost use Rattle.fond_state.specs.Cubes.{truth_at};
@@ -7,11 +7,11 @@ ghost use Rattle.std.specs.Prelude.{◌≡◌, [], ◌++◌, ℕ, List, codes, i
 
 use crate::task::{Labels, Task};
 use fond_state::state::State;
-use fond_text::fault::NoMemory;
 use fond_text::atom::{Atom, GroundAction, Objects};
+use fond_text::fault::NoMemory;
 use fond_text::name::Names;
 
-/// Appends the name of a number. A number without a name adds nothing.
+/// Appends the name of a number, or nothing if it has none.
 fn put_name(names: &Names, number: u32, out: &mut Vec<u8>) -> Result<(), NoMemory>
     ensures ok { OnOk result (out.new.items ≡ out.old.items ++ name_at names.now number) }
     ensures err { OnErr result (out.new.items ≡ out.old.items) }
@@ -22,7 +22,7 @@ fn put_name(names: &Names, number: u32, out: &mut Vec<u8>) -> Result<(), NoMemor
     Ok(())
 }
 
-/// Appends the names of objects, each behind a space.
+/// Appends the names of objects, each after a space.
 fn put_objects(names: &Names, objects: &Objects, out: &mut Vec<u8>) -> Result<(), NoMemory>
     ensures ok { OnOk result (out.new.items ≡ out.old.items ++ flat_map (λ object. codes " " ++ name_at names.now object) objects.now) }
     ensures grew { (more : List ℕ) × (out.new.items ≡ out.old.items ++ more) }
@@ -88,7 +88,7 @@ pub fn put_action(labels: &Labels, ground: &GroundAction, out: &mut Vec<u8>) -> 
     }
 }
 
-/// Appends the line of an atom where it is true.
+/// Appends the line of an atom, if it is true.
 fn put_line(labels: &Labels, atom: &Atom, is_true: bool, out: &mut Vec<u8>) -> Result<(), NoMemory>
     ensures ok { OnOk result (out.new.items ≡ out.old.items ++ (if is_true then atom_text labels.now atom.now ++ codes "\n" else [])) }
     ensures grew { (more : List ℕ) × (out.new.items ≡ out.old.items ++ more) }
@@ -107,7 +107,7 @@ fn put_line(labels: &Labels, atom: &Atom, is_true: bool, out: &mut Vec<u8>) -> R
     Ok(())
 }
 
-/// Whether the atom is true, and false past the last atom.
+/// Whether the atom is true. An atom past the last one is false.
 fn is_atom_true(state: &State, atom: usize) -> bool
     ensures { result ≡ truth_at state.now atom }
 {
@@ -120,13 +120,13 @@ fn put_lines(task: &Task, state: &State, out: &mut Vec<u8>) -> Result<(), NoMemo
     ensures grew { (more : List ℕ) × (out.new.items ≡ out.old.items ++ more) }
 {
     out.extend_from_slice(b"state\n")?;
-    for i in 0..task.atoms.len() {
-        put_line(&task.labels, task.atoms.get(i), is_atom_true(state, i), out)?;
+    for (i, atom) in task.atoms.as_slice().iter().enumerate() {
+        put_line(&task.labels, atom, is_atom_true(state, i), out)?;
     }
     Ok(())
 }
 
-/// Appends the text of a state: the line `state` and a line for each atom that is true, in order of number.
+/// Appends the text of a state: the line `state` and a line for each true atom, in the order of the atoms.
 pub fn put_state(task: &Task, state: &State, out: &mut Vec<u8>) -> Result<(), NoMemory>
     ensures ok { OnOk result (out.new.items ≡ out.old.items ++ state_text task.now state.now) }
     ensures err { OnErr result (out.new.items ≡ out.old.items) }

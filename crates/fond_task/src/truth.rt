@@ -1,4 +1,4 @@
-//! Truth in a state.
+//! The truth of forms in a state.
 
 ghost use Rattle.fond_task.specs.Within.{is_form_within};
 ghost use Rattle.fond_task.specs.Truth.{is_true};
@@ -9,7 +9,8 @@ use crate::form::Form;
 use crate::task::Task;
 use fond_state::state::State;
 
-/// Whether the form is true in the state. Stops at the first part that decides.
+/// Whether the form is true in the state. Stops at the first part that decides, and takes at most time in the size
+/// of the form.
 pub fn evaluate(form: &Form, state: &State) -> bool
     requires { IsTrue (is_form_within (length state.now) form.now) }
     ensures { result ≡ is_true state.now form.now }

@@ -4,10 +4,10 @@ use Rattle.std.specs.Prelude.{if◌then◌else◌}
 use Rattle.std.specs.Str.{bytes_eq}
 use Rattle.std.specs.Cmp.Lexicographic.{nat_list_eq_equiv}
 use Rattle.std.proofs.lemmas.Bool.Decides.{nat_tests}
-use Rattle.fond_names.specs.Texts.{number_beside, with_text}
+use Rattle.fond_lookup.specs.Texts.{number_beside, with_text}
 use Rattle.std.specs.Option.{option_or}
-use Rattle.fond_names.proofs.Entries.{kept_last}
-use Rattle.fond_names.proofs.Firsts.{number_kept}
+use Rattle.fond_lookup.proofs.Entries.{kept_last}
+use Rattle.fond_lookup.proofs.Firsts.{number_kept}
 use Rattle.fond_types.specs.Indexes.{numbered_from}
 use Rattle.fond_types.specs.Names.{is_among, declared_also}
 use Rattle.fond_types.specs.Resolves.{is_number_of}

@@ -1,60 +1,52 @@
-use Rattle.std.proofs.Common.{◌≡◌, ◌∷◌, ◌++◌, ◌+◌, ◌-◌, ◌<◌, ◌≤◌, [], length, drop, get_or, add-one, ◌∙◌, ap, sym, arith, length-drop}
-use Rattle.std.proofs.Math.Seq.{drop-cons}
-use Rattle.std.proofs.Math.ListN.{drop_of_length-le}
-use Rattle.fond_exec.specs.Executors.{task_of, rules_of, state_of}
-use Rattle.fond_exec.specs.Lines.{told_line}
-use Rattle.fond_task.specs.Truth.{is_true}
+use Rattle.std.proofs.Common.{◌++◌, ◌∙◌, sym, ap}
 use Rattle.fond_task.specs.declared.task.Task.{Task}
-use Rattle.fond_exec.proofs.Traced.{on_ok_map, step_of, ended, stopped, went_on}
+use Rattle.fond_task.specs.Truth.{is_true}
+use Rattle.fond_exec.specs.Traces.{step_line}
+use Rattle.fond_exec.specs.declared.step.Step.TheVariants.{Took, Done, Stuck, BadOutcome}
+use Rattle.fond_exec.proofs.Traced.{on_ok, step_of, at_end, at_done, at_stuck, at_past, went_on, none_left}
 use Rattle.fond_exec.proofs.trace.put_steps.Goals as goal
 
-pub returns-then-not-branch-clause-ok : goal.returns-then-not-branch-clause-ok
-returns-then-not-branch-clause-ok c =
+pub returns-in-Done-clause-ok : goal.returns-in-Done-clause-ok
+returns-in-Done-clause-ok c =
     let run = c.args.run.now in
-    let outcomes = c.args.outcomes.now in
-    let i = c.loop-i.i in
-    let within : i < length outcomes = omega arith in
-    let outcome = get_or outcomes i 0 in
-    let more = drop (i + 1) outcomes in
-    let next : drop i outcomes ≡ outcome ∷ more = rw (add-one i) (drop-cons outcomes i 0 within) in
-    let is = step_of (task_of run) (rules_of run) (task_of c.loop-i.run) (rules_of c.loop-i.run) (state_of c.loop-i.run) outcome c.step-step.result (state_of c.step-step.new.self) c.loop-i.invariant.task c.loop-i.invariant.rules c.step-step.ensures.step in
-    let left : length outcomes - i ≡ 1 + length more = omega (arith, length-drop (i + 1) outcomes) in
-    let put = c.in_ok-put_step.ensures.ok
-    ∙ ap (λ t. c.loop-i.out.items ++ told_line t outcome (length outcomes - i) c.step-step.result) (sym c.requires)
-    ∙ ap (λ n. c.loop-i.out.items ++ told_line (task_of run) outcome n c.step-step.result) left in
-    let fails = sym c.in_ok-put_step.ensures.taken ∙ c.if-not-branch.true in
-    let traced = stopped (task_of run) (rules_of run) (state_of run) outcomes (state_of c.loop-i.run) (drop i outcomes) c.args.out.now.items c.loop-i.out.items c.loop-i.invariant.so_far outcome more next
-    c.step-step.result (state_of c.step-step.new.self) c.put_step.new.out.items is fails put in
-    (traced.text, traced.told, traced.written)
+    let so_far = c.loop-outcome.invariant in
+    let is = step_of run.task run.rules c.loop-outcome.run.task c.loop-outcome.run.rules c.loop-outcome.run.state c.in-Some.outcome.now Done c.step.new.self.state so_far.task so_far.rules c.in-Done.ensures.step in
+    on_ok c.put_goal.result (λ put. at_done run.task run.rules run.state c.args.outcomes.now c.loop-outcome.run.state c.loop-outcome.left.now c.args.out.now.items c.loop-outcome.out.items so_far.so_far
+    c.step.new.self.state c.put_goal.new.out.items is put) c.put_goal.ensures.ok
 
-pub loop-i-preserved : goal.loop-i-preserved
-loop-i-preserved c =
+pub returns-in-Stuck-clause-ok : goal.returns-in-Stuck-clause-ok
+returns-in-Stuck-clause-ok c =
     let run = c.args.run.now in
-    let outcomes = c.args.outcomes.now in
-    let i = c.loop-i.i in
-    let within : i < length outcomes = omega arith in
-    let outcome = get_or outcomes i 0 in
-    let more = drop (i + 1) outcomes in
-    let next : drop i outcomes ≡ outcome ∷ more = rw (add-one i) (drop-cons outcomes i 0 within) in
-    let is = step_of (task_of run) (rules_of run) (task_of c.loop-i.run) (rules_of c.loop-i.run) (state_of c.loop-i.run) outcome c.step-step.result (state_of c.step-step.new.self) c.loop-i.invariant.task c.loop-i.invariant.rules c.step-step.ensures.step in
-    let put = c.in_ok-put_step.ensures.ok
-    ∙ ap (λ t. c.loop-i.out.items ++ told_line t outcome (length outcomes - i) c.step-step.result) (sym c.requires) in
-    let holds = sym c.in_ok-put_step.ensures.taken ∙ c.if-not-branch.false in
+    let so_far = c.loop-outcome.invariant in
+    let is = step_of run.task run.rules c.loop-outcome.run.task c.loop-outcome.run.rules c.loop-outcome.run.state c.in-Some.outcome.now Stuck c.step.new.self.state so_far.task so_far.rules c.in-Stuck.ensures.step in
+    on_ok c.put_stuck.result (λ put. at_stuck run.task run.rules run.state c.args.outcomes.now c.loop-outcome.run.state c.loop-outcome.left.now c.args.out.now.items c.loop-outcome.out.items so_far.so_far
+    c.in-Some.outcome.now c.in-Some.after.now c.in-Some.ensures.cases.0 c.step.new.self.state c.put_stuck.new.out.items is put) c.put_stuck.ensures.ok
+
+pub returns-in-BadOutcome-clause-ok : goal.returns-in-BadOutcome-clause-ok
+returns-in-BadOutcome-clause-ok c =
+    let run = c.args.run.now in
+    let so_far = c.loop-outcome.invariant in
+    let is = step_of run.task run.rules c.loop-outcome.run.task c.loop-outcome.run.rules c.loop-outcome.run.state c.in-Some.outcome.now (BadOutcome c.in-BadOutcome.count) c.step.new.self.state so_far.task so_far.rules c.in-BadOutcome.ensures.step in
+    on_ok c.put_outcome.result (λ put. at_past run.task run.rules run.state c.args.outcomes.now c.loop-outcome.run.state c.loop-outcome.left.now c.args.out.now.items c.loop-outcome.out.items so_far.so_far
+    c.in-Some.outcome.now c.in-Some.after.now c.in-Some.ensures.cases.0 c.in-BadOutcome.count c.step.new.self.state c.put_outcome.new.out.items is put) c.put_outcome.ensures.ok
+
+pub loop-outcome-preserved : goal.loop-outcome-preserved
+loop-outcome-preserved c =
+    let run = c.args.run.now in
+    let so_far = c.loop-outcome.invariant in
+    let is = step_of run.task run.rules c.loop-outcome.run.task c.loop-outcome.run.rules c.loop-outcome.run.state c.in-Some.outcome.now (Took c.in-Took.rule c.in-Took.act) c.step.new.self.state so_far.task so_far.rules c.in-Took.ensures.step in
     record {
-      task = c.step-step.ensures.task ∙ c.loop-i.invariant.task;
-      rules = c.step-step.ensures.rules ∙ c.loop-i.invariant.rules;
-      so_far = went_on (task_of run) (rules_of run) (state_of run) outcomes (state_of c.loop-i.run) (drop i outcomes) c.args.out.now.items c.loop-i.out.items c.loop-i.invariant.so_far outcome more next
-          c.step-step.result (state_of c.step-step.new.self) c.put_step.new.out.items (length outcomes - i) is holds put;
+      task = c.in-Took.ensures.task ∙ so_far.task;
+      rules = c.in-Took.ensures.rules ∙ so_far.rules;
+      so_far = went_on run.task run.rules run.state c.args.outcomes.now c.loop-outcome.run.state c.loop-outcome.left.now c.args.out.now.items c.loop-outcome.out.items so_far.so_far
+          c.in-Some.outcome.now c.in-Some.after.now c.in-Some.ensures.cases.0 c.in-Took.rule c.in-Took.act c.step.new.self.state c.put_taken.new.out.items is
+          (c.in_ok-put_taken-in-Took.ensures.ok ∙ ap (λ (t : Task). c.loop-outcome.out.items ++ step_line t c.in-Took.rule c.in-Took.act c.in-Some.outcome.now) (sym c.requires));
     }
 
 pub returns-clause-ok : goal.returns-clause-ok
 returns-clause-ok c =
     let run = c.args.run.now in
-    let outcomes = c.args.outcomes.now in
-    let past : length outcomes ≤ c.loop-i.i = omega arith in
-    let none : drop c.loop-i.i outcomes ≡ [] = drop_of_length-le outcomes past in
-    let is = c.done.ensures ∙ ap (λ (t : Task). is_true (state_of c.loop-i.run) t.goal) c.loop-i.invariant.task in
-    on_ok_map c.put_end.result (λ put.
-    let traced = ended (task_of run) (rules_of run) (state_of run) outcomes (state_of c.loop-i.run) (drop c.loop-i.i outcomes) c.args.out.now.items c.loop-i.out.items c.loop-i.invariant.so_far
-    c.done.result c.put_end.new.out.items none is put in
-    (traced.text, traced.told, traced.written)) c.put_end.ensures.ok
+    let so_far = c.loop-outcome.invariant in
+    let is = c.done.ensures ∙ ap (λ (t : Task). is_true c.loop-outcome.run.state t.goal) so_far.task in
+    on_ok c.put_end.result (λ put. at_end run.task run.rules run.state c.args.outcomes.now c.loop-outcome.run.state c.loop-outcome.left.now c.args.out.now.items c.loop-outcome.out.items so_far.so_far
+    c.done.result c.put_end.new.out.items (none_left c.loop-outcome.left.now c.in_default.ensures.cases) is put) c.put_end.ensures.ok

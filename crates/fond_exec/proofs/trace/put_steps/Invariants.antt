@@ -1,11 +1,13 @@
-use Rattle.std.proofs.Common.{◌≡◌, drop}
-use Rattle.fond_exec.specs.Executors.{task_of, rules_of, state_of}
+use Rattle.std.proofs.Common.{◌≡◌, length}
 use Rattle.fond_exec.proofs.Traced.{Progress}
 use Rattle.fond_exec.proofs.trace.put_steps.Given as goal
 
-abbrev pub invariant-loop-i : goal.invariant-loop-i
-invariant-loop-i l = record {
-  task : task_of l.run ≡ task_of l.initial.run;
-  rules : rules_of l.run ≡ rules_of l.initial.run;
-  so_far : Progress (task_of l.initial.run) (rules_of l.initial.run) (state_of l.initial.run) l.outcomes (state_of l.run) (drop l.i l.outcomes) l.initial.out.items l.out.items;
+abbrev pub invariant-loop-outcome : goal.invariant-loop-outcome
+invariant-loop-outcome l = record {
+  task : l.run.task ≡ l.initial.run.task;
+  rules : l.run.rules ≡ l.initial.run.rules;
+  so_far : Progress l.initial.run.task l.initial.run.rules l.initial.run.state l.outcomes l.run.state l.left l.initial.out.items l.out.items;
 }
+
+abbrev pub decreases-loop-outcome : goal.decreases-loop-outcome
+decreases-loop-outcome l = length l.left

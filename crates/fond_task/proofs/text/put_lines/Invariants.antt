@@ -7,7 +7,7 @@ use Rattle.fond_task.proofs.text.put_lines.Given as goal
 
 abbrev pub invariant-loop-i : goal.invariant-loop-i
 invariant-loop-i l = record {
-  text : l.out.items ++ flat_map (λ item. if truth_at l.state item.0 then atom_text l.task.labels item.1 ++ codes "\n" else []) (enumerate_from l.i (drop l.i l.task.atoms))
-      ≡ l.initial.out.items ++ flat_map (λ item. if truth_at l.state item.0 then atom_text l.task.labels item.1 ++ codes "\n" else []) (enumerate_from 0 l.task.atoms);
+  text : l.out.items ++ flat_map (λ item. if truth_at l.state item.0 then atom_text l.task.labels item.1 ++ codes "\n" else []) (enumerate_from l.i (drop l.i l.atom-items))
+      ≡ l.initial.out.items ++ flat_map (λ item. if truth_at l.state item.0 then atom_text l.task.labels item.1 ++ codes "\n" else []) (enumerate_from 0 l.atom-items);
   grew : (more : List ℕ) × (l.out.items ≡ l.fn.out.items ++ more);
 }

@@ -1,5 +1,5 @@
 use Rattle.std.proofs.Common.{◌≡◌, ◌++◌, ◌∷◌, [], ◌∙◌, true, false, is_some, sym, ap}
-use Rattle.fond_names.specs.Texts.{number_beside, with_text}
+use Rattle.fond_lookup.specs.Texts.{number_beside, with_text}
 use Rattle.fond_types.specs.Indexes.{numbered_from}
 use Rattle.fond_types.proofs.Numbering.{declared_there, declared_new, numbered_new}
 use Rattle.fond_types.proofs.index.declare.Goals as goal

@@ -1,8 +1,8 @@
 use Rattle.std.proofs.Common.{rules, ◌≡◌, ap, ◌∙◌, arith}
 use Rattle.std.proofs.lemmas.Bool.Decides.{nat_tests}
 use Rattle.fond_ast.specs.declared.files.Schema.{Schema}
-use Rattle.fond_names.proofs.Firsts.{has_all, has_more}
-use Rattle.fond_names.specs.Texts.{with_text}
+use Rattle.fond_lookup.proofs.Firsts.{has_all, has_more}
+use Rattle.fond_lookup.specs.Texts.{with_text}
 use Rattle.fond_types.proofs.index.schema_positions.Goals as goal
 
 pub loop-i-preserved : goal.loop-i-preserved

@@ -2,7 +2,7 @@ use Rattle.std.proofs.Common.{◌≡◌, ◌+◌, ◌||◌, Bool, true, false, d
 use Rattle.std.specs.List.{list_any}
 use Rattle.std.specs.Str.{bytes_eq}
 use Rattle.fond_ast.specs.declared.names.Kind.{Kind}
-use Rattle.fond_names.specs.Texts.{number_beside, with_text}
+use Rattle.fond_lookup.specs.Texts.{number_beside, with_text}
 use Rattle.fond_types.proofs.Lists.{any_at}
 use Rattle.fond_types.proofs.Numbering.{kept_there}
 use Rattle.fond_types.proofs.index.side_leaves.Goals as goal

@@ -1,7 +1,7 @@
 use Rattle.std.proofs.Common.{◌≡◌, ◌||◌, ℕ, List, drop, is_some}
 use Rattle.std.specs.List.{list_any}
 use Rattle.std.specs.Str.{bytes_eq}
-use Rattle.fond_names.specs.Texts.{number_beside}
+use Rattle.fond_lookup.specs.Texts.{number_beside}
 use Rattle.fond_types.proofs.index.side_leaves.Given as goal
 
 -- a name is among all leaves if and only if it is among those so far or those that are left

@@ -1,6 +1,6 @@
 use Rattle.std.proofs.Common.{◌≡◌, sym, ◌∙◌, Some, None}
 use Rattle.fond_ast.specs.declared.files.Schema.{Schema}
-use Rattle.fond_names.specs.Texts.{number_beside}
+use Rattle.fond_lookup.specs.Texts.{number_beside}
 use Rattle.fond_types.proofs.Positions.{repeats_elsewhere, repeats_nowhere}
 use Rattle.fond_types.proofs.repeated.is_repeated.Goals as goal
 

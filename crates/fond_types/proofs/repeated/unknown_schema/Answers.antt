@@ -3,7 +3,7 @@ use Rattle.std.proofs.lemmas.List.{take_all}
 use Rattle.fond_text.specs.Firsts.{IsFirst}
 use Rattle.fond_text.specs.declared.code.TheConstants.{UNKNOWN_SCHEMA}
 use Rattle.fond_ast.specs.declared.names.Kind.{Kind}
-use Rattle.fond_names.specs.Texts.{number_beside}
+use Rattle.fond_lookup.specs.Texts.{number_beside}
 use Rattle.fond_types.specs.Faults.{IsUnknownSchema}
 use Rattle.fond_types.specs.Names.{is_among, schema_names}
 use Rattle.fond_types.proofs.Lists.{next_taken}

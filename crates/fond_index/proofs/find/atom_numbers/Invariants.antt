@@ -1,6 +1,0 @@
-use Rattle.fond_task.specs.Texts.{atom_text}
-use Rattle.fond_names.proofs.Firsts.{HasFirsts}
-use Rattle.fond_index.proofs.find.atom_numbers.Given as goal
-
-abbrev pub invariant-loop-i : goal.invariant-loop-i
-invariant-loop-i l = HasFirsts (atom_text l.task.labels) l.task.atoms l.numbers l.i

@@ -1,7 +1,0 @@
-use Rattle.std.proofs.Common.{◌≡◌, drop}
-use Rattle.std.specs.List.{list_all}
-use Rattle.fond_task.specs.Within.{is_act_within}
-use Rattle.fond_task.proofs.within.are_acts_over.Given as goal
-
-abbrev pub invariant-loop-i : goal.invariant-loop-i
-invariant-loop-i l = list_all (is_act_within l.atoms) (drop l.i l.acts) ≡ list_all (is_act_within l.atoms) l.acts
