@@ -1,13 +1,11 @@
 -- The faults of side lists: each phase has at most one, and a text without any has neither stray bytes nor parentheses.
-use Rattle.std.proofs.Common.{◌≡◌, ℕ, ◌<◌, ◌≤◌, inl, inr, ◌⊎◌, ◌||◌, Bool, true, false, List, [], ◌∷◌, ◌++◌, map, length, refl, sym, ap, ◌∙◌, arith}
+use Rattle.std.proofs.Common.{◌≡◌, ℕ, ◌<◌, ◌≤◌, inl, inr, ◌⊎◌, ◌||◌, Bool, true, false, List, [], ◌∷◌, ◌++◌, length, refl, sym, ap, ◌∙◌, arith}
 use Rattle.std.specs.List.{list_any}
 use Rattle.std.proofs.lemmas.Bool.{cases_lt}
 use Rattle.std.proofs.lemmas.List.Folds.{list_any-append}
 use Rattle.fond_text.specs.declared.code.TheConstants.{LONGEST_TEXT, TOO_LONG, STRAY_BYTE}
-use Rattle.fond_text.specs.declared.place.FileKind.TheVariants.{Side as SideKind}
-use Rattle.fond_text.specs.declared.fault.Fault.{Fault}
 use Rattle.fond_text.specs.declared.place.Place.{Place}
-use Rattle.fond_text.specs.Faults.{IsClean, IsLeast, IsLeastIn, IsNoLater}
+use Rattle.fond_text.specs.Faults.{IsClean, IsLeast, IsNoLater}
 use Rattle.fond_tree.specs.Marks.{Mark, marks}
 use Rattle.fond_tree.specs.Tokens.{Token}
 use Rattle.fond_front.specs.Sides.{is_stray, is_parenthesis, IsFirstOf, IsSideTextFault, IsSideTreeFault}
@@ -33,14 +31,16 @@ first_there sort (mark ∷ tokens) some = from (λ more. first_there sort tokens
     from later true is = (mark.at, record { before = []; item = mark; after = tokens; split = refl; has = (refl, is, refl) })
     from later false is =
         let more : list_any (λ (m : Mark). sort m.token) tokens ≡ true = sym (ap (λ b. b || list_any (λ (m : Mark). sort m.token) tokens) is) ∙ some in
-        let rest = later more in
-        (rest.0, record {
-          before = mark ∷ rest.1.before;
-          item = rest.1.item;
-          after = rest.1.after;
-          split = ap (λ ms. mark ∷ ms) rest.1.split;
-          has = (ap (λ b. b || list_any (λ (m : Mark). sort m.token) rest.1.before) is ∙ rest.1.has.0, rest.1.has.1, rest.1.has.2);
-        })
+        let rest = later more in (
+          rest.0,
+          record {
+            before = mark ∷ rest.1.before;
+            item = rest.1.item;
+            after = rest.1.after;
+            split = ap (λ ms. mark ∷ ms) rest.1.split;
+            has = (ap (λ b. b || list_any (λ (m : Mark). sort m.token) rest.1.before) is ∙ rest.1.has.0, rest.1.has.1, rest.1.has.2);
+          },
+        )
 
 -- the text has no fault of its own if it is short and has no stray byte
 pub text_clean : (text : List ℕ) → length text ≤ LONGEST_TEXT → list_any (λ mark. is_stray mark.token) (marks text) ≡ false → IsClean (IsSideTextFault text)

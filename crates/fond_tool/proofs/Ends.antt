@@ -15,53 +15,53 @@ use Rattle.fond_tool.specs.Runs.{RunReply}
 use Rattle.fond_tool.specs.Successors.{SuccReply}
 
 -- whether a reply may have a status: not that of a write fault, and not that of memory that ran out
-abbrev pub is_told : Status → Bool
-is_told WriteFault = false
-is_told NoMemory = false
-is_told status = true
+abbrev pub is_reply_status : Status → Bool
+is_reply_status WriteFault = false
+is_reply_status NoMemory = false
+is_reply_status status = true
 
-succ_told : {texts : TaskTexts} {action : List ℕ} {reply : Reply} → SuccReply texts action reply → is_told reply.status ≡ true
-succ_told (SuccReply.refused fault first) = refl
-succ_told (SuccReply.unknown task of none) = refl
-succ_told (SuccReply.inapplicable task schema of there names never) = refl
-succ_told (SuccReply.successors task schema of there names applicable) = refl
+succ_status : {texts : TaskTexts} {action : List ℕ} {reply : Reply} → SuccReply texts action reply → is_reply_status reply.status ≡ true
+succ_status (SuccReply.refused fault first) = refl
+succ_status (SuccReply.unknown task of none) = refl
+succ_status (SuccReply.inapplicable task schema of there names never) = refl
+succ_status (SuccReply.successors task schema of there names applicable) = refl
 
-end_told : (is_goal : Bool) → is_told (if is_goal then Done else Stopped) ≡ true
-end_told true = refl
-end_told false = refl
+end_status : (is_goal : Bool) → is_reply_status (if is_goal then Done else Stopped) ≡ true
+end_status true = refl
+end_status false = refl
 
-run_told : {texts : TaskTexts} {cert script : List ℕ} {reply : Reply} → RunReply texts cert script reply → is_told reply.status ≡ true
-run_told (RunReply.refused fault first) = refl
-run_told (RunReply.bad_cert task code byte of fault) = refl
-run_told (RunReply.bad_script task rules reach byte of read fault) = refl
-run_told (RunReply.ran task rules reach numbers lines last of read spelled trace) = end_told (is_true last task.goal)
+run_status : {texts : TaskTexts} {cert script : List ℕ} {reply : Reply} → RunReply texts cert script reply → is_reply_status reply.status ≡ true
+run_status (RunReply.refused fault first) = refl
+run_status (RunReply.bad_cert task code byte of fault) = refl
+run_status (RunReply.bad_script task rules reach byte of read fault) = refl
+run_status (RunReply.ran task rules reach numbers lines last of read spelled trace) = end_status (is_true last task.goal)
 
-command_told : (command : Command) (given contents : List (List ℕ)) (reply : Reply) → CommandReply command given contents reply → is_told reply.status ≡ true
-command_told Succ (d ∷ p ∷ action ∷ []) (domain ∷ problem ∷ []) reply h = succ_told h
-command_told Succ [] contents reply h = absurd h
-command_told Succ (d ∷ []) contents reply h = absurd h
-command_told Succ (d ∷ p ∷ []) contents reply h = absurd h
-command_told Succ (d ∷ p ∷ action ∷ []) [] reply h = absurd h
-command_told Succ (d ∷ p ∷ action ∷ []) (domain ∷ []) reply h = absurd h
-command_told Succ (d ∷ p ∷ action ∷ []) (domain ∷ problem ∷ other ∷ others) reply h = absurd h
-command_told Succ (d ∷ p ∷ action ∷ other ∷ others) contents reply h = absurd h
-command_told Run given [] reply h = absurd h
-command_told Run given (domain ∷ []) reply h = absurd h
-command_told Run given (domain ∷ problem ∷ []) reply h = absurd h
-command_told Run given (domain ∷ problem ∷ side ∷ []) reply h = absurd h
-command_told Run given (domain ∷ problem ∷ side ∷ cert ∷ []) reply h = absurd h
-command_told Run given (domain ∷ problem ∷ side ∷ cert ∷ script ∷ []) reply h = run_told h
-command_told Run given (domain ∷ problem ∷ side ∷ cert ∷ script ∷ other ∷ others) reply h = absurd h
+command_status : (command : Command) (given contents : List (List ℕ)) (reply : Reply) → CommandReply command given contents reply → is_reply_status reply.status ≡ true
+command_status Succ (d ∷ p ∷ action ∷ []) (domain ∷ problem ∷ []) reply h = succ_status h
+command_status Succ [] contents reply h = absurd h
+command_status Succ (d ∷ []) contents reply h = absurd h
+command_status Succ (d ∷ p ∷ []) contents reply h = absurd h
+command_status Succ (d ∷ p ∷ action ∷ []) [] reply h = absurd h
+command_status Succ (d ∷ p ∷ action ∷ []) (domain ∷ []) reply h = absurd h
+command_status Succ (d ∷ p ∷ action ∷ []) (domain ∷ problem ∷ other ∷ others) reply h = absurd h
+command_status Succ (d ∷ p ∷ action ∷ other ∷ others) contents reply h = absurd h
+command_status Run given [] reply h = absurd h
+command_status Run given (domain ∷ []) reply h = absurd h
+command_status Run given (domain ∷ problem ∷ []) reply h = absurd h
+command_status Run given (domain ∷ problem ∷ side ∷ []) reply h = absurd h
+command_status Run given (domain ∷ problem ∷ side ∷ cert ∷ []) reply h = absurd h
+command_status Run given (domain ∷ problem ∷ side ∷ cert ∷ script ∷ []) reply h = run_status h
+command_status Run given (domain ∷ problem ∷ side ∷ cert ∷ script ∷ other ∷ others) reply h = absurd h
 
 -- no reply has the status of a write fault, or of memory that ran out
-pub reply_told : {words : List (List ℕ)} {reads : Reads} {reply : Reply} → ToolReply words reads reply → is_told reply.status ≡ true
-reply_told (ToolReply.bad_words none) = refl
-reply_told (ToolReply.read_fault command given fits cannot) = refl
-reply_told (ToolReply.replied command given contents reply fits read replied) = command_told command given contents reply replied
+pub reply_status : {words : List (List ℕ)} {reads : Reads} {reply : Reply} → ToolReply words reads reply → is_reply_status reply.status ≡ true
+reply_status (ToolReply.bad_words none) = refl
+reply_status (ToolReply.read_fault command given fits cannot) = refl
+reply_status (ToolReply.replied command given contents reply fits read replied) = command_status command given contents reply replied
 
 -- how the tool ends once the whole text of a reply is written
 pub ends_written : (words : List (List ℕ)) (reads : Reads) (writes : Writes) (text : List ℕ) (status : Status) → ToolReply words reads (record { text = text; status = status })
-    → Appended writes.old writes.new text → is_told status ≡ true → Ends words reads writes status
+    → Appended writes.old writes.new text → is_reply_status status ≡ true → Ends words reads writes status
 ends_written words reads writes text Done reply appended told = (text, reply, appended)
 ends_written words reads writes text Unsolvable reply appended told = (text, reply, appended)
 ends_written words reads writes text Undecided reply appended told = (text, reply, appended)

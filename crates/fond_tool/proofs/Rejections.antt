@@ -1,11 +1,10 @@
 -- Rejections of what a command read, by the errors that they come from.
-use Rattle.std.proofs.Common.{◌≡◌, ℕ, List, Result, Ok, Err, IfErr, IsErrAnd, Some, refl, sym, subst}
+use Rattle.std.proofs.Common.{◌≡◌, Result, Ok, Err, IfErr, IsErrAnd, Some, sym, subst}
 use Rattle.fond_text.specs.declared.fault.Fault.{Fault}
 use Rattle.fond_text.specs.declared.fault.FrontError.{FrontError}
 use Rattle.fond_text.specs.declared.fault.FrontError.TheVariants as front
 use Rattle.fond_text.specs.Faults.{Refuses}
 use Rattle.fond_tool.specs.declared.rejection.Rejection.{Rejection}
-use Rattle.fond_tool.specs.declared.rejection.Rejection.TheVariants.{NoMemory}
 use Rattle.fond_tool.specs.Rejections.{Rejects, reply_to, of_files}
 use Rattle.fond_tool.specs.Replies.{Reply, fault_reply}
 

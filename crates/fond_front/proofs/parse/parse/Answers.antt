@@ -1,9 +1,6 @@
-use Rattle.std.proofs.Common.{subst}
 use Rattle.fond_text.specs.Faults.{IsFirstAmong}
 use Rattle.fond_text.specs.declared.fault.Fault.{Fault}
 use Rattle.fond_text.specs.declared.place.FileKind.TheVariants.{Domain, Problem}
-use Rattle.fond_tree.specs.Spelling.{IsReadAs}
-use Rattle.fond_front.specs.Sides.{IsSideTextFault}
 use Rattle.fond_front.specs.Tasks.{OccursInTexts}
 use Rattle.fond_front.proofs.Tasks.{domain_first, handed_on, problem_first, refuses_also, side_first, text_clean, text_least}
 use Rattle.fond_front.proofs.parse.parse.Goals as goal
