@@ -1,5 +1,5 @@
-//! The program: hands the words of the command line, the host's files and its standard output to the tool, and
-//! ends with the status's number.
+//! The program: it hands the words of the command line, the host's files and its standard output to the tool, and ends
+//! with the number of the tool's status.
 #![tactic(auto)]
 
 use fond_edge::host_shelf::HostShelf;
@@ -13,7 +13,7 @@ use std::process::ExitCode;
 use std::rt::Env;
 use std::{env, io};
 
-/// The number to end with where the host does not give the command line. No status has it.
+/// The number to end with if the host does not give the command line. No status has this number.
 const NO_COMMAND_LINE: u8 = 11;
 
 /// Why there are no words.
@@ -51,7 +51,7 @@ impl<T: Drop> From<AllocFailed<T>> for NoWords {
     }
 }
 
-/// The words of the command line behind the program's name.
+/// The words of the command line after the program's name.
 fn words<R: Env + AllocGlobal>(rt: &R) -> Result<Vec<Word>, NoWords> {
     let mut words = Vec::new(rt.alloc());
     for word in env::args(rt)?.skip(1) {

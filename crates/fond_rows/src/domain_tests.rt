@@ -1,15 +1,14 @@
-use crate::answers::{answer_to, put};
-use fond_edge::lists::{Calls, ShelfFiles};
-use fond_edge::memory_shelf::MemoryShelf;
+use crate::rows::{ACTION, Row, check};
 use std::alloc::Global;
 use std::process::Abort;
 use std::test::Fail;
 
-/// A problem that has a fault of its form as well.
+/// A problem that has a fault of form as well.
 const OTHER: &str = "(define (problem y))";
 
-/// A tree that does not fit, or a node with a member missing or one too many.
-const FORMS: [(&str, &str); 34] = [
+/// Domains with a fault of form, each with the line of its refusal.
+const REFUSED: [(&str, &str); 78] = [
+    // A tree that does not fit, or a node with a member missing or one too many.
     ("x", "refused domain 1 1 F7\n"),
     ("()", "refused domain 1 1 F7\n"),
     ("(defin (domain x))", "refused domain 1 2 F7\n"),
@@ -113,10 +112,7 @@ const FORMS: [(&str, &str); 34] = [
         "refused domain 1 43 F7\n",
     ),
     ("(define)", "refused domain 1 1 F7\n"),
-];
-
-/// An unknown section or key.
-const UNKNOWN: [(&str, &str); 8] = [
+    // An unknown section or key.
     (
         "(define (domain x) (:functions))",
         "refused domain 1 20 F8\n",
@@ -137,10 +133,7 @@ const UNKNOWN: [(&str, &str); 8] = [
         "(define (domain x) (:action a :effect () and (p)))",
         "refused domain 1 42 F8\n",
     ),
-];
-
-/// A section or a key that stands a second time.
-const REPEATED: [(&str, &str); 7] = [
+    // A section or a key that stands a second time.
     (
         "(define (domain x) (:predicates) (:predicates))",
         "refused domain 1 34 F9\n",
@@ -169,10 +162,7 @@ const REPEATED: [(&str, &str); 7] = [
         "(define (domain x) (:action a :parameters () :parameters ()))",
         "refused domain 1 46 F9\n",
     ),
-];
-
-/// A head that is no operator there.
-const OPERATORS: [(&str, &str); 9] = [
+    // A head that is no operator there.
     (
         "(define (domain x) (:action a :effect (increase (c) 1)))",
         "refused domain 1 39 F11\n",
@@ -209,10 +199,7 @@ const OPERATORS: [(&str, &str); 9] = [
         "(define (domain x) (:action a :effect (p (q) :x)))",
         "refused domain 1 39 F11\n",
     ),
-];
-
-/// A choice without members.
-const EMPTY_CHOICES: [(&str, &str); 5] = [
+    // A choice without members.
     (
         "(define (domain x) (:action a :effect (oneof)))",
         "refused domain 1 39 F12\n",
@@ -233,10 +220,7 @@ const EMPTY_CHOICES: [(&str, &str); 5] = [
         "(define (domain x) (:action a) (:action b :effect (ONEOF)))",
         "refused domain 1 51 F12\n",
     ),
-];
-
-/// A form that is not built yet.
-const UNBUILT: [(&str, &str); 15] = [
+    // A form that is not built yet.
     (
         "(define (domain x) (:types t))",
         "refused domain 1 20 F24\n",
@@ -299,46 +283,25 @@ const UNBUILT: [(&str, &str); 15] = [
     ),
 ];
 
-/// `succ` over each of these domains, beside a problem that has a fault of its form as well, is refused with this line.
-fn refuse(rt: &impl Abort, alloc: Global, table: &[(&str, &str)]) -> Result<(), Fail> {
-    for (text, line) in table {
-        let mut files = ShelfFiles::new(alloc);
-        put(alloc, &mut files, "domain", text)?;
-        put(alloc, &mut files, "problem", OTHER)?;
-        let shelf = MemoryShelf::new(files, Calls::new(alloc));
-        let told = answer_to(alloc, &["succ", "domain", "problem", "(a)"], shelf, None)?;
-        assert_eq!(rt; told.status, 3, "at {text}");
-        assert_eq!(rt; told.text.as_slice(), line.as_bytes(), "at {text}");
+fn check_domains_with_a_fault_of_form(
+    rt: &impl Abort,
+    alloc: Global,
+    table: &[(&str, &str)],
+) -> Result<(), Fail> {
+    for &(domain, line) in table {
+        let row = Row {
+            name: domain,
+            words: &ACTION,
+            files: &[("domain", domain), ("problem", OTHER)],
+            status: 3,
+            text: line,
+        };
+        check(rt, alloc, row)?;
     }
     Ok(())
 }
 
 #[test]
-fn trees_that_do_not_fit(rt: HostRuntime) -> Result<(), Fail> {
-    refuse(&rt, rt.alloc(), &FORMS)
-}
-
-#[test]
-fn unknown_sections_and_keys(rt: HostRuntime) -> Result<(), Fail> {
-    refuse(&rt, rt.alloc(), &UNKNOWN)
-}
-
-#[test]
-fn repeated_sections_and_keys(rt: HostRuntime) -> Result<(), Fail> {
-    refuse(&rt, rt.alloc(), &REPEATED)
-}
-
-#[test]
-fn heads_that_are_no_operators(rt: HostRuntime) -> Result<(), Fail> {
-    refuse(&rt, rt.alloc(), &OPERATORS)
-}
-
-#[test]
-fn choices_without_members(rt: HostRuntime) -> Result<(), Fail> {
-    refuse(&rt, rt.alloc(), &EMPTY_CHOICES)
-}
-
-#[test]
-fn forms_that_are_not_built(rt: HostRuntime) -> Result<(), Fail> {
-    refuse(&rt, rt.alloc(), &UNBUILT)
+fn domains_with_a_fault_of_form(rt: HostRuntime) -> Result<(), Fail> {
+    check_domains_with_a_fault_of_form(&rt, rt.alloc(), &REFUSED)
 }

@@ -2,11 +2,7 @@
 #![tactic(auto)]
 
 #[cfg(test)]
-mod answers;
-#[cfg(test)]
 mod domain_tests;
-#[cfg(test)]
-mod fault_tests;
 #[cfg(test)]
 mod name_tests;
 #[cfg(test)]
@@ -14,8 +10,12 @@ mod problem_tests;
 #[cfg(test)]
 mod read_tests;
 #[cfg(test)]
+mod rows;
+#[cfg(test)]
 mod run_tests;
 #[cfg(test)]
 mod side_tests;
 #[cfg(test)]
-mod tests;
+mod succ_tests;
+#[cfg(test)]
+mod text_tests;

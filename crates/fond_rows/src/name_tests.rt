@@ -1,6 +1,4 @@
-use crate::answers::{answer_to, put};
-use fond_edge::lists::{Calls, ShelfFiles};
-use fond_edge::memory_shelf::MemoryShelf;
+use crate::rows::{ACTION, Row, check};
 use std::alloc::Global;
 use std::process::Abort;
 use std::test::Fail;
@@ -8,11 +6,12 @@ use std::test::Fail;
 /// A domain without faults.
 const DOMAIN: &str = "(define (domain x) (:predicates (p)) (:action a))";
 
-/// A problem that has a fault of its names as well.
+/// A problem that has a fault of names as well.
 const PROBLEM: &str = "(define (problem y) (:domain x) (:goal (r)))";
 
-/// An atom whose predicate is not declared.
-const UNDECLARED: [(&str, &str); 6] = [
+/// Domains with a fault of names, each with the line of its refusal.
+const DOMAINS: [(&str, &str); 11] = [
+    // An atom whose predicate is not declared.
     (
         "(define (domain x) (:predicates (p)) (:action a :effect (q)))",
         "refused domain 1 58 F15\n",
@@ -37,10 +36,7 @@ const UNDECLARED: [(&str, &str); 6] = [
         "(define (domain x) (:action a :effect (p)) (:action b :effect (p)))",
         "refused domain 1 40 F15\n",
     ),
-];
-
-/// A schema with the name of an earlier one.
-const SAME_NAMES: [(&str, &str); 5] = [
+    // A schema with the name of an earlier one.
     (
         "(define (domain x) (:predicates (p)) (:action a) (:action a))",
         "refused domain 1 59 F19\n",
@@ -63,8 +59,9 @@ const SAME_NAMES: [(&str, &str); 5] = [
     ),
 ];
 
-/// An atom of a problem whose predicate is not declared.
-const UNDECLARED_IN_PROBLEM: [(&str, &str); 5] = [
+/// Problems with a fault of names, each with the line of its refusal.
+const PROBLEMS: [(&str, &str); 5] = [
+    // An atom of a problem whose predicate is not declared.
     (
         "(define (problem y) (:domain x) (:goal (q)))",
         "refused problem 1 41 F15\n",
@@ -87,48 +84,48 @@ const UNDECLARED_IN_PROBLEM: [(&str, &str); 5] = [
     ),
 ];
 
-/// `succ` over this domain and this problem is refused with this line.
-fn refuse(
+fn check_domains_with_a_fault_of_names(
     rt: &impl Abort,
     alloc: Global,
-    domain: &str,
-    problem: &str,
-    line: &str,
+    table: &[(&str, &str)],
 ) -> Result<(), Fail> {
-    let mut files = ShelfFiles::new(alloc);
-    put(alloc, &mut files, "domain", domain)?;
-    put(alloc, &mut files, "problem", problem)?;
-    let shelf = MemoryShelf::new(files, Calls::new(alloc));
-    let told = answer_to(alloc, &["succ", "domain", "problem", "(a)"], shelf, None)?;
-    assert_eq!(rt; told.status, 3, "at {domain} {problem}");
-    assert_eq!(rt;
-        told.text.as_slice(),
-        line.as_bytes(),
-        "at {domain} {problem}"
-    );
-    Ok(())
-}
-
-#[test]
-fn undeclared_predicates(rt: HostRuntime) -> Result<(), Fail> {
-    for (domain, line) in UNDECLARED {
-        refuse(&rt, rt.alloc(), domain, PROBLEM, line)?;
+    for &(domain, line) in table {
+        let row = Row {
+            name: domain,
+            words: &ACTION,
+            files: &[("domain", domain), ("problem", PROBLEM)],
+            status: 3,
+            text: line,
+        };
+        check(rt, alloc, row)?;
     }
     Ok(())
 }
 
 #[test]
-fn repeated_schemas(rt: HostRuntime) -> Result<(), Fail> {
-    for (domain, line) in SAME_NAMES {
-        refuse(&rt, rt.alloc(), domain, PROBLEM, line)?;
+fn domains_with_a_fault_of_names(rt: HostRuntime) -> Result<(), Fail> {
+    check_domains_with_a_fault_of_names(&rt, rt.alloc(), &DOMAINS)
+}
+
+fn check_problems_with_a_fault_of_names(
+    rt: &impl Abort,
+    alloc: Global,
+    table: &[(&str, &str)],
+) -> Result<(), Fail> {
+    for &(problem, line) in table {
+        let row = Row {
+            name: problem,
+            words: &ACTION,
+            files: &[("domain", DOMAIN), ("problem", problem)],
+            status: 3,
+            text: line,
+        };
+        check(rt, alloc, row)?;
     }
     Ok(())
 }
 
 #[test]
-fn undeclared_predicates_of_problems(rt: HostRuntime) -> Result<(), Fail> {
-    for (problem, line) in UNDECLARED_IN_PROBLEM {
-        refuse(&rt, rt.alloc(), DOMAIN, problem, line)?;
-    }
-    Ok(())
+fn problems_with_a_fault_of_names(rt: HostRuntime) -> Result<(), Fail> {
+    check_problems_with_a_fault_of_names(&rt, rt.alloc(), &PROBLEMS)
 }

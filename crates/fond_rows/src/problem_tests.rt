@@ -1,15 +1,14 @@
-use crate::answers::{answer_to, put};
-use fond_edge::lists::{Calls, ShelfFiles};
-use fond_edge::memory_shelf::MemoryShelf;
+use crate::rows::{ACTION, Row, check};
 use std::alloc::Global;
 use std::process::Abort;
 use std::test::Fail;
 
-/// A domain that has a fault of its names as well.
+/// A domain that has a fault of names.
 const OTHER: &str = "(define (domain x) (:action a :effect (p)))";
 
-/// A tree that does not fit, or a node with a member missing or one too many.
-const FORMS: [(&str, &str); 11] = [
+/// Problems with a fault of form, each with the line of its refusal.
+const REFUSED: [(&str, &str); 38] = [
+    // A tree that does not fit, or a node with a member missing or one too many.
     ("x", "refused problem 1 1 F7\n"),
     (
         "(define (problem y) (:domain x) (:goal ()) z)",
@@ -51,10 +50,7 @@ const FORMS: [(&str, &str); 11] = [
         "(define (problem y) (:domain x) (:goal ()) (:init (?x)))",
         "refused problem 1 52 F7\n",
     ),
-];
-
-/// An unknown section or key.
-const UNKNOWN: [(&str, &str); 5] = [
+    // An unknown section or key.
     (
         "(define (problem y) (:domain x) (:goal ()) (:types))",
         "refused problem 1 44 F8\n",
@@ -75,10 +71,7 @@ const UNKNOWN: [(&str, &str); 5] = [
         "(define (problem y) (:domain x) (:goal ()) (:predicates))",
         "refused problem 1 44 F8\n",
     ),
-];
-
-/// A section or a key that stands a second time.
-const REPEATED: [(&str, &str); 5] = [
+    // A section or a key that stands a second time.
     (
         "(define (problem y) (:domain x) (:goal ()) (:goal ()))",
         "refused problem 1 44 F9\n",
@@ -99,10 +92,7 @@ const REPEATED: [(&str, &str); 5] = [
         "(define (problem y) (:domain x) (:goal ()) (:requirements)\n(:requirements))",
         "refused problem 2 1 F9\n",
     ),
-];
-
-/// A problem without its domain or its goal.
-const INCOMPLETE: [(&str, &str); 6] = [
+    // A problem without its domain or its goal.
     (
         "(define (problem y) (:goal ()))",
         "refused problem 1 1 F10\n",
@@ -121,10 +111,7 @@ const INCOMPLETE: [(&str, &str); 6] = [
         "(define (problem y) (:domain x) :goal)",
         "refused problem 1 1 F10\n",
     ),
-];
-
-/// A head that is no operator there.
-const OPERATORS: [(&str, &str); 6] = [
+    // A head that is no operator there.
     (
         "(define (problem y) (:domain x) (:goal ()) (:init (= a b)))",
         "refused problem 1 51 F11\n",
@@ -149,10 +136,7 @@ const OPERATORS: [(&str, &str); 6] = [
         "(define (problem y) (:domain x) (:goal (or (oneof (p)))))",
         "refused problem 1 44 F11\n",
     ),
-];
-
-/// A form that is not built yet.
-const UNBUILT: [(&str, &str); 5] = [
+    // A form that is not built yet.
     (
         "(define (problem y) (:domain x) (:goal ()) (:objects o))",
         "refused problem 1 44 F24\n",
@@ -175,46 +159,25 @@ const UNBUILT: [(&str, &str); 5] = [
     ),
 ];
 
-/// `succ` over each of these problems, beside a domain that has a fault of its names as well, is refused with this line.
-fn refuse(rt: &impl Abort, alloc: Global, table: &[(&str, &str)]) -> Result<(), Fail> {
-    for (text, line) in table {
-        let mut files = ShelfFiles::new(alloc);
-        put(alloc, &mut files, "problem", text)?;
-        put(alloc, &mut files, "domain", OTHER)?;
-        let shelf = MemoryShelf::new(files, Calls::new(alloc));
-        let told = answer_to(alloc, &["succ", "domain", "problem", "(a)"], shelf, None)?;
-        assert_eq!(rt; told.status, 3, "at {text}");
-        assert_eq!(rt; told.text.as_slice(), line.as_bytes(), "at {text}");
+fn check_problems_with_a_fault_of_form(
+    rt: &impl Abort,
+    alloc: Global,
+    table: &[(&str, &str)],
+) -> Result<(), Fail> {
+    for &(problem, line) in table {
+        let row = Row {
+            name: problem,
+            words: &ACTION,
+            files: &[("domain", OTHER), ("problem", problem)],
+            status: 3,
+            text: line,
+        };
+        check(rt, alloc, row)?;
     }
     Ok(())
 }
 
 #[test]
-fn trees_that_do_not_fit(rt: HostRuntime) -> Result<(), Fail> {
-    refuse(&rt, rt.alloc(), &FORMS)
-}
-
-#[test]
-fn unknown_sections_and_keys(rt: HostRuntime) -> Result<(), Fail> {
-    refuse(&rt, rt.alloc(), &UNKNOWN)
-}
-
-#[test]
-fn repeated_sections_and_keys(rt: HostRuntime) -> Result<(), Fail> {
-    refuse(&rt, rt.alloc(), &REPEATED)
-}
-
-#[test]
-fn problems_without_domain_or_goal(rt: HostRuntime) -> Result<(), Fail> {
-    refuse(&rt, rt.alloc(), &INCOMPLETE)
-}
-
-#[test]
-fn heads_that_are_no_operators(rt: HostRuntime) -> Result<(), Fail> {
-    refuse(&rt, rt.alloc(), &OPERATORS)
-}
-
-#[test]
-fn forms_that_are_not_built(rt: HostRuntime) -> Result<(), Fail> {
-    refuse(&rt, rt.alloc(), &UNBUILT)
+fn problems_with_a_fault_of_form(rt: HostRuntime) -> Result<(), Fail> {
+    check_problems_with_a_fault_of_form(&rt, rt.alloc(), &REFUSED)
 }

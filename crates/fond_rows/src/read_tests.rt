@@ -1,10 +1,9 @@
-use crate::answers::{answer_to, put};
-use fond_edge::lists::{Calls, ShelfFiles};
-use fond_edge::memory_shelf::MemoryShelf;
+use crate::rows::{ACTION, Row, check};
+use std::alloc::Global;
+use std::process::Abort;
 use std::test::Fail;
 
-/// Domains and problems that are read, with what `succ` tells of `(a)`. Of a state the atoms of fluent predicates are
-/// told.
+/// A name, a domain, a problem, and what `succ` prints of `(a)`. Of a state it prints the atoms of fluent predicates.
 const READ: [(&str, &str, &str, &str); 27] = [
     (
         "capitals and requirements in both files",
@@ -170,21 +169,25 @@ const READ: [(&str, &str, &str, &str); 27] = [
     ),
 ];
 
-#[test]
-fn files_that_are_read(rt: HostRuntime) -> Result<(), Fail> {
-    for (name, domain, problem, text) in READ {
-        let mut files = ShelfFiles::new(rt.alloc());
-        put(rt.alloc(), &mut files, "domain", domain)?;
-        put(rt.alloc(), &mut files, "problem", problem)?;
-        let shelf = MemoryShelf::new(files, Calls::new(rt.alloc()));
-        let told = answer_to(
-            rt.alloc(),
-            &["succ", "domain", "problem", "(a)"],
-            shelf,
-            None,
-        )?;
-        assert_eq!(rt; told.status, 0, "{name}");
-        assert_eq!(rt; told.text.as_slice(), text.as_bytes(), "{name}");
+fn check_files_that_are_read(
+    rt: &impl Abort,
+    alloc: Global,
+    table: &[(&str, &str, &str, &str)],
+) -> Result<(), Fail> {
+    for &(name, domain, problem, text) in table {
+        let row = Row {
+            name,
+            words: &ACTION,
+            files: &[("domain", domain), ("problem", problem)],
+            status: 0,
+            text,
+        };
+        check(rt, alloc, row)?;
     }
     Ok(())
+}
+
+#[test]
+fn files_that_are_read(rt: HostRuntime) -> Result<(), Fail> {
+    check_files_that_are_read(&rt, rt.alloc(), &READ)
 }

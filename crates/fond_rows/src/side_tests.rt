@@ -1,12 +1,14 @@
-use crate::answers::{COIN, COIN_P, Told, answer_to, put};
-use fond_edge::lists::{Calls, ShelfFiles};
-use fond_edge::memory_shelf::MemoryShelf;
+use crate::rows::{COIN, COIN_P, Row, check};
 use std::alloc::Global;
 use std::process::Abort;
 use std::test::Fail;
 
-/// A leaf that is no schema's name.
-const UNKNOWN: [(&str, &str); 7] = [
+/// The words of a run over these files.
+const RUN: [&str; 6] = ["run", "domain", "problem", "side", "cert", "script"];
+
+/// Side lists with a fault, each with the line of its refusal.
+const REFUSED: [(&str, &str); 17] = [
+    // A leaf that is no schema's name.
     ("spin", "refused side 1 1 F20\n"),
     ("flip spin flip", "refused side 1 6 F20\n"),
     ("; spin\n FLAP", "refused side 2 2 F20\n"),
@@ -14,19 +16,13 @@ const UNKNOWN: [(&str, &str); 7] = [
     ("flip :flip", "refused side 1 6 F20\n"),
     ("and", "refused side 1 1 F20\n"),
     ("flip flip -", "refused side 1 11 F20\n"),
-];
-
-/// A parenthesis in a side list.
-const PARENTHESES: [(&str, &str); 5] = [
+    // A parenthesis in a side list.
     ("(flip)", "refused side 1 1 F7\n"),
     ("flip )", "refused side 1 6 F7\n"),
     ("; (\nflip\n(", "refused side 3 1 F7\n"),
     ("()", "refused side 1 1 F7\n"),
     ("spin (", "refused side 1 6 F7\n"),
-];
-
-/// A byte that may stand only in comments.
-const STRAY: [(&str, &str); 5] = [
+    // A byte that may stand only in comments.
     ("\u{7f}", "refused side 1 1 F2\n"),
     ("flip \u{1}", "refused side 1 6 F2\n"),
     ("( \u{7f}", "refused side 1 3 F2\n"),
@@ -34,7 +30,7 @@ const STRAY: [(&str, &str); 5] = [
     ("\u{e9}", "refused side 1 1 F2\n"),
 ];
 
-/// Three files that have faults, and the line of the one that is told.
+/// A name, the texts of three files that have faults, and the line of the first fault.
 const FIRST: [(&str, [&str; 3], &str); 9] = [
     (
         "a fault of the domain's text comes first",
@@ -95,71 +91,98 @@ const FIRST: [(&str, [&str; 3], &str); 9] = [
     ),
 ];
 
-/// The answer to `run` over these three files, whatever the certificate is.
-fn run_over(alloc: Global, texts: [&str; 3]) -> Result<Told, Fail> {
-    let [domain, problem, side] = texts;
-    let mut files = ShelfFiles::new(alloc);
-    put(alloc, &mut files, "domain", domain)?;
-    put(alloc, &mut files, "problem", problem)?;
-    put(alloc, &mut files, "side", side)?;
-    put(alloc, &mut files, "cert", "no certificate")?;
-    put(alloc, &mut files, "script", "no script")?;
-    let shelf = MemoryShelf::new(files, Calls::new(alloc));
-    let line = ["run", "domain", "problem", "side", "cert", "script"];
-    answer_to(alloc, &line, shelf, None)
-}
+/// Side lists without a fault, over which a certificate that is not one is rejected.
+const READ: [&str; 5] = [
+    "",
+    " \t\n",
+    "flip",
+    "FLIP flip\tFlip",
+    "; (spin)\n flip ; \u{e9}",
+];
 
-/// `run` over the coin and each of these side lists is refused with the line beside it.
-fn refuse(rt: &impl Abort, alloc: Global, table: &[(&str, &str)]) -> Result<(), Fail> {
-    for (side, line) in table {
-        let told = run_over(alloc, [COIN, COIN_P, side])?;
-        assert_eq!(rt; told.status, 3, "at {side}");
-        assert_eq!(rt; told.text.as_slice(), line.as_bytes(), "at {side}");
+fn check_side_lists_with_a_fault(
+    rt: &impl Abort,
+    alloc: Global,
+    table: &[(&str, &str)],
+) -> Result<(), Fail> {
+    for &(side, line) in table {
+        let row = Row {
+            name: side,
+            words: &RUN,
+            files: &[
+                ("domain", COIN),
+                ("problem", COIN_P),
+                ("side", side),
+                ("cert", "no certificate"),
+                ("script", "no script"),
+            ],
+            status: 3,
+            text: line,
+        };
+        check(rt, alloc, row)?;
     }
     Ok(())
 }
 
 #[test]
-fn leaves_that_name_no_schema(rt: HostRuntime) -> Result<(), Fail> {
-    refuse(&rt, rt.alloc(), &UNKNOWN)
+fn side_lists_with_a_fault(rt: HostRuntime) -> Result<(), Fail> {
+    check_side_lists_with_a_fault(&rt, rt.alloc(), &REFUSED)
 }
 
-#[test]
-fn parentheses(rt: HostRuntime) -> Result<(), Fail> {
-    refuse(&rt, rt.alloc(), &PARENTHESES)
-}
-
-#[test]
-fn stray_bytes(rt: HostRuntime) -> Result<(), Fail> {
-    refuse(&rt, rt.alloc(), &STRAY)
+fn check_the_first_fault_of_three_files(
+    rt: &impl Abort,
+    alloc: Global,
+    table: &[(&str, [&str; 3], &str)],
+) -> Result<(), Fail> {
+    for &(name, [domain, problem, side], line) in table {
+        let row = Row {
+            name,
+            words: &RUN,
+            files: &[
+                ("domain", domain),
+                ("problem", problem),
+                ("side", side),
+                ("cert", "no certificate"),
+                ("script", "no script"),
+            ],
+            status: 3,
+            text: line,
+        };
+        check(rt, alloc, row)?;
+    }
+    Ok(())
 }
 
 #[test]
 fn the_first_fault_of_three_files(rt: HostRuntime) -> Result<(), Fail> {
-    for (name, texts, line) in FIRST {
-        let told = run_over(rt.alloc(), texts)?;
-        assert_eq!(rt; told.status, 3, "{name}");
-        assert_eq!(rt; told.text.as_slice(), line.as_bytes(), "{name}");
+    check_the_first_fault_of_three_files(&rt, rt.alloc(), &FIRST)
+}
+
+fn check_side_lists_that_are_read(
+    rt: &impl Abort,
+    alloc: Global,
+    table: &[&str],
+) -> Result<(), Fail> {
+    for &side in table {
+        let row = Row {
+            name: side,
+            words: &RUN,
+            files: &[
+                ("domain", COIN),
+                ("problem", COIN_P),
+                ("side", side),
+                ("cert", "no certificate"),
+                ("script", "no script"),
+            ],
+            status: 7,
+            text: "rejected C1 at 0\n",
+        };
+        check(rt, alloc, row)?;
     }
     Ok(())
 }
 
 #[test]
 fn side_lists_that_are_read(rt: HostRuntime) -> Result<(), Fail> {
-    for side in [
-        "",
-        " \t\n",
-        "flip",
-        "FLIP flip\tFlip",
-        "; (spin)\n flip ; \u{e9}",
-    ] {
-        let told = run_over(rt.alloc(), [COIN, COIN_P, side])?;
-        assert_eq!(rt; told.status, 7, "at {side}");
-        assert_eq!(rt;
-            told.text.as_slice(),
-            b"rejected C1 at 0\n".as_slice(),
-            "at {side}"
-        );
-    }
-    Ok(())
+    check_side_lists_that_are_read(&rt, rt.alloc(), &READ)
 }

@@ -1,5 +1,5 @@
 -- Which schema an action word names, by the tree that it is read as.
-use Rattle.std.proofs.Common.{◌≡◌, ℕ, List, [], ◌∷◌, ◌++◌, refl, sym, ap, ◌∙◌, subst, Some, None, unwrap_or, append_assoc, ◌⊎◌, inl, inr, Contains, slice_get}
+use Rattle.std.proofs.Common.{◌≡◌, ℕ, List, [], ◌∷◌, ◌++◌, refl, sym, ap, ◌∙◌, subst, Some, None, unwrap_or, append_assoc, ◌⊎◌, inl, inr, Contains, slice_get, Bor, Option, IfSome, IfNone, MatchOption}
 use Rattle.std.specs.List.{flat_map}
 use Rattle.std.proofs.lemmas.Option.{slice_get_within, get_or_from_slice_get, slice_get-get_or}
 use Rattle.fond_text.specs.declared.place.Place.{Place}
@@ -8,8 +8,8 @@ use Rattle.fond_ast.specs.declared.task.LiftedTask.{LiftedTask}
 use Rattle.fond_tree.specs.declared.tree.Tree.{Tree}
 use Rattle.fond_tree.specs.Tokens.{Token, Opens, Closes, Names}
 use Rattle.fond_tree.specs.Spelling.{IsReadAs, spelling}
-use Rattle.fond_tool.specs.Commands.{members_or_none, name_alone}
-use Rattle.fond_tool.specs.Outputs.{SpellName, NamesSchema}
+use Rattle.fond_tool.specs.Actions.{NamesSchema, SpellName, members_or_none, name_alone}
+use Rattle.fond_tool.specs.Successors.{NamesNone}
 use Rattle.fond_tool.proofs.ActionTrees.{IsLeafTree, IsNodeTree, cases_of}
 
 -- an element of a list by its number
@@ -92,21 +92,27 @@ alone_spelled tree name e = from (cases_of tree)
         let inner = alone_tokens node.members name (sym (ap (λ some. name_alone (unwrap_or some [])) node.some) ∙ e) in
         record { place = node.place; other = inner.0; spelled = node.spelled ∙ ap (λ ts. Opens node.place ∷ ts) inner.1 }
 
-module _ (task : LiftedTask) (word : List ℕ) (action : Tree) (read : IsReadAs word action) where
-  named_alone : (schema : LSchema) → NamesSchema word schema → name_alone (members_or_none action) ≡ Some schema.name
-  named_alone schema names = spelled_alone action schema.name (subst (λ (pieces : List Token). SpellName pieces schema.name) read.spelled names)
+module _ (schemas : List LSchema) (action : Tree) where
+  -- if the action is no name alone, it names no schema
+  pub none_named : name_alone (members_or_none action) ≡ None → (schema : LSchema) → Contains schemas schema → ¬ SpellName (spelling action) schema.name
+  none_named none schema has names = let never : None ≡ Some schema.name = sym none ∙ spelled_alone action schema.name names in cc
 
-  -- where the action is no name alone, it names no schema
-  pub none_named : name_alone (members_or_none action) ≡ None → (schema : LSchema) → Contains task.schemas schema → NamesSchema word schema → ⊥
-  none_named none schema has names = let never : None ≡ Some schema.name = sym none ∙ named_alone schema names in cc
-
-  -- where no schema has the name, the action names none
-  pub none_found : (name : List ℕ) → name_alone (members_or_none action) ≡ Some name → ((number : ℕ) (schema : LSchema) → slice_get task.schemas number ≡ Some schema → schema.name ≡ name → ⊥) →
-      (schema : LSchema) → Contains task.schemas schema → NamesSchema word schema → ⊥
+  -- if no schema has the name, the action names none
+  pub none_found : (name : List ℕ) → name_alone (members_or_none action) ≡ Some name → ((number : ℕ) (schema : LSchema) → slice_get schemas number ≡ Some schema → ¬ schema.name ≡ name) →
+      (schema : LSchema) → Contains schemas schema → ¬ SpellName (spelling action) schema.name
   none_found name alone none schema has names =
-      none has.0 schema (number_of task.schemas schema has) (some_is _ _ (sym (named_alone schema names) ∙ alone))
+      none has.0 schema (number_of schemas schema has) (some_is _ _ (sym (spelled_alone action schema.name names) ∙ alone))
 
-  -- where the schema of a number has the name, the action names it
-  pub found_named : (name : List ℕ) → name_alone (members_or_none action) ≡ Some name → (schema : LSchema) → schema.name ≡ name → NamesSchema word schema
-  found_named name alone schema same =
-      subst (λ (pieces : List Token). SpellName pieces schema.name) (sym read.spelled) (alone_spelled action schema.name (alone ∙ ap (λ n. Some n) (sym same)))
+  -- if a schema has the name, the action names it
+  pub found_named : (name : List ℕ) → name_alone (members_or_none action) ≡ Some name → (schema : LSchema) → schema.name ≡ name → SpellName (spelling action) schema.name
+  found_named name alone schema same = alone_spelled action schema.name (alone ∙ ap (λ n. Some n) (sym same))
+
+-- a schema that the tree of an action word names is named by the word
+pub found_by_word : (task : LiftedTask) (word : List ℕ) (action : Tree) → IsReadAs word action → (found : Option (Bor LSchema))
+    → IfSome found (λ schema. Contains task.schemas schema.now × SpellName (spelling action) schema.now.name)
+    → IfNone found ((schema : LSchema) → Contains task.schemas schema → ¬ SpellName (spelling action) schema.name)
+    → MatchOption found (NamesNone task word) (λ schema. Contains task.schemas schema.now × NamesSchema word schema.now)
+found_by_word task word action read (Some schema) some none =
+    (some.0, subst (λ (pieces : List Token). SpellName pieces schema.now.name) (sym read.spelled) some.1)
+found_by_word task word action read None some none =
+    λ schema has names. none schema has (subst (λ (pieces : List Token). SpellName pieces schema.name) read.spelled names)

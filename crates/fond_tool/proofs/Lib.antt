@@ -1,7 +1,8 @@
 mod ActionTrees
 mod Ends
+mod Fitting
 mod Found
-mod Results
-mod SideFaults
-mod Tasks
-mod WordLists
+mod Lists
+mod Rejections
+mod Runs
+mod Successors

@@ -1,9 +1,10 @@
+pub mod Actions
 pub mod Commands
-pub mod Given
-pub mod Lines
-pub mod Tasks
-pub mod Phases
-pub mod Runs
-pub mod Outputs
-pub mod Answers
+pub mod Ends
+pub mod Fetches
 pub mod Numbers
+pub mod Rejections
+pub mod Replies
+pub mod Runs
+pub mod Successors
+pub mod Words

@@ -1,45 +1,26 @@
--- What `run` answers from the bytes of its files.
-use Rattle.std.specs.Prelude.{◌≡◌, ◌⊎◌, ℕ, Bool, List, ◌++◌, codes}
-use Rattle.std.specs.Fmt.{decimal}
+-- What `run` replies to the texts of its files.
+use Rattle.std.specs.Prelude.{ℕ, List, Bool}
 use Rattle.fond_text.specs.declared.fault.Fault.{Fault}
 use Rattle.fond_ast.specs.declared.task.LiftedTask.{LiftedTask}
 use Rattle.fond_task.specs.declared.task.Task.{Task}
-use Rattle.fond_task.specs.Texts.{state_text}
 use Rattle.fond_game.specs.declared.rule.Rule.{Rule}
-use Rattle.fond_game.specs.Policies.{IsGoal}
 use Rattle.fond_exec.specs.Traces.{Trace}
 use Rattle.fond_cert.specs.Texts.{IsPolicyText}
 use Rattle.fond_cert.specs.Faults.{IsPolicyFault}
 use Rattle.fond_script.specs.Scripts.{IsScript, IsScriptFault}
 use Rattle.fond_ground.specs.Grounds.{IsGroundOf}
-use Rattle.fond_tool.specs.declared.status.Status.{Status}
-use Rattle.fond_tool.specs.declared.status.Status.TheVariants.{Done, Refused, Rejected, Stopped}
-use Rattle.fond_tool.specs.Lines.{IsLine}
-use Rattle.fond_tool.specs.Tasks.{Texts, IsTaskOf, IsFirstFault, fault_line}
+use Rattle.fond_front.specs.declared.texts.TaskTexts.{TaskTexts}
+use Rattle.fond_front.specs.Tasks.{IsTaskOf, IsFirstFault}
+use Rattle.fond_tool.specs.Replies.{Reply, fault_reply, cert_reply, script_reply, trace_reply}
 
--- the status behind a last state: done at a goal, and else stopped
-abbrev pub IsEndStatus : Task → List Bool → Status → Type 0
-IsEndStatus task last status = (IsGoal task last × (status ≡ Done)) ⊎ ((IsGoal task last → ⊥) × (status ≡ Stopped))
+-- the ground task of the task that three texts are read as
+abbrev pub IsGroundTaskOf : TaskTexts → Task → Type 0
+IsGroundTaskOf texts task = (lifted : LiftedTask) × IsTaskOf texts lifted × IsGroundOf lifted task
 
--- the trace of rules over numbers from the first state on, and its last state
-abbrev pub TraceOutput : Task → List Rule → List ℕ → List ℕ → Status → Type 0
-TraceOutput task rules numbers text status =
-    (lines : List ℕ) × (last : List Bool) × Trace task rules task.init numbers lines last × (text ≡ lines ++ state_text task last) × IsEndStatus task last status
-
--- a refusal of the script at its first word that is no number, or the trace over its numbers
-abbrev pub ScriptOutput : Task → List Rule → List ℕ → List ℕ → Status → Type 0
-ScriptOutput task rules script text status =
-    ((byte : ℕ) × IsScriptFault script byte × IsLine text (codes "rejected S1 at " ++ decimal byte) × (status ≡ Rejected))
-    ⊎ ((numbers : List ℕ) × IsScript script numbers × TraceOutput task rules numbers text status)
-
--- a refusal of the certificate at its first fault, or what comes of its rules
-abbrev pub CertOutput : Task → List ℕ → List ℕ → List ℕ → Status → Type 0
-CertOutput task cert script text status =
-    ((code : ℕ) × (byte : ℕ) × IsPolicyFault task cert code byte × IsLine text (codes "rejected C" ++ decimal code ++ codes " at " ++ decimal byte) × (status ≡ Rejected))
-    ⊎ ((rules : List Rule) × (reach : ℕ) × IsPolicyText task rules reach cert × ScriptOutput task rules script text status)
-
--- a refusal where a file has a fault, or what comes of the certificate and the script over the ground task
-abbrev pub RunOutput : Texts → List ℕ → List ℕ → List ℕ → Status → Type 0
-RunOutput texts cert script text status =
-    ((fault : Fault) × IsFirstFault texts fault × IsLine text (fault_line fault) × (status ≡ Refused))
-    ⊎ ((lifted : LiftedTask) × (task : Task) × IsTaskOf texts lifted × IsGroundOf lifted task × CertOutput task cert script text status)
+-- what `run` replies: a refusal of its files, a rejection of its certificate or of its script, or the trace
+pub data RunReply (texts : TaskTexts) (cert script : List ℕ) : Reply → Type 0 where
+  refused : (fault : Fault) → IsFirstFault texts fault → RunReply texts cert script (fault_reply fault)
+  bad_cert : (task : Task) (code byte : ℕ) → IsGroundTaskOf texts task → IsPolicyFault task cert code byte → RunReply texts cert script (cert_reply code byte)
+  bad_script : (task : Task) (rules : List Rule) (reach byte : ℕ) → IsGroundTaskOf texts task → IsPolicyText task rules reach cert → IsScriptFault script byte → RunReply texts cert script (script_reply byte)
+  ran : (task : Task) (rules : List Rule) (reach : ℕ) (numbers lines : List ℕ) (last : List Bool) → IsGroundTaskOf texts task → IsPolicyText task rules reach cert → IsScript script numbers
+      → Trace task rules task.init numbers lines last → RunReply texts cert script (trace_reply task lines last)

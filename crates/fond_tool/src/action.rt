@@ -1,27 +1,22 @@
-//! The action word of the command line.
+//! The action word of a command line, and the schema that it names.
 
-ghost use Rattle.fond_reader.specs.Words.{leaf_of};
-ghost use Rattle.fond_tool.specs.Commands.{IsAction, is_leaf_node, name_alone, members_or_none};
 ghost use Rattle.fond_ast.specs.declared.task.LSchema.{LSchema};
-ghost use Rattle.fond_tree.specs.Spelling.{IsReadAs};
+ghost use Rattle.fond_reader.specs.Words.{leaf_of};
+ghost use Rattle.fond_tool.specs.Actions.{IsAction, NamesSchema, SpellName, is_leaf_node, name_alone, members_or_none};
+ghost use Rattle.fond_tool.specs.Successors.{NamesNone};
+ghost use Rattle.fond_tree.specs.Spelling.{IsReadAs, spelling};
 ghost use Rattle.std.specs.List.{list_all};
 ghost use Rattle.std.specs.Option.{option_copied};
-ghost use Rattle.std.specs.Prelude.{◌≡◌, ℕ, true, is_some, Some, slice_get, IfOk, IfSome, IfNone, MatchOption};
+ghost use Rattle.std.specs.Prelude.{◌≡◌, ℕ, true, is_some, Contains, Some, slice_get, IfOk, IfSome, IfNone, MatchOption};
 
-use crate::words::is_same;
-use fond_ast::task::LSchemas;
+use crate::trees::{is_leaf, leaf_name, members};
+use fond_ast::task::{LSchema, LSchemas, LiftedTask};
 use fond_text::fault::{FrontError, NoMemory};
 use fond_text::place::FileKind;
 use fond_text::word::Word;
 use fond_tree::read::read_tree;
 use fond_tree::tree::Tree;
 use std::alloc::Global;
-
-fn is_leaf(tree: &Tree) -> bool
-    ensures { result ≡ is_some (leaf_of tree.now) }
-{
-    matches!(tree, Tree::Leaf(_, _))
-}
 
 fn are_all_leaves(trees: &[Tree]) -> bool
     ensures { result ≡ list_all (λ tree. is_some (leaf_of tree)) trees.now }
@@ -39,9 +34,9 @@ fn is_node_of_leaves(tree: &Tree) -> bool
     }
 }
 
-/// The tree of an action word, or none where the word spells no action.
+/// The tree of an action word, or none if the word is not an action.
 pub fn read_action(alloc: Global, word: &Word) -> Result<Option<Tree>, NoMemory>
-    ensures { IfOk result (λ found. MatchOption found (IsAction word.now → ⊥) (λ tree. IsReadAs word.now tree × (is_leaf_node tree ≡ true))) }
+    ensures { IfOk result (λ found. MatchOption found (¬ IsAction word.now) (λ tree. IsReadAs word.now tree × (is_leaf_node tree ≡ true))) }
 {
     match read_tree(alloc, FileKind::Domain, word.bytes()) {
         Ok(tree) => {
@@ -56,28 +51,8 @@ pub fn read_action(alloc: Global, word: &Word) -> Result<Option<Tree>, NoMemory>
     }
 }
 
-/// The bytes of a leaf.
-fn leaf_name(tree: &Tree) -> Option<&[u8]>
-    ensures { option_copied result ≡ leaf_of tree.now }
-{
-    match tree {
-        Tree::Leaf(_, name) => Some(name.bytes()),
-        Tree::Node(_, _) => None,
-    }
-}
-
-/// The members of a node, none of a leaf.
-fn members(tree: &Tree) -> &[Tree]
-    ensures { result.now ≡ members_or_none tree.now }
-{
-    match tree {
-        Tree::Leaf(_, _) => &[],
-        Tree::Node(_, members) => members.as_slice(),
-    }
-}
-
-/// The name of an action's schema, where it is a name without objects.
-pub fn schema_name(action: &Tree) -> Option<&[u8]>
+/// The name of an action's schema, if the action is a name without objects.
+fn schema_name(action: &Tree) -> Option<&[u8]>
     ensures { option_copied result ≡ name_alone (members_or_none action.now) }
 {
     match members(action) {
@@ -87,14 +62,38 @@ pub fn schema_name(action: &Tree) -> Option<&[u8]>
 }
 
 /// The number of the schema of this name, if there is one.
-pub fn find_schema(schemas: &LSchemas, name: &[u8]) -> Option<usize>
+fn find_schema(schemas: &LSchemas, name: &[u8]) -> Option<usize>
     ensures found { IfSome result (λ number. (schema : LSchema) × (slice_get schemas.now number ≡ Some schema) × (schema.name ≡ name.now)) }
-    ensures none { IfNone result ((number : ℕ) (schema : LSchema) → slice_get schemas.now number ≡ Some schema → schema.name ≡ name.now → ⊥) }
+    ensures none { IfNone result ((number : ℕ) (schema : LSchema) → slice_get schemas.now number ≡ Some schema → ¬ schema.name ≡ name.now) }
 {
     for i in 0..schemas.len() {
-        if is_same(schemas.get(i).name.bytes(), name) {
+        if schemas.get(i).name.bytes() == name {
             return Some(i);
         }
     }
     None
+}
+
+/// The schema that the tree of an action names, if there is one.
+fn find_named<'a>(task: &'a LiftedTask, action: &Tree) -> Option<&'a LSchema>
+    ensures found { IfSome result (λ schema. Contains task.now.schemas schema.now × SpellName (spelling action.now) schema.now.name) }
+    ensures none { IfNone result ((schema : LSchema) → Contains task.now.schemas schema → ¬ SpellName (spelling action.now) schema.name) }
+{
+    let number = find_schema(&task.schemas, schema_name(action)?)?;
+    Some(task.schemas.get(number))
+}
+
+/// The schema that an action word names, if there is one.
+pub fn find_action<'a>(
+    alloc: Global,
+    task: &'a LiftedTask,
+    word: &Word,
+) -> Result<Option<&'a LSchema>, NoMemory>
+    requires { IsAction word.now }
+    ensures { IfOk result (λ found. MatchOption found (NamesNone task.now word.now) (λ schema. Contains task.now.schemas schema.now × NamesSchema word.now schema.now)) }
+{
+    let Some(action) = read_action(alloc, word)? else {
+        unreachable!()
+    };
+    Ok(find_named(task, &action))
 }

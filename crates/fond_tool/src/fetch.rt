@@ -1,89 +1,67 @@
-//! Fetching the files that words name, in the order of the words.
+//! Fetching files by their names.
 
+ghost use Rattle.fond_tool.specs.Fetches.{IsContent, AreContents, IsMissing, CannotRead};
 ghost use Rattle.fond_edge.specs.Faults.{Rose};
-ghost use Rattle.fond_tool.specs.Answers.{AreContents, CannotRead};
-ghost use Rattle.std.specs.Prelude.{◌≡◌, ◌≤◌, [], ◌∷◌, IfOk, IsErrOf};
+ghost use Rattle.std.specs.Prelude.{◌≡◌, ◌≤◌, ◌⊎◌, IfOk, IsErrOf};
 
-use crate::words::RunWords;
 use fond_edge::shelf::{FetchFault, Shelf};
+use fond_text::list::List;
 use fond_text::word::Word;
 use std::alloc::Global;
+use std::marker::Model;
 
-/// The texts of a domain and a problem.
+/// The content of a file, as it was fetched.
 #[derive(Drop)]
-pub struct Texts {
-    pub domain: Vec<u8>,
-    pub problem: Vec<u8>,
+pub struct Content {
+    bytes: Vec<u8>,
 }
 
-/// The texts of the five files of `run`.
-#[derive(Drop)]
-pub struct RunTexts {
-    pub domain: Vec<u8>,
-    pub problem: Vec<u8>,
-    pub side: Vec<u8>,
-    pub cert: Vec<u8>,
-    pub script: Vec<u8>,
+impl Model for Content {
+    ghost use Rattle.std.specs.Prelude.{List, ℕ};
+
+    ghost Value = { List ℕ };
+
+    ghost view = { λ c. c.bytes.items };
 }
 
-/// The bytes of one file.
-fn fetch_text<S: Shelf>(alloc: Global, shelf: &mut S, name: &Word) -> Result<Vec<u8>, FetchFault>
-    ensures fetched { IfOk result (λ text. AreContents (S.held shelf.old) (name.now ∷ []) (text.items ∷ [])) }
-    ensures failed { IsErrOf result FetchFault.Failed → CannotRead (S.held shelf.old) (Rose (S.faults shelf.old) (S.faults shelf.new)) (name.now ∷ []) }
-    ensures kept { S.held shelf.new ≡ S.held shelf.old }
-    ensures counted { S.faults shelf.old ≤ S.faults shelf.new }
-{
-    let mut text = Vec::new(alloc);
-    match shelf.fetch(alloc, name, &mut text) {
-        Ok(()) => Ok(text),
-        Err(fault) => Err(fault),
+impl Content {
+    /// The bytes of the file.
+    pub fn bytes(&self) -> &[u8]
+        ensures { result.now ≡ self.now }
+    {
+        self.bytes.as_slice()
     }
 }
 
-/// The bytes of the two files, the domain's first.
-pub fn fetch_texts<S: Shelf>(
-    alloc: Global,
-    shelf: &mut S,
-    domain: &Word,
-    problem: &Word,
-) -> Result<Texts, FetchFault>
-    ensures fetched { IfOk result (λ texts. AreContents (S.held shelf.old) (domain.now ∷ problem.now ∷ []) (texts.domain.items ∷ texts.problem.items ∷ [])) }
-    ensures failed { IsErrOf result FetchFault.Failed → CannotRead (S.held shelf.old) (Rose (S.faults shelf.old) (S.faults shelf.new)) (domain.now ∷ problem.now ∷ []) }
+/// The content of one file.
+fn fetch_one<S: Shelf>(alloc: Global, shelf: &mut S, name: &Word) -> Result<Content, FetchFault>
+    ensures fetched { IfOk result (IsContent (S.held shelf.old) name.now) }
+    ensures failed { IsErrOf result FetchFault.Failed → Rose (S.faults shelf.old) (S.faults shelf.new) ⊎ IsMissing (S.held shelf.old) name.now }
     ensures kept { S.held shelf.new ≡ S.held shelf.old }
     ensures counted { S.faults shelf.old ≤ S.faults shelf.new }
 {
-    let domain = match fetch_text(alloc, shelf, domain) {
-        Ok(text) => text,
-        Err(fault) => return Err(fault),
-    };
-    match fetch_text(alloc, shelf, problem) {
-        Ok(problem) => Ok(Texts { domain, problem }),
-        Err(fault) => Err(fault),
-    }
+    let mut bytes = Vec::new(alloc);
+    shelf.fetch(alloc, name, &mut bytes)?;
+    Ok(Content { bytes })
 }
 
-/// The bytes of the five files, in the order of the words.
-pub fn fetch_run_texts<S: Shelf>(
+/// The contents of files, in the order of their names. Takes memory in the length of the files.
+pub fn fetch_all<S: Shelf>(
     alloc: Global,
     shelf: &mut S,
-    given: &RunWords,
-) -> Result<RunTexts, FetchFault>
-    ensures fetched { IfOk result (λ texts. AreContents (S.held shelf.old) (given.now.domain.now ∷ given.now.problem.now ∷ given.now.side.now ∷ given.now.cert.now ∷ given.now.script.now ∷ [])
-        (texts.domain.items ∷ texts.problem.items ∷ texts.side.items ∷ texts.cert.items ∷ texts.script.items ∷ [])) }
-    ensures failed { IsErrOf result FetchFault.Failed → CannotRead (S.held shelf.old) (Rose (S.faults shelf.old) (S.faults shelf.new)) (given.now.domain.now ∷ given.now.problem.now ∷ given.now.side.now ∷ given.now.cert.now ∷ given.now.script.now ∷ []) }
+    names: &[Word],
+) -> Result<List<Content>, FetchFault>
+    ensures fetched { IfOk result (AreContents (S.held shelf.old) names.now) }
+    ensures failed { IsErrOf result FetchFault.Failed → CannotRead (record { held = S.held shelf.old; before = S.faults shelf.old; after = S.faults shelf.new }) names.now }
     ensures kept { S.held shelf.new ≡ S.held shelf.old }
     ensures counted { S.faults shelf.old ≤ S.faults shelf.new }
 {
-    let domain = fetch_text(alloc, shelf, given.domain)?;
-    let problem = fetch_text(alloc, shelf, given.problem)?;
-    let side = fetch_text(alloc, shelf, given.side)?;
-    let cert = fetch_text(alloc, shelf, given.cert)?;
-    let script = fetch_text(alloc, shelf, given.script)?;
-    Ok(RunTexts {
-        domain,
-        problem,
-        side,
-        cert,
-        script,
-    })
+    let mut contents = List::new(alloc);
+    for name in names {
+        let content = fetch_one(alloc, shelf, name)?;
+        if contents.push(content).is_err() {
+            return Err(FetchFault::NoMemory);
+        }
+    }
+    Ok(contents)
 }

@@ -1,16 +1,16 @@
-//! The whole tool as one call: from the words of the command line, through the files that they name, to the
-//! text that is written and the status. Each stage of its work is a stage of one definition.
+//! The tool as one call: from the words of a command line, through the files that they name, to the text that is written
+//! and the status. `run_tool` promises that the text and the status are those of the reply to the words; what the
+//! replies mean is left to the layers below.
 #![tactic(auto)]
 
-pub mod action;
-pub mod answer;
-pub mod declare;
-pub mod fetch;
-pub mod parse;
-pub mod run;
+mod action;
+mod answer;
+mod commands;
+mod fetch;
+mod rejection;
+mod run;
 pub mod status;
-pub mod task;
-#[cfg(test)]
-mod tests;
+mod succ;
 pub mod tool;
-pub mod words;
+mod trees;
+mod words;

@@ -1,109 +1,124 @@
-//! The words of the command line, by their table.
+//! The words of a command line, by their table.
 
-ghost use Rattle.fond_tool.specs.Commands.{Command, Succ, Run, Fits};
-ghost use Rattle.fond_tool.specs.Given.{AreGiven};
-ghost use Rattle.std.specs.Str.{bytes_eq};
-ghost use Rattle.std.specs.Prelude.{◌≡◌, ◌≢◌, ℕ, true, false, List, [], ◌∷◌, codes, IfSome, IfNone};
+ghost use Rattle.fond_tool.specs.Ends.{FitsNone};
+ghost use Rattle.fond_tool.specs.Words.{word_of, kinds_of, file_count, IsOfKind, Fits};
+ghost use Rattle.std.specs.List.{AllZip};
+ghost use Rattle.std.specs.Prelude.{◌≡◌, ◌≢◌, Decides, IfOk, MatchOption};
 
+use crate::action::read_action;
+use fond_text::fault::NoMemory;
 use fond_text::word::Word;
+use std::alloc::Global;
 
-/// Whether two texts have the same bytes.
-pub fn is_same(text: &[u8], other: &[u8]) -> bool
-    ensures { result ≡ bytes_eq text.now other.now }
+/// A command.
+#[derive(Clone, Copy, Debug, PartialEq, Eq)]
+pub enum Command {
+    Succ,
+    Run,
+}
+
+/// What a word after a command's own has to be.
+#[derive(Clone, Copy, Debug, PartialEq, Eq)]
+pub enum WordKind {
+    /// The name of a file: any word that is not empty.
+    File,
+    /// An action: a node of leaves.
+    Action,
+}
+
+/// The kinds of the words of `succ`.
+const SUCC: [WordKind; 3] = [WordKind::File, WordKind::File, WordKind::Action];
+
+/// The kinds of the words of `run`.
+const RUN: [WordKind; 5] = [
+    WordKind::File,
+    WordKind::File,
+    WordKind::File,
+    WordKind::File,
+    WordKind::File,
+];
+
+impl Command {
+    /// The command of a word.
+    fn of_word(word: &Word) -> Option<Command>
+        ensures { MatchOption result ((command : Command) → word.now ≢ word_of command) (λ command. word.now ≡ word_of command) }
+    {
+        match word.bytes() {
+            b"succ" => Some(Command::Succ),
+            b"run" => Some(Command::Run),
+            _ => None,
+        }
+    }
+
+    /// The kinds of the words after the command's own: the names of files come first.
+    fn kinds(self) -> &'static [WordKind]
+        ensures { result.now ≡ kinds_of self }
+    {
+        match self {
+            Command::Succ => &SUCC,
+            Command::Run => &RUN,
+        }
+    }
+
+    /// How many of those words are names of files.
+    pub fn file_count(self) -> usize
+        ensures { result ≡ file_count self }
+    {
+        match self {
+            Command::Succ => 2,
+            Command::Run => 5,
+        }
+    }
+}
+
+/// A command, with the words after its own.
+#[derive(Clone, Copy)]
+pub struct Given<'a> {
+    pub command: Command,
+    pub words: &'a [Word],
+}
+
+/// Whether a word is of a kind.
+fn is_of_kind(alloc: Global, kind: WordKind, word: &Word) -> Result<bool, NoMemory>
+    ensures { IfOk result (λ is. Decides is (IsOfKind kind word.now)) }
 {
-    text == other
+    match kind {
+        WordKind::File => Ok(!word.bytes().is_empty()),
+        WordKind::Action => Ok(read_action(alloc, word)?.is_some()),
+    }
 }
 
-/// The words of `succ`.
-#[derive(Clone, Copy)]
-pub struct SuccWords<'a> {
-    pub domain: &'a Word,
-    pub problem: &'a Word,
-    pub action: &'a Word,
-}
-
-/// The words of `run`.
-#[derive(Clone, Copy)]
-pub struct RunWords<'a> {
-    pub domain: &'a Word,
-    pub problem: &'a Word,
-    pub side: &'a Word,
-    pub cert: &'a Word,
-    pub script: &'a Word,
-}
-
-/// The words of a command.
-#[derive(Clone, Copy)]
-pub enum GivenWords<'a> {
-    Succ(SuccWords<'a>),
-    Run(RunWords<'a>),
-}
-
-/// The words of `succ` by their table, but for what the action word spells.
-fn succ_words(words: &[Word]) -> Option<SuccWords<'_>>
-    ensures some { IfSome result (λ given. words.now ≡ codes "succ" ∷ given.domain.now ∷ given.problem.now ∷ given.action.now ∷ []) }
-    ensures domain { IfSome result (λ given. given.domain.now ≢ []) }
-    ensures problem { IfSome result (λ given. given.problem.now ≢ []) }
-    ensures none { IfNone result ((domain problem action : List ℕ) → Fits words.now (Succ domain problem action) → ⊥) }
+/// Whether words are of these kinds, place by place.
+fn are_of_kinds(alloc: Global, kinds: &[WordKind], words: &[Word]) -> Result<bool, NoMemory>
+    ensures { IfOk result (λ are. Decides are (AllZip IsOfKind kinds.now words.now)) }
 {
-    let [command, domain, problem, action] = words else {
-        return None;
+    if kinds.len() != words.len() {
+        return Ok(false);
+    }
+    for i in 0..kinds.len() {
+        if !is_of_kind(alloc, kinds[i], &words[i])? {
+            return Ok(false);
+        }
+    }
+    Ok(true)
+}
+
+/// The command that words fit, with the words after its own.
+pub fn given_words(alloc: Global, words: &[Word]) -> Result<Option<Given<'_>>, NoMemory>
+    ensures { IfOk result (λ found. MatchOption found (FitsNone words.now) (λ given. Fits words.now given.command given.words.now)) }
+{
+    let Some((word, rest)) = words.split_first() else {
+        return Ok(None);
     };
-    if !is_same(command.bytes(), b"succ") {
-        return None;
-    }
-    if domain.bytes().is_empty() || problem.bytes().is_empty() {
-        return None;
-    }
-    Some(SuccWords {
-        domain,
-        problem,
-        action,
-    })
-}
-
-/// Whether a word is not empty.
-fn is_name(word: &Word) -> bool
-    ensures yes { result ≡ true → word.now ≢ [] }
-    ensures no { result ≡ false → word.now ≡ [] }
-{
-    !word.bytes().is_empty()
-}
-
-/// The words of `run` by their table.
-fn run_words(words: &[Word]) -> Option<RunWords<'_>>
-    ensures some { IfSome result (λ given. Fits words.now (Run given.domain.now given.problem.now given.side.now given.cert.now given.script.now)) }
-    ensures none { IfNone result ((domain problem side cert script : List ℕ) → Fits words.now (Run domain problem side cert script) → ⊥) }
-{
-    let [command, domain, problem, side, cert, script] = words else {
-        return None;
+    let Some(command) = Command::of_word(word) else {
+        return Ok(None);
     };
-    if !is_same(command.bytes(), b"run") {
-        return None;
-    }
-    if is_name(domain) && is_name(problem) && is_name(side) && is_name(cert) && is_name(script) {
-        Some(RunWords {
-            domain,
-            problem,
-            side,
-            cert,
-            script,
-        })
+    if are_of_kinds(alloc, command.kinds(), rest)? {
+        Ok(Some(Given {
+            command,
+            words: rest,
+        }))
     } else {
-        None
-    }
-}
-
-/// The words of a command by their table, but for what an action word spells.
-pub fn given_words(words: &[Word]) -> Option<GivenWords<'_>>
-    ensures some { IfSome result (AreGiven words.now) }
-    ensures none { IfNone result ((command : Command) → Fits words.now command → ⊥) }
-{
-    if let Some(given) = succ_words(words) {
-        return Some(GivenWords::Succ(given));
-    }
-    match run_words(words) {
-        Some(given) => Some(GivenWords::Run(given)),
-        None => None,
+        Ok(None)
     }
 }

@@ -4,8 +4,8 @@ use Rattle.std.proofs.lemmas.Option.{slice_get_within}
 use Rattle.std.proofs.lemmas.Slice.Eq.{bytes_eq-Decides}
 use Rattle.fond_tool.proofs.action.find_schema.Goals as goal
 
-pub returns-then-is_same-clause-found : goal.returns-then-is_same-clause-found
-returns-then-is_same-clause-found c =
+pub returns-then-eq-clause-found : goal.returns-then-eq-clause-found
+returns-then-eq-clause-found c =
     let same : bytes_eq c.bytes.result.now c.args.name.now ≡ true = cc in
     (c.get.result.now, c.get.ensures, sym c.bytes.ensures.value ∙ (bytes_eq-Decides c.bytes.result.now c.args.name.now).0 same)
 

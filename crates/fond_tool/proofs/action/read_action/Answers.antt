@@ -1,6 +1,6 @@
 use Rattle.std.proofs.Common.{◌≡◌, ℕ, List, false, sym, ◌∙◌, subst}
 use Rattle.fond_tree.specs.Spelling.{IsReadAs}
-use Rattle.fond_tool.specs.Commands.{is_leaf_node}
+use Rattle.fond_tool.specs.Actions.{is_leaf_node}
 use Rattle.fond_tool.proofs.ActionTrees.{no_action}
 use Rattle.fond_tool.proofs.action.read_action.Goals as goal
 

@@ -1,14 +1,26 @@
-use Rattle.fond_tool.specs.Commands.{Succ, Run}
+use Rattle.std.proofs.Common.{Err, ap, subst, sym}
+use Rattle.std.proofs.lemmas.Result.{IfOk-weaker}
+use Rattle.fond_tool.specs.Ends.{ToolReply}
 use Rattle.fond_tool.proofs.tool.answer.Goals as goal
 
-pub returns-clause-unfetched : goal.returns-clause-unfetched
-returns-clause-unfetched g c = λ none.
-    let given = c.in-Some-Succ.given in
-    let stands = rw c.in-Some-Succ.field-0-is at c.in-Some-Succ.ensures.some in
-    let read = rw c.in-Some.is at c.in_ok-action.ensures in
-    absurd (none (Succ given.domain.now given.problem.now given.action.now) (stands.0, stands.1, stands.2, (c.in-Some.action, read.0, read.1)))
+pub returns-in_default-clause-answered : goal.returns-in_default-clause-answered
+returns-in_default-clause-answered g c =
+    let none = rw c.in_default.is at c.in_ok-given.ensures in
+    IfOk-weaker c.line.result _ _ (λ answer is. subst (ToolReply c.args.words.now _) (sym is) (ToolReply.bad_words none)) c.line.ensures
 
-pub returns-in-Some-Run-clause-unfetched : goal.returns-in-Some-Run-clause-unfetched
-returns-in-Some-Run-clause-unfetched g c = λ none.
-    let given = c.in-Some-Run.given in
-    absurd (none (Run given.domain.now given.problem.now given.side.now given.cert.now given.script.now) (rw c.in-Some-Run.field-0-is at c.in-Some-Run.ensures.some))
+pub returns-in-Ok-clause-answered : goal.returns-in-Ok-clause-answered
+returns-in-Ok-clause-answered g c =
+    let given = c.in-Some.given in
+    let fits = rw c.in-Some.is at c.in_ok-given.ensures in
+    IfOk-weaker c.command_answer.result _ _
+    (λ answer replied. ToolReply.replied given.command given.words.now c.as_slice.result.now answer fits (rw (c.as_slice.ensures, ← c.file_count.ensures) c.in-Ok.ensures.fetched) replied)
+    c.command_answer.ensures
+
+pub returns-in-Err-Failed-clause-answered : goal.returns-in-Err-Failed-clause-answered
+returns-in-Err-Failed-clause-answered g c =
+    let given = c.in-Some.given in
+    let fits = rw c.in-Some.is at c.in_ok-given.ensures in
+    let cannot = rw c.file_count.ensures at c.in-Err-Failed.ensures.failed (ap (λ fault. Err fault) c.in-Err-Failed.field-0-is) in
+    IfOk-weaker c.line-in-Err-Failed.result _ _
+    (λ answer is. subst (ToolReply c.args.words.now _) (sym is) (ToolReply.read_fault given.command given.words.now fits cannot))
+    c.line-in-Err-Failed.ensures

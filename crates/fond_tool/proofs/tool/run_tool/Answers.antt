@@ -1,11 +1,15 @@
-use Rattle.fond_edge.specs.Faults.{Rose}
-use Rattle.fond_tool.specs.Answers.{Answer}
-use Rattle.fond_tool.proofs.Ends.{answer_told, ends_written}
+use Rattle.std.proofs.Common.{◌≡◌, ◌∙◌, ap, false, sym, true}
+use Rattle.fond_tool.specs.Ends.{Writes}
+use Rattle.fond_tool.specs.Fetches.{Reads}
+use Rattle.fond_tool.proofs.Ends.{ends_written, is_reply_status, reply_status}
 use Rattle.fond_tool.proofs.tool.run_tool.Goals as goal
 
 pub returns-in-Ok-send-clause-ends : goal.returns-in-Ok-send-clause-ends
 returns-in-Ok-send-clause-ends g c =
-    let held = g.S.Shelf.held c.args.shelf.now in
-    let rose = Rose (g.S.Shelf.faults c.args.shelf.now) (g.S.Shelf.faults c.answer.new.shelf) in
-    let told = answer_told c.args.words.now held rose c.in-Ok.answer.text.items c.in-Ok.answer.status c.in-Ok.ensures.answered in
-    ends_written (Answer c.args.words.now held rose) _ _ _ c.deref.result.now c.in-Ok.answer.status told (rw c.deref.ensures.value c.in-Ok.ensures.answered) c.in-Ok-send.ensures.ok
+    let reads : Reads = record { held = g.S.Shelf.held c.args.shelf.now; before = g.S.Shelf.faults c.args.shelf.now; after = g.S.Shelf.faults c.answer.new.shelf } in
+    let writes : Writes = record { old = g.K.Sink.written c.args.sink.now; new = g.K.Sink.written c.send.new.sink; before = g.K.Sink.faults c.args.sink.now; after = g.K.Sink.faults c.send.new.sink } in
+    rw c.status.ensures (ends_written c.args.words.now reads writes c.in-Ok.answer.text c.in-Ok.answer.status c.in-Ok.ensures.answered (rw c.text.ensures at c.in-Ok-send.ensures.ok) (reply_status c.in-Ok.ensures.answered))
+
+pub returns-in-Ok-send-clause-unwritten : goal.returns-in-Ok-send-clause-unwritten
+returns-in-Ok-send-clause-unwritten g c = λ is.
+    let never : true ≡ false = sym (reply_status c.in-Ok.ensures.answered) ∙ ap is_reply_status (sym c.status.ensures ∙ is) in cc

@@ -1,0 +1,3 @@
+mod SideFaults
+mod SideMarks
+mod Tasks

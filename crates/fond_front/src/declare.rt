@@ -1,0 +1,38 @@
+//! The second phase of reading: trees and leaves become declarations.
+
+ghost use Rattle.fond_front.specs.Tasks.{AreTreesOf, AreFilesOf, OccursInTrees, declarations_of};
+ghost use Rattle.fond_text.specs.Faults.{IsFirstAmong, Refuses};
+ghost use Rattle.std.specs.Prelude.{IfOk, IfErr};
+
+use crate::parse::Trees;
+use crate::side::read_leaves;
+use crate::texts::TaskTexts;
+use fond_ast::files::{Domain, Problem, Side};
+use fond_reader::domain::read_domain;
+use fond_reader::problem::read_problem;
+use fond_text::fault::FrontError;
+use std::alloc::Global;
+
+/// The declarations of three files.
+#[derive(Drop)]
+pub struct Files {
+    pub domain: Domain,
+    pub problem: Problem,
+    pub side: Side,
+}
+
+/// The declarations that the trees and the leaves are read as, or the first fault of form.
+pub fn declare(alloc: Global, texts: &TaskTexts, trees: &Trees) -> Result<Files, FrontError>
+    requires { AreTreesOf texts.now trees.now }
+    ensures read { IfOk result (λ files. AreFilesOf texts.now (declarations_of files)) }
+    ensures refused { IfErr result (Refuses (IsFirstAmong (OccursInTrees texts.now trees.now))) }
+{
+    let domain = read_domain(alloc, &trees.domain)?;
+    let problem = read_problem(alloc, &trees.problem)?;
+    let side = read_leaves(alloc, texts.side.as_slice())?;
+    Ok(Files {
+        domain,
+        problem,
+        side,
+    })
+}

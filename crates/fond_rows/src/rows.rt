@@ -1,0 +1,106 @@
+//! What the tool answers over a shelf in memory.
+
+use fond_edge::lists::{Calls, ShelfFiles};
+use fond_edge::memory_shelf::MemoryShelf;
+use fond_edge::memory_sink::MemorySink;
+use fond_edge::shelf::ShelfFile;
+use fond_text::bytes::Bytes;
+use fond_text::word::Word;
+use fond_tool::tool::run_tool;
+use std::alloc::Global;
+use std::process::Abort;
+use std::test::Fail;
+
+pub const COIN: &str =
+    "(define (domain coin) (:predicates (heads))\n(:action flip :effect (oneof (heads) (and))))\n";
+
+pub const COIN_P: &str = "(define (problem c) (:domain coin) (:goal (heads)))\n";
+
+/// The words of `succ` with the action `(a)`.
+pub const ACTION: [&str; 4] = ["succ", "domain", "problem", "(a)"];
+
+/// The words of `succ` with the action `(flip)`.
+pub const FLIP: [&str; 4] = ["succ", "domain", "problem", "(flip)"];
+
+/// A worked example: the words, the files of the shelf by name and text, and the status and the text of the answer.
+#[derive(Clone, Copy)]
+pub struct Row<'a> {
+    pub name: &'a str,
+    pub words: &'a [&'a str],
+    pub files: &'a [(&'a str, &'a str)],
+    pub status: u8,
+    pub text: &'a str,
+}
+
+/// What the tool answered.
+#[derive(Drop)]
+struct Told {
+    status: u8,
+    text: Bytes,
+}
+
+fn shelf_file(alloc: Global, name: &str, text: &str) -> Result<ShelfFile, Fail> {
+    let name = Word::copy(alloc, name.as_bytes()).map_err(|_| "name")?;
+    let bytes = Bytes::copy(alloc, text.as_bytes()).map_err(|_| "text")?;
+    Ok(ShelfFile { name, bytes })
+}
+
+fn shelf_files(alloc: Global, files: &[(&str, &str)]) -> Result<ShelfFiles, Fail> {
+    let mut held = ShelfFiles::new(alloc);
+    for (name, text) in files {
+        held.push(shelf_file(alloc, name, text)?)
+            .map_err(|_| "file")?;
+    }
+    Ok(held)
+}
+
+fn words(alloc: Global, line: &[&str]) -> Result<Vec<Word>, Fail> {
+    let mut words = Vec::new(alloc);
+    for word in line {
+        words.push(Word::copy(alloc, word.as_bytes()).map_err(|_| "word")?)?;
+    }
+    Ok(words)
+}
+
+fn calls(alloc: Global, call: Option<u64>) -> Result<Calls, Fail> {
+    let mut calls = Calls::new(alloc);
+    if let Some(call) = call {
+        calls.push(call).map_err(|_| "call")?;
+    }
+    Ok(calls)
+}
+
+/// The answer to the words of a row over its files, where the numbered read and the numbered write fail.
+fn answer_to(
+    alloc: Global,
+    row: Row<'_>,
+    bad_read: Option<u64>,
+    bad_write: Option<u64>,
+) -> Result<Told, Fail> {
+    let words = words(alloc, row.words)?;
+    let mut shelf = MemoryShelf::new(shelf_files(alloc, row.files)?, calls(alloc, bad_read)?);
+    let mut sink = MemorySink::new(alloc, 4096, 7, calls(alloc, bad_write)?).map_err(|_| "sink")?;
+    let status = run_tool(alloc, &words, &mut shelf, &mut sink).number();
+    let text = Bytes::copy(alloc, sink.bytes()).map_err(|_| "text")?;
+    Ok(Told { status, text })
+}
+
+/// The words of a row are answered with its status and its text.
+pub fn check(rt: &impl Abort, alloc: Global, row: Row<'_>) -> Result<(), Fail> {
+    check_with(rt, alloc, row, None, None)
+}
+
+/// If the numbered read and the numbered write fail, the words of a row are answered with its status and its text.
+pub fn check_with(
+    rt: &impl Abort,
+    alloc: Global,
+    row: Row<'_>,
+    bad_read: Option<u64>,
+    bad_write: Option<u64>,
+) -> Result<(), Fail> {
+    let told = answer_to(alloc, row, bad_read, bad_write)?;
+    let name = row.name;
+    assert_eq!(rt; told.status, row.status, "{name}");
+    assert_eq!(rt; told.text.as_slice(), row.text.as_bytes(), "{name}");
+    Ok(())
+}

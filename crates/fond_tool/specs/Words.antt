@@ -1,0 +1,36 @@
+-- The table of words: which words fit which command.
+use Rattle.std.specs.Prelude.{◌≡◌, ◌≢◌, ℕ, List, [], ◌∷◌, take, codes}
+use Rattle.std.specs.List.{AllZip}
+use Rattle.fond_tool.specs.declared.words.Command.{Command}
+use Rattle.fond_tool.specs.declared.words.Command.TheVariants.{Succ, Run}
+use Rattle.fond_tool.specs.declared.words.WordKind.{WordKind}
+use Rattle.fond_tool.specs.declared.words.WordKind.TheVariants.{File, Action}
+use Rattle.fond_tool.specs.Actions.{IsAction}
+
+-- the word of a command
+abbrev pub word_of : Command → List ℕ
+word_of Succ = codes "succ"
+word_of Run = codes "run"
+
+-- the kinds of the words after it: the names of files come first
+abbrev pub kinds_of : Command → List WordKind
+kinds_of Succ = File ∷ File ∷ Action ∷ []
+kinds_of Run = File ∷ File ∷ File ∷ File ∷ File ∷ []
+
+-- how many of those words are names of files
+abbrev pub file_count : Command → ℕ
+file_count Succ = 2
+file_count Run = 5
+
+-- a word is of a kind: any word that is not empty is the name of a file
+abbrev pub IsOfKind : WordKind → List ℕ → Type 0
+IsOfKind File word = word ≢ []
+IsOfKind Action word = IsAction word
+
+-- words fit a command with the words after its own, which are of the command's kinds, place by place
+abbrev pub Fits : List (List ℕ) → Command → List (List ℕ) → Type 0
+Fits words command given = (words ≡ word_of command ∷ given) × AllZip IsOfKind (kinds_of command) given
+
+-- the names of files among the words after a command's own
+abbrev pub file_names : Command → List (List ℕ) → List (List ℕ)
+file_names command given = take (file_count command) given
