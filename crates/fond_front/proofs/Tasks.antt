@@ -11,10 +11,9 @@ use Rattle.fond_ast.specs.declared.task.LiftedTask.{LiftedTask}
 use Rattle.fond_tree.proofs.OneFault.{one_fault_lem}
 use Rattle.fond_tree.proofs.NoTree.{no_tree_has_a_fault_lem}
 use Rattle.fond_tree.specs.declared.tree.Tree.{Tree}
-use Rattle.fond_tree.specs.Faults.{IsTextFault}
-use Rattle.fond_tree.specs.Refusal.{IsRefusal}
+use Rattle.fond_tree.specs.Faults.{IsTextFault, IsFaultOf}
 use Rattle.fond_tree.specs.Spelling.{IsReadAs}
-use Rattle.fond_types.specs.Faults.{Declarations, StandsInNames, IsNamesError}
+use Rattle.fond_types.specs.Faults.{Declarations, StandsInNames}
 use Rattle.fond_types.specs.Resolves.{IsResolved}
 use Rattle.fond_front.specs.declared.parse.Trees.{Trees}
 use Rattle.fond_front.specs.declared.texts.TaskTexts.{TaskTexts}
@@ -31,7 +30,7 @@ refuses_also P Q gives (Refused fault) h = gives fault h
 refuses_also P Q gives NoMemory h = tt
 
 -- the fault with which the text of a tree is refused is its least one
-pub text_least : (file : FileKind) (text : List ℕ) (error : FrontError) → IsRefusal file text error → Refuses (IsLeastIn file (IsTextFault text)) error
+pub text_least : (file : FileKind) (text : List ℕ) (error : FrontError) → Refuses (IsFaultOf file text) error → Refuses (IsLeastIn file (IsTextFault text)) error
 text_least file text (Refused fault) h = (h.0, (h.1, λ place code also. only place code also))
   where
     only : (place : Place) (code : ℕ) → IsTextFault text place code → IsNoLater fault.place fault.code place code
@@ -94,7 +93,7 @@ module _ (texts : TaskTexts) where
   pub form_fault : (trees : Trees) → AreTreesOf texts trees → (error : FrontError) → Refuses (IsFirstAmong (OccursInTrees texts trees)) error → Refuses (IsFirstFault texts) error
   form_fault trees are = refuses_also _ (IsFirstFault texts) (λ fault first. inr (inl (trees, are, first)))
 
-  pub names_fault : (files : Declarations) → AreFilesOf texts files → (error : FrontError) → IsNamesError files error → Refuses (IsFirstFault texts) error
+  pub names_fault : (files : Declarations) → AreFilesOf texts files → (error : FrontError) → Refuses (IsFirstAmong (StandsInNames files)) error → Refuses (IsFirstFault texts) error
   names_fault files are (Refused fault) first = inr (inr (files, are, first))
   names_fault files are NoMemory first = tt
 

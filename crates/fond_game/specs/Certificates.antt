@@ -1,21 +1,17 @@
 -- Right certificates of policies and of unsolvability.
 use Rattle.std.specs.Prelude.{◌≡◌, ℕ, List, [], ◌∷◌, Bool, Some, slice_get, length, Contains, IsSome}
-use Rattle.fond_text.specs.Lists.{AreDistinct}
+use Rattle.fond_play.specs.Games as games
 use Rattle.fond_state.specs.Cubes.{LiesIn}
 use Rattle.fond_task.specs.declared.task.Task.{Task}
 use Rattle.fond_game.specs.declared.rule.Pair.{Pair}
 use Rattle.fond_game.specs.declared.rule.Rule.{Rule}
-use Rattle.fond_game.specs.Policies.{IsGoal, Policy, Reach, selected}
+use Rattle.fond_game.specs.Policies.{IsGoal, Policy, Reach, game, selected}
 use Rattle.fond_game.specs.Layers.{CubeView, AreSureLayers, IsSurePair}
 use Rattle.fond_game.specs.Rules.{IsSureRule}
 
--- a policy reaches this many states: some list of this length has each of them once and nothing else
-pub record ReachesCount (task : Task) (policy : Policy) (count : ℕ) : Type 0 where
-  pub states : List (List Bool)
-  pub once : AreDistinct states
-  pub reached : (state : List Bool) → Contains states state → Reach task policy state
-  pub all : (state : List Bool) → Reach task policy state → Contains states state
-  pub counted : length states ≡ count
+-- a policy reaches this many states: a list of that length has each reached state once, and no other
+abbrev pub ReachesCount : Task → Policy → ℕ → Type 0
+ReachesCount task = games.ReachesCount (game task)
 
 -- a policy certificate is right if its layers, pairs and rules are sure, each reached state that is no goal has a
 -- rule, and its number is that of the reached states

@@ -1,5 +1,8 @@
 -- The moves of the game, policies, and the states that a policy reaches.
-use Rattle.std.specs.Prelude.{◌≡◌, ℕ, List, Bool, true, IsTrue, Option, Some, option_map, slice_get, Contains, IsSome, find}
+use Rattle.std.specs.Prelude.{◌≡◌, ℕ, List, Bool, true, IsTrue, Option, Some, option_map, slice_get, Contains, find}
+use Rattle.fond_play.specs.Games as games
+use Rattle.fond_play.specs.Games.{Game}
+pub use Rattle.fond_play.specs.Games.{start, onward}
 use Rattle.fond_state.specs.Cubes.{lies_in}
 use Rattle.fond_task.specs.declared.task.Act.{Act}
 use Rattle.fond_task.specs.declared.task.Entry.{Entry}
@@ -33,13 +36,23 @@ pub record IsUnfair (task : Task) (number : ℕ) : Type 0 where
   pub numbered : slice_get task.acts number ≡ Some act
   pub flagged : act.unfair ≡ true
 
+-- the game of a ground task: its states are lists of truth values, its actions numbers
+abbrev pub game : Task → Game (List Bool) ℕ
+game task = record {
+  first = task.init;
+  IsGoal = IsGoal task;
+  IsApplicable = IsApplicable task;
+  IsNext = IsNext task;
+  IsUnfair = IsUnfair task;
+}
+
 -- a policy chooses an action in a state, by its number, or none
 abbrev pub Policy : Type 0
-Policy = List Bool → Option ℕ
+Policy = games.Policy (List Bool) ℕ
 
 -- a policy is a finite map if some list has each state in which it chooses an action
 abbrev pub IsFiniteMap : Policy → Type 0
-IsFiniteMap policy = (states : List (List Bool)) × ((state : List Bool) → IsSome (policy state) → Contains states state)
+IsFiniteMap = games.IsFiniteMap
 
 -- the policy of a rule list chooses the action of the first rule whose literals all hold in the state
 abbrev pub selected : List Rule → Policy
@@ -47,6 +60,5 @@ selected rules state = option_map (λ rule. rule.act) (find (λ rule. lies_in st
 
 -- the states that a policy reaches: the initial state, and from each reached state that is no goal, the states to
 -- which the chosen action may lead
-pub data Reach (task : Task) (policy : Policy) : List Bool → Type 0 where
-  start : Reach task policy task.init
-  onward : (state : List Bool) (number : ℕ) (after : List Bool) → Reach task policy state → ¬ IsGoal task state → policy state ≡ Some number → IsNext task state number after → Reach task policy after
+abbrev pub Reach : Task → Policy → List Bool → Type 0
+Reach task = games.Reach (game task)

@@ -2,14 +2,15 @@
 use Rattle.std.proofs.Common.{◌≡◌, ℕ, Bool, List, subst, sym}
 use Rattle.fond_cert.specs.declared.error.CertError.{CertError}
 use Rattle.fond_cert.specs.declared.error.CertError.TheVariants as cert_error
-use Rattle.fond_cert.specs.Refusals.{IsRefusal as IsCertRefusal}
+use Rattle.fond_cert.specs.Refusals.{CertRefuses}
+use Rattle.fond_cert.specs.Faults.{IsPolicyFault}
 use Rattle.fond_cert.specs.Texts.{IsPolicyText}
 use Rattle.fond_exec.specs.Traces.{Trace}
 use Rattle.fond_front.specs.declared.texts.TaskTexts.{TaskTexts}
 use Rattle.fond_game.specs.declared.rule.Rule.{Rule}
-use Rattle.fond_script.specs.declared.script.ScriptError.{ScriptError}
-use Rattle.fond_script.specs.declared.script.ScriptError.TheVariants as script_error
-use Rattle.fond_script.specs.Scripts.{IsScript, IsRefusal as IsScriptRefusal}
+use Rattle.fond_exec.specs.declared.script.ScriptError.{ScriptError}
+use Rattle.fond_exec.specs.declared.script.ScriptError.TheVariants as script_error
+use Rattle.fond_exec.specs.Scripts.{IsScript, IsScriptFault, ScriptRefuses}
 use Rattle.fond_task.specs.declared.task.Task.{Task}
 use Rattle.fond_tool.specs.Rejections.{Rejects, of_cert, of_script}
 use Rattle.fond_tool.specs.Replies.{Reply, trace_reply}
@@ -17,13 +18,13 @@ use Rattle.fond_tool.specs.Runs.{IsGroundTaskOf, RunReply}
 
 module _ (texts : TaskTexts) (cert script : List ℕ) (task : Task) (of : IsGroundTaskOf texts task) where
   -- a certificate with a fault is rejected with it
-  pub cert_rejected : (error : CertError) → IsCertRefusal task cert error → Rejects (RunReply texts cert script) (of_cert error)
+  pub cert_rejected : (error : CertError) → CertRefuses (IsPolicyFault task cert) error → Rejects (RunReply texts cert script) (of_cert error)
   cert_rejected (cert_error.Refused code byte) fault = RunReply.bad_cert task code byte of fault
   cert_rejected cert_error.NoMemory fault = tt
 
   module _ (rules : List Rule) (reach : ℕ) (read : IsPolicyText task rules reach cert) where
     -- a script with a fault is rejected with it
-    pub script_rejected : (error : ScriptError) → IsScriptRefusal script error → Rejects (RunReply texts cert script) (of_script error)
+    pub script_rejected : (error : ScriptError) → ScriptRefuses (IsScriptFault script) error → Rejects (RunReply texts cert script) (of_script error)
     script_rejected (script_error.Refused byte) fault = RunReply.bad_script task rules reach byte of read fault
     script_rejected script_error.NoMemory fault = tt
 

@@ -6,7 +6,7 @@ use Rattle.fond_ast.specs.declared.task.LSchema.{LSchema}
 use Rattle.fond_tree.specs.declared.tree.Tree.{Tree}
 use Rattle.fond_tree.specs.Spelling.{IsReadAs}
 use Rattle.fond_tree.specs.Tokens.{Token, Opens, Closes, Names, tokens}
-use Rattle.fond_reader.specs.Words.{leaf_of, members_of}
+use Rattle.fond_tree.specs.Trees.{leaf_of, members_of}
 
 -- whether there are members, at least one and all of them leaves
 abbrev pub are_leaves : Option (List Tree) → Bool

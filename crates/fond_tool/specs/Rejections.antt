@@ -4,8 +4,8 @@ use Rattle.fond_text.specs.declared.fault.FrontError.{FrontError}
 use Rattle.fond_text.specs.declared.fault.FrontError.TheVariants as front
 use Rattle.fond_cert.specs.declared.error.CertError.{CertError}
 use Rattle.fond_cert.specs.declared.error.CertError.TheVariants as cert
-use Rattle.fond_script.specs.declared.script.ScriptError.{ScriptError}
-use Rattle.fond_script.specs.declared.script.ScriptError.TheVariants as script
+use Rattle.fond_exec.specs.declared.script.ScriptError.{ScriptError}
+use Rattle.fond_exec.specs.declared.script.ScriptError.TheVariants as script
 use Rattle.fond_tool.specs.declared.rejection.Rejection.{Rejection}
 use Rattle.fond_tool.specs.declared.rejection.Rejection.TheVariants.{Fault, UnknownAction, Cert, Script, NoMemory}
 use Rattle.fond_tool.specs.Replies.{Reply, fault_reply, action_reply, cert_reply, script_reply}

@@ -7,7 +7,7 @@ use Rattle.fond_game.specs.declared.rule.Rule.{Rule}
 use Rattle.fond_exec.specs.Traces.{Trace}
 use Rattle.fond_cert.specs.Texts.{IsPolicyText}
 use Rattle.fond_cert.specs.Faults.{IsPolicyFault}
-use Rattle.fond_script.specs.Scripts.{IsScript, IsScriptFault}
+use Rattle.fond_exec.specs.Scripts.{IsScript, IsScriptFault}
 use Rattle.fond_ground.specs.Grounds.{IsGroundOf}
 use Rattle.fond_front.specs.declared.texts.TaskTexts.{TaskTexts}
 use Rattle.fond_front.specs.Tasks.{IsTaskOf, IsFirstFault}

@@ -1,7 +1,7 @@
 //! The action word of a command line, and the schema that it names.
 
 ghost use Rattle.fond_ast.specs.declared.task.LSchema.{LSchema};
-ghost use Rattle.fond_reader.specs.Words.{leaf_of};
+ghost use Rattle.fond_tree.specs.Trees.{leaf_of};
 ghost use Rattle.fond_tool.specs.Actions.{IsAction, NamesSchema, SpellName, is_leaf_node, name_alone, members_or_none};
 ghost use Rattle.fond_tool.specs.Successors.{NamesNone};
 ghost use Rattle.fond_tree.specs.Spelling.{IsReadAs, spelling};

@@ -7,7 +7,7 @@ ghost use Rattle.std.specs.Prelude.{◌≡◌, Some, IfOk};
 use crate::answer::{Answer, line};
 use crate::status::Status;
 use fond_cert::error::CertError;
-use fond_script::script::ScriptError;
+use fond_exec::script::ScriptError;
 use fond_text::fault::{Fault, FrontError, NoMemory};
 use fond_text::number::put_number;
 use fond_text::place::FileKind;

@@ -16,7 +16,7 @@ use fond_front::task::read_task;
 use fond_front::texts::TaskTexts;
 use fond_ground::ground::ground;
 use fond_rules::rules::Rules;
-use fond_script::script::read_script;
+use fond_exec::script::read_script;
 use fond_task::task::Task;
 use fond_text::fault::NoMemory;
 use std::alloc::Global;

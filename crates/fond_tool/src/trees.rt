@@ -1,6 +1,6 @@
 //! The parts of a tree.
 
-ghost use Rattle.fond_reader.specs.Words.{leaf_of};
+ghost use Rattle.fond_tree.specs.Trees.{leaf_of};
 ghost use Rattle.fond_tool.specs.Actions.{members_or_none};
 ghost use Rattle.std.specs.Option.{option_copied};
 ghost use Rattle.std.specs.Prelude.{◌≡◌, is_some};

@@ -7,3 +7,4 @@ pub mod Positions
 pub mod Predicates
 pub mod Repeats
 pub mod Replaced
+pub mod Fluents

@@ -1,5 +1,5 @@
 -- Lists by index: the items from an index on, and a list with one item more.
-use Rattle.std.proofs.Common.{◌≡◌, ℕ, zero, suc, ◌+◌, ◌<◌, ◌||◌, ◌⊎◌, inl, inr, Bool, List, [], ◌∷◌, ◌++◌, length, drop, take, refl, ap, ◌∙◌, Some, slice_get, get_or, sym}
+use Rattle.std.proofs.Common.{◌≡◌, ℕ, zero, suc, ◌+◌, ◌<◌, ◌||◌, ◌⊎◌, inl, inr, Bool, List, [], ◌∷◌, ◌++◌, length, drop, take, refl, ap, ◌∙◌, Some, slice_get, get_or, sym, arith, length-append}
 use Rattle.std.specs.List.{list_any}
 use Rattle.std.proofs.lemmas.List.{at_drop_more, take_more}
 use Rattle.std.proofs.lemmas.Option.{slice_get_within, get_or_from_slice_get}
@@ -29,3 +29,9 @@ get_pushed (y ∷ xs) last (suc i) x at =
 -- the items before the next index are those before an index and the one there
 pub next_at : {X : Type 0} (xs : List X) (i : ℕ) (x : X) → i < length xs → x ≡ get_or xs i x → take (i + 1) xs ≡ take i xs ++ x ∷ []
 next_at xs i x low is = take_more xs i x low ∙ ap (λ y. take i xs ++ y ∷ []) (sym is)
+
+-- a list with one item more is longer by one
+pub one_longer : {X : Type 0} (xs : List X) (last : X) (next : List X) (count : ℕ) → next ≡ xs ++ last ∷ [] → length xs ≡ count → length next ≡ count + 1
+one_longer xs last next count made long =
+    let all : length (xs ++ last ∷ []) ≡ length xs + 1 = length-append xs (last ∷ []) in
+    omega (arith, ap length made, all, long)

@@ -4,7 +4,7 @@ use Rattle.std.specs.List.{list_any}
 use Rattle.std.specs.Str.{bytes_eq}
 use Rattle.fond_ast.specs.declared.files.Schema.{Schema}
 use Rattle.fond_ast.specs.declared.names.Kind.{Kind}
-use Rattle.fond_names.specs.Texts.{number_beside}
+use Rattle.fond_lookup.specs.Texts.{number_beside}
 
 -- names with their numbers, from this number on
 abbrev pub numbered_from : ℕ → List (List ℕ) → List (List ℕ × ℕ)

@@ -12,7 +12,7 @@ use crate::index::Predicates;
 use crate::repeated::{repeated_schema, unknown_schema};
 use crate::unknown::{unknown_in_domain, unknown_in_problem};
 use fond_ast::files::{Domain, Problem, Side};
-use fond_names::text_index::TextIndex;
+use fond_lookup::text_index::TextIndex;
 use fond_text::fault::Fault;
 use fond_text::first::{Found, earlier};
 use fond_text::place::FileKind;

@@ -5,7 +5,7 @@ ghost use Rattle.fond_types.specs.Names.{predicate_names, declared_also};
 ghost use Rattle.std.specs.Prelude.{◌≡◌, ◌<◌, ◌^◌, IfOk, OnOk, length};
 
 use fond_ast::files::{Domain, Side};
-use fond_names::text_index::TextIndex;
+use fond_lookup::text_index::TextIndex;
 use fond_text::fault::NoMemory;
 use fond_text::name::{Name, Names};
 use std::alloc::Global;
@@ -58,18 +58,19 @@ pub(crate) fn declared_predicates(alloc: Global, d: &Domain) -> Result<Predicate
     Ok(Predicates { names, numbers })
 }
 
-/// The names of the schemas of a domain, each with the position of its first schema. No file that is short enough has
-/// so many schemas that a position is no u32.
+/// The names of the schemas of a domain, each with the position of its first schema. The call fails for 2^32 schemas or
+/// more: no file that is short enough has so many.
 pub(crate) fn schema_positions(alloc: Global, d: &Domain) -> Result<TextIndex, NoMemory>
-    ensures { IfOk result (λ positions. IsPositionIndex positions d.now.schemas) }
+    ensures few { OnOk result (length d.now.schemas < 2 ^ 32) }
+    ensures positions { IfOk result (λ positions. IsPositionIndex positions d.now.schemas) }
 {
+    if d.schemas.len() >= 1 << 32 {
+        return Err(NoMemory);
+    }
     let mut positions = TextIndex::new(alloc);
     for i in 0..d.schemas.len() {
-        let Ok(position) = u32::try_from(i) else {
-            return Err(NoMemory);
-        };
         let name = Vec::from_slice(alloc, d.schemas.get(i).name.bytes())?;
-        positions.insert(name, position)?;
+        positions.insert(name, i as u32)?;
     }
     Ok(positions)
 }

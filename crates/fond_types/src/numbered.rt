@@ -9,7 +9,7 @@ ghost use Rattle.fond_types.specs.Indexes.{IsLeafIndex};
 ghost use Rattle.fond_types.specs.Names.{is_among, predicate_names};
 ghost use Rattle.fond_types.specs.Resolves.{is_number_of, is_resolved_condition, is_resolved_effect, is_resolved_atom, positive, IsResolvedSchema, AreResolvedSchemas, IsResolved};
 ghost use Rattle.std.specs.List.{list_all, flat_map};
-ghost use Rattle.std.specs.Prelude.{◌≡◌, ◌∷◌, [], true, length, map, IfOk};
+ghost use Rattle.std.specs.Prelude.{◌≡◌, ◌<◌, ◌^◌, ◌∷◌, [], true, length, map, IfOk};
 
 use crate::fluent::flagged_predicates;
 use crate::index::{Predicates, side_leaves};
@@ -18,7 +18,7 @@ use fond_ast::form::{LAtom, LCond, LEffect};
 use fond_ast::names::ReadAtom;
 use fond_ast::syntax::{Cond, Effect};
 use fond_ast::task::{LSchema, LSchemas, LiftedTask};
-use fond_names::text_index::TextIndex;
+use fond_lookup::text_index::TextIndex;
 use fond_text::atom::{Atom, Atoms, Objects};
 use fond_text::fault::NoMemory;
 use std::alloc::Global;
@@ -156,6 +156,7 @@ fn numbered_schemas(
     requires { are_declared predicates.now.names (domain_atoms d.now) ≡ true }
     ensures resolved { IfOk result (AreResolvedSchemas predicates.now.names s.now d.now.schemas) }
     ensures within { IfOk result (λ all. list_all (is_schema_within (length predicates.now.names)) all ≡ true) }
+    ensures counted { IfOk result (λ all. length all ≡ length d.now.schemas) }
 {
     let leaves = side_leaves(alloc, s)?;
     let mut all = LSchemas::new(alloc);
@@ -202,6 +203,7 @@ pub(crate) fn numbered_task(
     p: &Problem,
     s: &Side,
 ) -> Result<LiftedTask, NoMemory>
+    requires few { length d.now.schemas < 2 ^ 32 }
     requires named { predicates.now.names ≡ predicate_names d.now }
     requires domain { are_declared predicates.now.names (domain_atoms d.now) ≡ true }
     requires problem { are_declared predicates.now.names (problem_atoms p.now) ≡ true }

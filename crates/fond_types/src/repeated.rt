@@ -8,7 +8,7 @@ ghost use Rattle.fond_types.specs.Names.{is_among, schema_names};
 ghost use Rattle.std.specs.Prelude.{◌≡◌, List, Some, map, slice_get, take};
 
 use fond_ast::files::{Domain, Schema, Side};
-use fond_names::text_index::TextIndex;
+use fond_lookup::text_index::TextIndex;
 use fond_text::code::{REPEATED_NAME, UNKNOWN_SCHEMA};
 use fond_text::first::{Found, earlier, found_if};
 

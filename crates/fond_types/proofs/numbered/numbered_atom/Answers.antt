@@ -1,5 +1,5 @@
 use Rattle.std.proofs.Common.{◌≡◌, ◌&&◌, Bool, Some, None, true, false, is_some, ◌∙◌, sym, ap}
-use Rattle.fond_names.specs.Texts.{number_beside}
+use Rattle.fond_lookup.specs.Texts.{number_beside}
 use Rattle.fond_types.specs.Names.{is_among}
 use Rattle.fond_types.proofs.Numbering.{number_is, is_there}
 use Rattle.fond_types.proofs.numbered.numbered_atom.Goals as goal

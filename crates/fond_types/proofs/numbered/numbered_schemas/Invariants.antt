@@ -9,4 +9,5 @@ abbrev pub invariant-loop-i : goal.invariant-loop-i
 invariant-loop-i l = record {
   resolved : AreResolvedSchemas l.predicates.names l.s (take l.i l.d.schemas) l.all;
   within : list_all (is_schema_within (length l.predicates.names)) l.all ≡ true;
+  counted : length l.all ≡ l.i;
 }

@@ -1,7 +1,7 @@
 use Rattle.std.proofs.Common.{◌≡◌, not, is_some, ap, ◌∙◌}
 use Rattle.fond_text.specs.declared.code.TheConstants.{UNKNOWN_PREDICATE}
 use Rattle.fond_ast.specs.declared.names.ReadAtom.{ReadAtom}
-use Rattle.fond_names.specs.Texts.{number_beside}
+use Rattle.fond_lookup.specs.Texts.{number_beside}
 use Rattle.fond_types.specs.Names.{is_among}
 use Rattle.fond_types.proofs.Missing.{missing_one}
 use Rattle.fond_types.proofs.Numbering.{negated, is_there}
