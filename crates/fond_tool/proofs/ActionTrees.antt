@@ -4,7 +4,8 @@ use Rattle.std.specs.List.{flat_map, list_any, list_all}
 use Rattle.std.proofs.lemmas.Bool.Decides.{nat_tests}
 use Rattle.std.proofs.lemmas.List.Folds.{flat_map-map, list_any-append}
 use Rattle.fond_text.specs.declared.place.Place.{Place}
-use Rattle.fond_tree.specs.Tokens.{Token, Opens, Closes, Names, Stray, tokens}
+use Rattle.fond_tree.specs.Marks.{tokens}
+use Rattle.fond_tree.specs.Tokens.{Token, Opens, Closes, Names, Stray}
 use Rattle.fond_tree.specs.Spelling.{IsReadAs, spelling, spelling_step}
 use Rattle.fond_tree.specs.declared.tree.Tree.{Tree, out-Tree}
 use Rattle.fond_tree.specs.declared.tree.Tree.TheOpen.{Tree-F, Leaf, Node}

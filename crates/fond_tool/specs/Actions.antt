@@ -5,7 +5,8 @@ use Rattle.fond_text.specs.declared.place.Place.{Place}
 use Rattle.fond_ast.specs.declared.task.LSchema.{LSchema}
 use Rattle.fond_tree.specs.declared.tree.Tree.{Tree}
 use Rattle.fond_tree.specs.Spelling.{IsReadAs}
-use Rattle.fond_tree.specs.Tokens.{Token, Opens, Closes, Names, tokens}
+use Rattle.fond_tree.specs.Marks.{tokens}
+use Rattle.fond_tree.specs.Tokens.{Token, Opens, Closes, Names}
 use Rattle.fond_tree.specs.Trees.{leaf_of, members_of}
 
 -- whether there are members, at least one and all of them leaves
