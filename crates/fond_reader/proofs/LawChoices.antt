@@ -11,7 +11,7 @@ use Rattle.fond_ast.specs.declared.syntax.Effect.TheOpen as open_effect
 use Rattle.fond_ast.specs.declared.syntax.Effect.TheFolds.{fold-roll-Effect, map-Effect, ind-Effect}
 use Rattle.fond_tree.specs.declared.tree.Tree.{Tree}
 use Rattle.fond_reader.specs.Files.{IsWholeEffect, AreSchemasOf, values}
-use Rattle.fond_reader.specs.Forms.{inner, is_form, effect_step, is_effect}
+use Rattle.fond_reader.specs.Forms.{inner, effect_step, is_effect}
 use Rattle.fond_reader.proofs.Clean.{true_is_false}
 use Rattle.fond_reader.proofs.LawForms.{form_there}
 use Rattle.fond_reader.proofs.ReadLists.{first_of_both, second_of_both}

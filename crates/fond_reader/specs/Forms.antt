@@ -1,5 +1,5 @@
 -- Which conditions and effects a tree is read as. Terms, quantifiers and conditional effects are not supported yet.
-use Rattle.std.specs.Prelude.{ℕ, ◌==◌, ◌&&◌, Bool, true, false, not, List, [], ◌∷◌, map, length, Option, Some, None, codes, if◌then◌else◌}
+use Rattle.std.specs.Prelude.{ℕ, ◌==◌, ◌&&◌, Bool, false, not, List, [], ◌∷◌, map, length, Option, Some, None, codes, if◌then◌else◌}
 use Rattle.std.specs.Str.{bytes_eq}
 use Rattle.fond_text.specs.Lists.{each_passes}
 use Rattle.fond_text.specs.declared.place.Place.{Place}

@@ -62,7 +62,11 @@ fn unbuilt(role: Role, tree: &Tree) -> Option<Found>
 {
     match tree {
         Tree::Leaf(_, _) => None,
-        Tree::Node(place, members) => found_if(is_unbuilt(role, members.as_slice()), *place, UNSUPPORTED),
+        Tree::Node(place, members) => found_if(
+            is_unbuilt(role, members.as_slice()),
+            *place,
+            UNSUPPORTED,
+        ),
     }
 }
 

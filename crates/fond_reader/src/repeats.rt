@@ -144,7 +144,11 @@ pub fn incomplete(role: Role, tree: &Tree) -> Option<Found>
 {
     match (role, tree.members()) {
         (Role::ProblemFile, Some(members)) => {
-            found_if(is_incomplete(after_header(members)), tree.place(), MISSING_SECTION)
+            found_if(
+                is_incomplete(after_header(members)),
+                tree.place(),
+                MISSING_SECTION,
+            )
         }
         _ => None,
     }
