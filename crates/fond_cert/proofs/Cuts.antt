@@ -34,8 +34,8 @@ cut (b ∷ text) = cut_at (is_in_word b) (prefix_len is_in_word text) b text ref
 pub cut_is : (text word rest : List ℕ) (n : ℕ) → n ≡ prefix_len is_in_word text → word ≡ take n text → rest ≡ drop n text → IsCut text word rest
 cut_is text word rest n e f g =
     let same : word ≡ take (prefix_len is_in_word text) text = f ∙ ap (λ n. take n text) e in
-    let behind : rest ≡ drop (prefix_len is_in_word text) text = g ∙ ap (λ n. drop n text) e in
-    rw (same, behind) (cut text)
+    let further : rest ≡ drop (prefix_len is_in_word text) text = g ∙ ap (λ n. drop n text) e in
+    rw (same, further) (cut text)
 
 -- a text has one first word
 pub same_word : (a b s t : List ℕ) → IsTrue (list_all is_in_word a) → IsTrue (list_all is_in_word b) → EndsWord s → EndsWord t → a ++ s ≡ b ++ t → (a ≡ b) × (s ≡ t)
@@ -86,10 +86,10 @@ target_no_space word e =
     (λ h. rw ((bytes_eq-Decides word (codes "goal")).0 h) refl)
     (λ h. number_no_space word h)
 
--- behind a space, what is no target begins with none
+-- a word that is no target, after a space, begins no text of a target
 pub no_target : (text inner word rest : List ℕ) → text ≡ 32 ∷ inner → IsCut inner word rest → is_target word ≡ false → HasNoTarget text
-no_target text inner word rest e cut none other behind target ends f =
-    let same = same_word word other rest behind cut.1 (target_no_space other target) cut.2 ends (sym cut.0 ∙ same_tail 32 32 _ _ (sym e ∙ f)) in
+no_target text inner word rest e cut none other further target ends f =
+    let same = same_word word other rest further cut.1 (target_no_space other target) cut.2 ends (sym cut.0 ∙ same_tail 32 32 _ _ (sym e ∙ f)) in
     cc
 
 pub no_space_no_target : (text : List ℕ) → ((rest : List ℕ) → text ≢ 32 ∷ rest) → HasNoTarget text
@@ -101,12 +101,12 @@ spaced_more (first ∷ words) word rest =
     ap (λ t. 32 ∷ t) (append_assoc first (spaced (words ++ (word ∷ []))) rest ∙ ap (λ t. first ++ t) (spaced_more words word rest) ∙ sym (append_assoc first (spaced words) (32 ∷ (word ++ rest))))
 
 -- targets, with one more
-pub targets_more : (text rest behind : List ℕ) → ((words : List (List ℕ)) × AreTargets words × (text ≡ spaced words ++ rest)) →
-    ((word : List ℕ) × IsTrue (is_target word) × EndsWord behind × (rest ≡ 32 ∷ (word ++ behind))) →
-    (words : List (List ℕ)) × AreTargets words × (text ≡ spaced words ++ behind)
-targets_more text rest behind h one =
+pub targets_more : (text rest further : List ℕ) → ((words : List (List ℕ)) × AreTargets words × (text ≡ spaced words ++ rest)) →
+    ((word : List ℕ) × IsTrue (is_target word) × EndsWord further × (rest ≡ 32 ∷ (word ++ further))) →
+    (words : List (List ℕ)) × AreTargets words × (text ≡ spaced words ++ further)
+targets_more text rest further h one =
     let P = λ (word : List ℕ). IsTrue (is_target word) in (
       h.0 ++ (one.0 ∷ []),
       All-append P h.0 (one.0 ∷ []) h.1 (All-cons P one.0 [] one.1 (All-nil P)),
-      h.2 ∙ ap (λ t. spaced h.0 ++ t) one.3 ∙ sym (spaced_more h.0 one.0 behind),
+      h.2 ∙ ap (λ t. spaced h.0 ++ t) one.3 ∙ sym (spaced_more h.0 one.0 further),
     )

@@ -1,4 +1,4 @@
--- What reading leaves up to a closing parenthesis says of the text.
+-- The rest after leaves and their closing parenthesis, and atoms and actions at the beginning of a text.
 use Rattle.std.proofs.Common.{◌≡◌, ℕ, ◌≤◌, ◌-◌, ◌==◌, ◌&&◌, Bool, true, false, IsTrue, List, [], ◌∷◌, ◌++◌, All, length, take, if◌then◌else◌, refl, sym, ap, ◌∙◌, arith, append_assoc, length-append}
 use Rattle.std.proofs.Math.Seq.{take-append_seam}
 use Rattle.std.specs.Prelude.{Some, None}
@@ -27,11 +27,11 @@ over_spaced (leaf ∷ leaves) rest h =
     ∙ over_first leaf (spaced leaves ++ (41 ∷ rest)) (All-head IsPlainLeaf leaf leaves h)
     ∙ over_spaced leaves rest (All-tail IsPlainLeaf leaf leaves h)
 
--- the texts of an atom or action, with what stands behind it
+-- the text of an atom or action, followed by a rest
 group_apart : (leaf : List ℕ) (leaves : List (List ℕ)) (rest : List ℕ) → group_text (leaf ∷ leaves) ++ rest ≡ 40 ∷ (leaf ++ (spaced leaves ++ (41 ∷ rest)))
 group_apart leaf leaves rest = ap (λ t. 40 ∷ t) (append_assoc leaf (spaced leaves ++ (41 ∷ [])) rest ∙ ap (λ t. leaf ++ t) (append_assoc (spaced leaves) (41 ∷ []) rest))
 
--- what is read behind the parenthesis of an atom or action
+-- the rest after the parenthesis of an atom or action
 pub group_reads : (leaves : List (List ℕ)) (inner rest : List ℕ) → IsGroup leaves → 40 ∷ inner ≡ group_text leaves ++ rest → after_leaves false inner ≡ Some rest
 group_reads [] inner rest h e = absurd (omega (arith, h.0))
 group_reads (leaf ∷ leaves) inner rest h e =
@@ -76,7 +76,7 @@ stands : (v : Bool) (text rest : List ℕ) → after_leaves v text ≡ Some rest
 stands v [] rest e = absurd (cc)
 stands v (b ∷ text) rest e = stands_by v (is_plain_byte b) (b == 32) (b == 41) b text rest refl refl refl (stands true text rest) (stands false text rest) e
 
--- where no leaves end behind the parenthesis, no atom or action is in front
+-- a text begins with no atom or action if no leaves end after its parenthesis
 pub no_group : (text inner : List ℕ) → text ≡ 40 ∷ inner → after_leaves false inner ≡ None → HasNoGroup text
 no_group text inner e none leaves rest h f = let some = group_reads leaves inner rest h (sym e ∙ f) in absurd (cc)
 
@@ -101,7 +101,7 @@ found_group text inner rest e some =
 pub rest_within : (text inner rest : List ℕ) → text ≡ 40 ∷ inner → after_leaves false inner ≡ Some rest → length rest ≤ length text
 rest_within text inner rest e some = let h = some_group text inner rest e some in omega (arith, ap length h.2, length-append (group_text h.0) rest)
 
--- texts that begin with an atom or action have the same behind it
+-- equal texts that begin with an atom or action have the same one and the same rest
 pub same_rest : (a b : List (List ℕ)) (s t : List ℕ) → IsGroup a → IsGroup b → group_text a ++ s ≡ group_text b ++ t → s ≡ t
 same_rest [] b s t h k e = absurd (omega (arith, h.0))
 same_rest (leaf ∷ leaves) b s t h k e =
