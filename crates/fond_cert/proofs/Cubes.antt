@@ -44,7 +44,7 @@ and_true : (a : Bool) → (a && true) ≡ a
 and_true true = refl
 and_true false = refl
 
--- what is left of literals, where these were read so far
+-- the literals that are left, after these were read
 pub record LeftLiterals (task : Task) (at : ℕ) (text rest : List ℕ) (cube : List (Option Bool)) (last : Option ℕ) (is_ordered : Bool) : Type 0 where
   pub whole : List WrittenLiteral
   pub left : List WrittenLiteral

@@ -1,4 +1,5 @@
 -- Words up to the first space, and targets.
+use Rattle.std.proofs.lemmas.Bool.{and_parts}
 use Rattle.std.proofs.Common.{◌≡◌, ◌≢◌, ℕ, ◌+◌, ◌==◌, ◌&&◌, ◌||◌, not, cond, Bool, true, false, IsTrue, suc, List, [], ◌∷◌, ◌++◌, length, take, drop, codes, refl, sym, ap, ◌∙◌, arith, append_assoc}
 use Rattle.std.specs.Char.{is_ascii_digit}
 use Rattle.std.specs.List.{list_all, prefix_len}
@@ -11,10 +12,6 @@ use Rattle.fond_cert.specs.Lines.{spaced}
 use Rattle.fond_cert.specs.Parts.{is_in_word, EndsWord, IsCut, is_target, AreTargets, HasNoTarget}
 use Rattle.fond_cert.specs.Lines.{is_number}
 use Rattle.fond_cert.proofs.Literals.{same_head, same_tail}
-
-pub both : (a b : Bool) → (a && b) ≡ true → (a ≡ true) × (b ≡ true)
-both true b e = (refl, e)
-both false b e = absurd (cc)
 
 is_the_space : (v : Bool) (b : ℕ) → (b == 32) ≡ v → not v ≡ false → b ≡ 32
 is_the_space true b e f = eqb-true b 32 e
@@ -42,17 +39,17 @@ pub same_word : (a b s t : List ℕ) → IsTrue (list_all is_in_word a) → IsTr
 same_word [] [] s t h k i j e = (refl, e)
 same_word [] (y ∷ b) [] t h k i j e = absurd (cc)
 same_word [] (y ∷ b) (x ∷ s) t h k i j e =
-    let p = both (is_in_word y) (list_all is_in_word b) k in
+    let p = and_parts (is_in_word y) (list_all is_in_word b) k in
     let q : y ≡ 32 = sym (same_head x y s (b ++ t) e) ∙ i in
     let r = rw q at p.0 in absurd (cc)
 same_word (x ∷ a) [] s [] h k i j e = absurd (cc)
 same_word (x ∷ a) [] s (y ∷ t) h k i j e =
-    let p = both (is_in_word x) (list_all is_in_word a) h in
+    let p = and_parts (is_in_word x) (list_all is_in_word a) h in
     let q : x ≡ 32 = same_head x y (a ++ s) t e ∙ j in
     let r = rw q at p.0 in absurd (cc)
 same_word (x ∷ a) (y ∷ b) s t h k i j e =
-    let p = both (is_in_word x) (list_all is_in_word a) h in
-    let q = both (is_in_word y) (list_all is_in_word b) k in
+    let p = and_parts (is_in_word x) (list_all is_in_word a) h in
+    let q = and_parts (is_in_word y) (list_all is_in_word b) k in
     let more = same_word a b s t p.1 q.1 i j (same_tail x y (a ++ s) (b ++ t) e) in
     let first = same_head x y (a ++ s) (b ++ t) e in
     (cc, more.1)
@@ -63,14 +60,14 @@ digit_no_space b e = grind (arith, nat_tests)
 digits_no_space : (digits : List ℕ) → list_all is_ascii_digit digits ≡ true → list_all is_in_word digits ≡ true
 digits_no_space [] e = refl
 digits_no_space (b ∷ digits) e =
-    let p = both (is_ascii_digit b) (list_all is_ascii_digit digits) e in
+    let p = and_parts (is_ascii_digit b) (list_all is_ascii_digit digits) e in
     rw (digit_no_space b p.0) (digits_no_space digits p.1)
 
 -- the first byte of a number is a digit, and it has no space
 pub number_first : (b : ℕ) (rest : List ℕ) → is_number (b ∷ rest) ≡ true → (is_ascii_digit b ≡ true) × (list_all is_ascii_digit rest ≡ true)
 number_first b rest e =
-    let p = both (is_ascii_digit b && (not (b == 48) || length rest == 0)) (list_all is_ascii_digit rest) e in
-    ((both (is_ascii_digit b) (not (b == 48) || length rest == 0) p.0).0, p.1)
+    let p = and_parts (is_ascii_digit b && (not (b == 48) || length rest == 0)) (list_all is_ascii_digit rest) e in
+    ((and_parts (is_ascii_digit b) (not (b == 48) || length rest == 0) p.0).0, p.1)
 
 pub number_no_space : (word : List ℕ) → is_number word ≡ true → list_all is_in_word word ≡ true
 number_no_space [] e = absurd (cc)

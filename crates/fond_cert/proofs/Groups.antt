@@ -1,4 +1,5 @@
 -- The rest after leaves and their closing parenthesis, and atoms and actions at the beginning of a text.
+use Rattle.std.proofs.lemmas.Bool.{and_parts}
 use Rattle.std.proofs.Common.{◌≡◌, ℕ, ◌≤◌, ◌-◌, ◌==◌, ◌&&◌, Bool, true, false, IsTrue, List, [], ◌∷◌, ◌++◌, All, length, take, if◌then◌else◌, refl, sym, ap, ◌∙◌, arith, append_assoc, length-append}
 use Rattle.std.proofs.Math.Seq.{take-append_seam}
 use Rattle.std.specs.Prelude.{Some, None}
@@ -8,17 +9,13 @@ use borrow.Author.Tests.{eqb-true}
 use Rattle.fond_cert.specs.Lines.{is_plain_byte, IsPlainLeaf, IsGroup, spaced, group_text}
 use Rattle.fond_cert.specs.Parts.{IsGroupText, HasNoGroup, after_leaves}
 
-both : (a b : Bool) → (a && b) ≡ true → (a ≡ true) × (b ≡ true)
-both true b e = (refl, e)
-both false b e = cc
-
 over_leaf : (leaf more : List ℕ) → IsTrue (list_all is_plain_byte leaf) → after_leaves true (leaf ++ more) ≡ after_leaves true more
 over_leaf [] more h = refl
-over_leaf (b ∷ leaf) more h = let parts = both (is_plain_byte b) (list_all is_plain_byte leaf) h in rw parts.0 (over_leaf leaf more parts.1)
+over_leaf (b ∷ leaf) more h = let parts = and_parts (is_plain_byte b) (list_all is_plain_byte leaf) h in rw parts.0 (over_leaf leaf more parts.1)
 
 over_first : (leaf more : List ℕ) → IsPlainLeaf leaf → after_leaves false (leaf ++ more) ≡ after_leaves true more
 over_first [] more h = absurd (omega (arith, h.0))
-over_first (b ∷ leaf) more h = let parts = both (is_plain_byte b) (list_all is_plain_byte leaf) h.1 in rw parts.0 (over_leaf leaf more parts.1)
+over_first (b ∷ leaf) more h = let parts = and_parts (is_plain_byte b) (list_all is_plain_byte leaf) h.1 in rw parts.0 (over_leaf leaf more parts.1)
 
 over_spaced : (leaves : List (List ℕ)) (rest : List ℕ) → All IsPlainLeaf leaves → after_leaves true (spaced leaves ++ (41 ∷ rest)) ≡ Some rest
 over_spaced [] rest h = refl
@@ -40,7 +37,7 @@ group_reads (leaf ∷ leaves) inner rest h e =
     ∙ over_first leaf (spaced leaves ++ (41 ∷ rest)) (All-head IsPlainLeaf leaf leaves h.1)
     ∙ over_spaced leaves rest (All-tail IsPlainLeaf leaf leaves h.1)
 
--- what stands before a closing parenthesis: the rest of an open leaf, or a leaf, and more leaves
+-- the text before a closing parenthesis: the rest of an open leaf or a leaf, and more leaves
 abbrev Stands : Bool → List ℕ → List ℕ → Type 0
 Stands true text rest =
     (leaf : List ℕ) × (leaves : List (List ℕ)) × IsTrue (list_all is_plain_byte leaf) × All IsPlainLeaf leaves × (text ≡ leaf ++ (spaced leaves ++ (41 ∷ rest)))
