@@ -1,4 +1,4 @@
--- What stands behind the words `fair` and `unfair`, cut into its parts.
+-- The rest of a line after the words `fair` and `unfair`, cut into its parts.
 use Rattle.std.proofs.Common.{◌≡◌, ◌≢◌, ℕ, ◌<◌, ◌≤◌, ◌-◌, Bool, true, false, IsTrue, List, [], ◌∷◌, ◌++◌, length, take, codes, refl, sym, ap, ◌∙◌, arith, append_assoc, length-append}
 use Rattle.std.proofs.lemmas.Bool.Decides.{nat_tests}
 use Rattle.std.specs.Char.{is_ascii_digit}
@@ -20,35 +20,35 @@ abbrev pub HasNoUnfair : List ℕ → Type 0
 HasNoUnfair text = (targets : List (List ℕ)) (literals : List ℕ) → AreUnfair targets literals → text ≢ unfair_text targets literals
 
 -- the outcome is the first word, and the target the next
-fair_first : (text outcome behind o t l : List ℕ) → IsCut text outcome behind → AreFair o t l → text ≡ fair_text o t l → (outcome ≡ o) × (behind ≡ 32 ∷ (t ++ (codes " :" ++ l)))
-fair_first text outcome behind o t l cut fair e =
-    same_word outcome o behind (32 ∷ (t ++ (codes " :" ++ l))) cut.1 (number_no_space o fair.0) cut.2 refl (sym cut.0 ∙ e)
+fair_first : (text outcome further o t l : List ℕ) → IsCut text outcome further → AreFair o t l → text ≡ fair_text o t l → (outcome ≡ o) × (further ≡ 32 ∷ (t ++ (codes " :" ++ l)))
+fair_first text outcome further o t l cut fair e =
+    same_word outcome o further (32 ∷ (t ++ (codes " :" ++ l))) cut.1 (number_no_space o fair.0) cut.2 refl (sym cut.0 ∙ e)
 
-fair_next : (behind inner target rest t l : List ℕ) → behind ≡ 32 ∷ inner → IsCut inner target rest → IsTrue (is_target t) → behind ≡ 32 ∷ (t ++ (codes " :" ++ l)) →
+fair_next : (further inner target rest t l : List ℕ) → further ≡ 32 ∷ inner → IsCut inner target rest → IsTrue (is_target t) → further ≡ 32 ∷ (t ++ (codes " :" ++ l)) →
     (target ≡ t) × (rest ≡ codes " :" ++ l)
-fair_next behind inner target rest t l e cut right f =
+fair_next further inner target rest t l e cut right f =
     same_word target t rest (codes " :" ++ l) cut.1 (target_no_space t right) cut.2 refl (sym cut.0 ∙ same_tail 32 32 _ _ (sym e ∙ f))
 
-pub no_fair_space : (text outcome behind : List ℕ) → IsCut text outcome behind → ((rest : List ℕ) → behind ≢ 32 ∷ rest) → HasNoFair text
-no_fair_space text outcome behind cut none o t l fair e = none _ ((fair_first text outcome behind o t l cut fair e).1)
+pub no_fair_space : (text outcome further : List ℕ) → IsCut text outcome further → ((rest : List ℕ) → further ≢ 32 ∷ rest) → HasNoFair text
+no_fair_space text outcome further cut none o t l fair e = none _ ((fair_first text outcome further o t l cut fair e).1)
 
-pub no_fair_colon : (text outcome behind inner target rest : List ℕ) → IsCut text outcome behind → behind ≡ 32 ∷ inner → IsCut inner target rest →
+pub no_fair_colon : (text outcome further inner target rest : List ℕ) → IsCut text outcome further → further ≡ 32 ∷ inner → IsCut inner target rest →
     ((more : List ℕ) → rest ≢ codes " :" ++ more) → HasNoFair text
-no_fair_colon text outcome behind inner target rest cut f more none o t l fair e =
-    none l ((fair_next behind inner target rest t l f more fair.1 ((fair_first text outcome behind o t l cut fair e).1)).1)
+no_fair_colon text outcome further inner target rest cut f more none o t l fair e =
+    none l ((fair_next further inner target rest t l f more fair.1 ((fair_first text outcome further o t l cut fair e).1)).1)
 
-pub no_fair_parts : (text outcome behind inner target rest literals : List ℕ) (right : Bool) → IsCut text outcome behind → behind ≡ 32 ∷ inner → IsCut inner target rest →
+pub no_fair_parts : (text outcome further inner target rest literals : List ℕ) (right : Bool) → IsCut text outcome further → further ≡ 32 ∷ inner → IsCut inner target rest →
     rest ≡ codes " :" ++ literals → (AreFair outcome target literals → right ≡ true) → right ≡ false → HasNoFair text
-no_fair_parts text outcome behind inner target rest literals right cut f more g decided wrong o t l fair e =
-    let first = fair_first text outcome behind o t l cut fair e in
-    let next = fair_next behind inner target rest t l f more fair.1 first.1 in
+no_fair_parts text outcome further inner target rest literals right cut f more g decided wrong o t l fair e =
+    let first = fair_first text outcome further o t l cut fair e in
+    let next = fair_next further inner target rest t l f more fair.1 first.1 in
     let tail : literals ≡ l = same_tail 58 58 literals l (same_tail 32 32 (58 ∷ literals) (58 ∷ l) (sym g ∙ next.1)) in
     let same = decided (rw (first.0, next.0, tail) fair) in
     absurd (cc)
 
-pub some_fair : (text outcome behind inner target rest literals : List ℕ) → IsCut text outcome behind → behind ≡ 32 ∷ inner → IsCut inner target rest →
+pub some_fair : (text outcome further inner target rest literals : List ℕ) → IsCut text outcome further → further ≡ 32 ∷ inner → IsCut inner target rest →
     rest ≡ codes " :" ++ literals → text ≡ fair_text outcome target literals
-some_fair text outcome behind inner target rest literals cut f more g =
+some_fair text outcome further inner target rest literals cut f more g =
     cut.0 ∙ ap (λ t. outcome ++ t) (f ∙ ap (λ t. 32 ∷ t) (more.0 ∙ ap (λ t. target ++ t) g))
 
 -- a text that goes on after targets ends a word

@@ -15,7 +15,7 @@ use Rattle.fond_cert.specs.Words.{unknown, refused_or, first_refused, atom_numbe
 use Rattle.fond_cert.specs.Texts.{with_literal, cube_of}
 use Rattle.fond_cert.specs.Checked.{IsCubeAt, IsLiteralRefused, rises}
 use Rattle.fond_cert.proofs.Groups.{same_rest}
-use Rattle.fond_cert.proofs.Literals.{literal_apart, same_head, behind_sign, behind_space}
+use Rattle.fond_cert.proofs.Literals.{literal_apart, same_head, after_sign, after_space}
 
 pub spelled : (literals : List WrittenLiteral) → flat_map literal_text literals ≡ flat_map piece_text (literal_pieces literals)
 spelled [] = refl
@@ -44,7 +44,7 @@ and_true : (a : Bool) → (a && true) ≡ a
 and_true true = refl
 and_true false = refl
 
--- what is left of literals, where these were read so far
+-- the literals that are left, after these were read
 pub record LeftLiterals (task : Task) (at : ℕ) (text rest : List ℕ) (cube : List (Option Bool)) (last : Option ℕ) (is_ordered : Bool) : Type 0 where
   pub whole : List WrittenLiteral
   pub left : List WrittenLiteral
@@ -84,47 +84,47 @@ sign_long true = refl
 sign_long false = refl
 
 -- what comes next of the literals that are left
-record NextLiteral (left : List WrittenLiteral) (sign : Bool) (atom behind : List ℕ) : Type 0 where
+record NextLiteral (left : List WrittenLiteral) (sign : Bool) (atom further : List ℕ) : Type 0 where
   pub first : WrittenLiteral
   pub more : List WrittenLiteral
   pub left_is : left ≡ first ∷ more
   pub sign_is : sign ≡ first.sign
   pub atom_is : atom ≡ group_text first.leaves
-  pub behind_is : behind ≡ flat_map literal_text more
+  pub behind_is : further ≡ flat_map literal_text more
   pub more_right : All (λ literal. IsGroup literal.leaves) more
 
-next_literal : (left : List WrittenLiteral) (sign : Bool) (atom behind : List ℕ) → All (λ literal. IsGroup literal.leaves) left → IsGroupText atom →
-    32 ∷ (sign_text sign ++ (atom ++ behind)) ≡ flat_map literal_text left → NextLiteral left sign atom behind
-next_literal [] sign atom behind h group e = absurd (cc)
-next_literal (first ∷ more) sign atom behind h group e =
+next_literal : (left : List WrittenLiteral) (sign : Bool) (atom further : List ℕ) → All (λ literal. IsGroup literal.leaves) left → IsGroupText atom →
+    32 ∷ (sign_text sign ++ (atom ++ further)) ≡ flat_map literal_text left → NextLiteral left sign atom further
+next_literal [] sign atom further h group e = absurd (cc)
+next_literal (first ∷ more) sign atom further h group e =
     let P = λ (literal : WrittenLiteral). IsGroup literal.leaves in
-    let apart = behind_space _ _ (e ∙ literal_apart first (flat_map literal_text more)) in
-    let atoms = behind_sign sign first.sign _ _ apart in
-    let same = same_rest group.0 first.leaves _ _ group.1 (All-head P first more h) (ap (λ t. t ++ behind) (sym group.2) ∙ atoms) in
+    let apart = after_space _ _ (e ∙ literal_apart first (flat_map literal_text more)) in
+    let atoms = after_sign sign first.sign _ _ apart in
+    let same = same_rest group.0 first.leaves _ _ group.1 (All-head P first more h) (ap (λ t. t ++ further) (sym group.2) ∙ atoms) in
     record {
       first = first;
       more = more;
       left_is = refl;
       sign_is = same_sign sign first.sign _ _ apart;
-      atom_is = append_cancel_right atom (group_text first.leaves) behind (atoms ∙ ap (λ t. group_text first.leaves ++ t) (sym same));
+      atom_is = append_cancel_right atom (group_text first.leaves) further (atoms ∙ ap (λ t. group_text first.leaves ++ t) (sym same));
       behind_is = same;
       more_right = All-tail P first more h;
     }
 
 -- a literal that is read of those that are left
 abbrev pub IsRead : List ℕ → Bool → List ℕ → List ℕ → Type 0
-IsRead rest sign atom behind = IsGroupText atom × (rest ≡ 32 ∷ (sign_text sign ++ (atom ++ behind)))
+IsRead rest sign atom further = IsGroupText atom × (rest ≡ 32 ∷ (sign_text sign ++ (atom ++ further)))
 
 module _ (task : Task) (at : ℕ) (text rest : List ℕ) (cube : List (Option Bool)) (last : Option ℕ) (is_ordered : Bool) (h : LeftLiterals task at text rest cube last is_ordered)
-    (sign : Bool) (atom behind : List ℕ) (read : IsRead rest sign atom behind) where
+    (sign : Bool) (atom further : List ℕ) (read : IsRead rest sign atom further) where
   abbrev p : ℕ
   p = at + (length text - length rest)
 
-  next : NextLiteral h.left sign atom behind
-  next = next_literal h.left sign atom behind h.left_right read.0 (sym read.1 ∙ h.left_is)
+  next : NextLiteral h.left sign atom further
+  next = next_literal h.left sign atom further h.left_right read.0 (sym read.1 ∙ h.left_is)
 
-  rest_long : length rest ≡ 2 + (length atom + length behind)
-  rest_long = omega (arith, ap length read.1, length-append (sign_text sign) (atom ++ behind), sign_long sign, length-append atom behind)
+  rest_long : length rest ≡ 2 + (length atom + length further)
+  rest_long = omega (arith, ap length read.1, length-append (sign_text sign) (atom ++ further), sign_long sign, length-append atom further)
 
   over_literal : (found : Option ℕ) → found ≡ atom_number task atom →
       first_refused task p (literal_pieces h.left) ≡ refused_or (unknown 2 found) (p + 2) (first_refused task (p + 2 + length atom) (literal_pieces next.more))
@@ -149,9 +149,9 @@ module _ (task : Task) (at : ℕ) (text rest : List ℕ) (cube : List (Option Bo
       let found = position-Some (λ (a : Atom). bytes_eq (atom_text task.labels a) atom) task.atoms number (record { predicate = 0; objects = [] }) (sym some) in
       omega (arith, found.0, h.long)
 
-  pub one_read : (number : ℕ) → Some number ≡ atom_number task atom → LeftLiterals task at text behind (slice_set cube number (Some sign)) (Some number) (is_ordered && rises last number)
+  pub one_read : (number : ℕ) → Some number ≡ atom_number task atom → LeftLiterals task at text further (slice_set cube number (Some sign)) (Some number) (is_ordered && rises last number)
   one_read number some =
-      let past : p + 2 + length atom ≡ at + (length text - length behind) = omega (arith, rest_long, h.short) in
+      let past : p + 2 + length atom ≡ at + (length text - length further) = omega (arith, rest_long, h.short) in
       let named : atom_number task (group_text next.first.leaves) ≡ Some number = ap (λ t. atom_number task t) (sym next.atom_is) ∙ sym some in
       record {
         whole = h.whole;

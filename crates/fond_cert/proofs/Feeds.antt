@@ -4,12 +4,12 @@ use Rattle.std.specs.List.{prefix_len}
 use borrow.Author.Tests.{eqb-true}
 use Rattle.fond_cert.specs.Feeds.{is_in_line, HasNoFeed}
 
--- nothing is left, or a line feed comes next
+-- a text is empty, or begins with a line feed
 abbrev pub EndsLine : List ℕ → Type 0
 EndsLine [] = Unit {0}
 EndsLine (b ∷ rest) = b ≡ 10
 
--- a text up to its first line feed, and what is left
+-- a text is a line without its line feed, followed by a rest that is empty or begins with a line feed
 abbrev pub IsLineCut : List ℕ → List ℕ → List ℕ → Type 0
 IsLineCut text piece rest = (text ≡ piece ++ rest) × HasNoFeed piece × EndsLine rest
 
@@ -31,8 +31,8 @@ cut (b ∷ text) = cut_at (is_in_line b) (prefix_len is_in_line text) b text ref
 pub line_cut : (text piece rest : List ℕ) (n : ℕ) → n ≡ prefix_len is_in_line text → piece ≡ take n text → rest ≡ drop n text → IsLineCut text piece rest
 line_cut text piece rest n e f g =
     let same : piece ≡ take (prefix_len is_in_line text) text = f ∙ ap (λ n. take n text) e in
-    let behind : rest ≡ drop (prefix_len is_in_line text) text = g ∙ ap (λ n. drop n text) e in
-    rw (same, behind) (cut text)
+    let further : rest ≡ drop (prefix_len is_in_line text) text = g ∙ ap (λ n. drop n text) e in
+    rw (same, further) (cut text)
 
 append_nil : (text : List ℕ) → text ++ [] ≡ text
 append_nil [] = refl
@@ -44,19 +44,19 @@ no_feed text piece [] h e =
     rw same h.1
 no_feed text piece (b ∷ rest) h e = absurd (omega (arith, e))
 
-pub with_feed : (text piece rest behind : List ℕ) (b : ℕ) → IsLineCut text piece rest → rest ≡ b ∷ behind → HasNoFeed piece × (text ≡ piece ++ (codes "\n" ++ behind))
-with_feed text piece rest behind b h e =
+pub with_feed : (text piece rest further : List ℕ) (b : ℕ) → IsLineCut text piece rest → rest ≡ b ∷ further → HasNoFeed piece × (text ≡ piece ++ (codes "\n" ++ further))
+with_feed text piece rest further b h e =
     let feed : b ≡ 10 = rw e at h.2 in
-    let next : rest ≡ 10 ∷ behind = e ∙ ap (λ c. c ∷ behind) feed in
+    let next : rest ≡ 10 ∷ further = e ∙ ap (λ c. c ∷ further) feed in
     (h.1, h.0 ∙ ap (λ t. piece ++ t) next)
 
 -- a text has no line feed, or a first one
-pub feed_or_none : (text : List ℕ) → HasNoFeed text ⊎ ((piece : List ℕ) × (behind : List ℕ) × HasNoFeed piece × (text ≡ piece ++ (codes "\n" ++ behind)))
+pub feed_or_none : (text : List ℕ) → HasNoFeed text ⊎ ((piece : List ℕ) × (further : List ℕ) × HasNoFeed piece × (text ≡ piece ++ (codes "\n" ++ further)))
 feed_or_none text =
     let n = prefix_len is_in_line text in
     by_rest (drop n text) (cut text) refl
   where
     by_rest : (rest : List ℕ) → IsLineCut text (take (prefix_len is_in_line text) text) (drop (prefix_len is_in_line text) text) → drop (prefix_len is_in_line text) text ≡ rest →
-        HasNoFeed text ⊎ ((piece : List ℕ) × (behind : List ℕ) × HasNoFeed piece × (text ≡ piece ++ (codes "\n" ++ behind)))
+        HasNoFeed text ⊎ ((piece : List ℕ) × (further : List ℕ) × HasNoFeed piece × (text ≡ piece ++ (codes "\n" ++ further)))
     by_rest [] h e = inl (no_feed text _ _ h (ap length e))
-    by_rest (b ∷ behind) h e = let found = with_feed text _ _ behind b h e in inr (take (prefix_len is_in_line text) text, behind, found.0, found.1)
+    by_rest (b ∷ further) h e = let found = with_feed text _ _ further b h e in inr (take (prefix_len is_in_line text) text, further, found.0, found.1)

@@ -1,4 +1,4 @@
--- What is cut into no parts has no form.
+-- A text that has no parts of a line has no form of one.
 use Rattle.std.proofs.Common.{◌≡◌, ℕ, ◌<◌, ◌+◌, ◌^◌, ◌||◌, nat_lt, Bool, true, false, IsTrue, List, [], ◌∷◌, ◌++◌, Some, None, All, length, map, if◌then◌else◌, codes, refl, sym, ap, ◌∙◌, arith}
 use Rattle.std.specs.List.{flat_map}
 use Rattle.std.specs.Str.{bytes_eq}
@@ -38,7 +38,7 @@ some_targets : (targets : List WrittenTarget) → 0 < length targets → 0 < len
 some_targets [] h = absurd (omega (arith, h))
 some_targets (target ∷ targets) h = omega arith
 
--- what is cut nowhere has no form between the header and the end
+-- a text that has no parts of a line has no form of a line between the header and the end line
 pub no_form : (rules : ℕ) (piece : List ℕ) → HasNoShape piece → HasNoForm (RuleDue rules) piece
 no_form rules piece none PolicyHeader next h d e = absurd (cc)
 no_form rules piece none (FairRule action outcome target literals) next h d e =
@@ -60,7 +60,7 @@ not_below n e = grind (arith, nat_tests, e)
 no_more : (rules : ℕ) → rules + 1 ≡ 2 ^ 32 → one_more rules ≡ None
 no_more rules e = ap (λ v. if v then Some (RuleDue (rules + 1)) else None) (not_below rules e)
 
--- behind as many rules as may stand, a line of a rule has no form
+-- after as many rules as are allowed, a line of a rule has no form
 pub no_room : (rules : ℕ) (piece rest : List ℕ) → rules + 1 ≡ 2 ^ 32 → piece ≡ codes "rule " ++ rest → HasNoForm (RuleDue rules) piece
 no_room rules piece rest full is PolicyHeader next h d e = absurd (cc)
 no_room rules piece rest full is (FairRule action outcome target literals) next h d e = let none = no_more rules full in absurd (cc)

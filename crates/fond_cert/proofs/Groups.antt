@@ -1,4 +1,5 @@
--- What reading leaves up to a closing parenthesis says of the text.
+-- The rest after leaves and their closing parenthesis, and atoms and actions at the beginning of a text.
+use Rattle.std.proofs.lemmas.Bool.{and_parts}
 use Rattle.std.proofs.Common.{◌≡◌, ℕ, ◌≤◌, ◌-◌, ◌==◌, ◌&&◌, Bool, true, false, IsTrue, List, [], ◌∷◌, ◌++◌, All, length, take, if◌then◌else◌, refl, sym, ap, ◌∙◌, arith, append_assoc, length-append}
 use Rattle.std.proofs.Math.Seq.{take-append_seam}
 use Rattle.std.specs.Prelude.{Some, None}
@@ -8,17 +9,13 @@ use borrow.Author.Tests.{eqb-true}
 use Rattle.fond_cert.specs.Lines.{is_plain_byte, IsPlainLeaf, IsGroup, spaced, group_text}
 use Rattle.fond_cert.specs.Parts.{IsGroupText, HasNoGroup, after_leaves}
 
-both : (a b : Bool) → (a && b) ≡ true → (a ≡ true) × (b ≡ true)
-both true b e = (refl, e)
-both false b e = cc
-
 over_leaf : (leaf more : List ℕ) → IsTrue (list_all is_plain_byte leaf) → after_leaves true (leaf ++ more) ≡ after_leaves true more
 over_leaf [] more h = refl
-over_leaf (b ∷ leaf) more h = let parts = both (is_plain_byte b) (list_all is_plain_byte leaf) h in rw parts.0 (over_leaf leaf more parts.1)
+over_leaf (b ∷ leaf) more h = let parts = and_parts (is_plain_byte b) (list_all is_plain_byte leaf) h in rw parts.0 (over_leaf leaf more parts.1)
 
 over_first : (leaf more : List ℕ) → IsPlainLeaf leaf → after_leaves false (leaf ++ more) ≡ after_leaves true more
 over_first [] more h = absurd (omega (arith, h.0))
-over_first (b ∷ leaf) more h = let parts = both (is_plain_byte b) (list_all is_plain_byte leaf) h.1 in rw parts.0 (over_leaf leaf more parts.1)
+over_first (b ∷ leaf) more h = let parts = and_parts (is_plain_byte b) (list_all is_plain_byte leaf) h.1 in rw parts.0 (over_leaf leaf more parts.1)
 
 over_spaced : (leaves : List (List ℕ)) (rest : List ℕ) → All IsPlainLeaf leaves → after_leaves true (spaced leaves ++ (41 ∷ rest)) ≡ Some rest
 over_spaced [] rest h = refl
@@ -27,11 +24,11 @@ over_spaced (leaf ∷ leaves) rest h =
     ∙ over_first leaf (spaced leaves ++ (41 ∷ rest)) (All-head IsPlainLeaf leaf leaves h)
     ∙ over_spaced leaves rest (All-tail IsPlainLeaf leaf leaves h)
 
--- the texts of an atom or action, with what stands behind it
+-- the text of an atom or action, followed by a rest
 group_apart : (leaf : List ℕ) (leaves : List (List ℕ)) (rest : List ℕ) → group_text (leaf ∷ leaves) ++ rest ≡ 40 ∷ (leaf ++ (spaced leaves ++ (41 ∷ rest)))
 group_apart leaf leaves rest = ap (λ t. 40 ∷ t) (append_assoc leaf (spaced leaves ++ (41 ∷ [])) rest ∙ ap (λ t. leaf ++ t) (append_assoc (spaced leaves) (41 ∷ []) rest))
 
--- what is read behind the parenthesis of an atom or action
+-- the rest after the parenthesis of an atom or action
 pub group_reads : (leaves : List (List ℕ)) (inner rest : List ℕ) → IsGroup leaves → 40 ∷ inner ≡ group_text leaves ++ rest → after_leaves false inner ≡ Some rest
 group_reads [] inner rest h e = absurd (omega (arith, h.0))
 group_reads (leaf ∷ leaves) inner rest h e =
@@ -40,7 +37,7 @@ group_reads (leaf ∷ leaves) inner rest h e =
     ∙ over_first leaf (spaced leaves ++ (41 ∷ rest)) (All-head IsPlainLeaf leaf leaves h.1)
     ∙ over_spaced leaves rest (All-tail IsPlainLeaf leaf leaves h.1)
 
--- what stands before a closing parenthesis: the rest of an open leaf, or a leaf, and more leaves
+-- the text before a closing parenthesis: the rest of an open leaf or a leaf, and more leaves
 abbrev Stands : Bool → List ℕ → List ℕ → Type 0
 Stands true text rest =
     (leaf : List ℕ) × (leaves : List (List ℕ)) × IsTrue (list_all is_plain_byte leaf) × All IsPlainLeaf leaves × (text ≡ leaf ++ (spaced leaves ++ (41 ∷ rest)))
@@ -76,7 +73,7 @@ stands : (v : Bool) (text rest : List ℕ) → after_leaves v text ≡ Some rest
 stands v [] rest e = absurd (cc)
 stands v (b ∷ text) rest e = stands_by v (is_plain_byte b) (b == 32) (b == 41) b text rest refl refl refl (stands true text rest) (stands false text rest) e
 
--- where no leaves end behind the parenthesis, no atom or action is in front
+-- a text begins with no atom or action if no leaves end after its parenthesis
 pub no_group : (text inner : List ℕ) → text ≡ 40 ∷ inner → after_leaves false inner ≡ None → HasNoGroup text
 no_group text inner e none leaves rest h f = let some = group_reads leaves inner rest h (sym e ∙ f) in absurd (cc)
 
@@ -101,7 +98,7 @@ found_group text inner rest e some =
 pub rest_within : (text inner rest : List ℕ) → text ≡ 40 ∷ inner → after_leaves false inner ≡ Some rest → length rest ≤ length text
 rest_within text inner rest e some = let h = some_group text inner rest e some in omega (arith, ap length h.2, length-append (group_text h.0) rest)
 
--- texts that begin with an atom or action have the same behind it
+-- equal texts that begin with an atom or action have the same one and the same rest
 pub same_rest : (a b : List (List ℕ)) (s t : List ℕ) → IsGroup a → IsGroup b → group_text a ++ s ≡ group_text b ++ t → s ≡ t
 same_rest [] b s t h k e = absurd (omega (arith, h.0))
 same_rest (leaf ∷ leaves) b s t h k e =

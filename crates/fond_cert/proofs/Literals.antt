@@ -16,30 +16,30 @@ same_head a b s t e = cc
 pub same_tail : (a b : ℕ) (s t : List ℕ) → a ∷ s ≡ b ∷ t → s ≡ t
 same_tail a b s t e = cc
 
-pub behind_sign : (a b : Bool) (s t : List ℕ) → sign_text a ++ s ≡ sign_text b ++ t → s ≡ t
-behind_sign true true s t e = same_tail 43 43 s t e
-behind_sign true false s t e = let h = same_head 43 45 s t e in absurd (omega (arith, h))
-behind_sign false true s t e = let h = same_head 45 43 s t e in absurd (omega (arith, h))
-behind_sign false false s t e = same_tail 45 45 s t e
+pub after_sign : (a b : Bool) (s t : List ℕ) → sign_text a ++ s ≡ sign_text b ++ t → s ≡ t
+after_sign true true s t e = same_tail 43 43 s t e
+after_sign true false s t e = let h = same_head 43 45 s t e in absurd (omega (arith, h))
+after_sign false true s t e = let h = same_head 45 43 s t e in absurd (omega (arith, h))
+after_sign false false s t e = same_tail 45 45 s t e
 
-pub behind_space : (s t : List ℕ) → 32 ∷ s ≡ 32 ∷ t → s ≡ t
-behind_space s t e = same_tail 32 32 s t e
+pub after_space : (s t : List ℕ) → 32 ∷ s ≡ 32 ∷ t → s ≡ t
+after_space s t e = same_tail 32 32 s t e
 
 pub no_space : (text : List ℕ) → ((rest : List ℕ) → text ≢ 32 ∷ rest) → HasNoLiteral text
 no_space text h literal rest group e = h _ (e ∙ literal_apart literal rest)
 
 pub no_sign : (text inner : List ℕ) → text ≡ 32 ∷ inner → ((sign : Bool) (rest : List ℕ) → inner ≢ sign_text sign ++ rest) → HasNoLiteral text
 no_sign text inner i h literal rest group e =
-    h literal.sign (group_text literal.leaves ++ rest) (behind_space _ _ (sym i ∙ e ∙ literal_apart literal rest))
+    h literal.sign (group_text literal.leaves ++ rest) (after_space _ _ (sym i ∙ e ∙ literal_apart literal rest))
 
-pub no_atom : (text inner behind : List ℕ) (sign : Bool) → text ≡ 32 ∷ inner → inner ≡ sign_text sign ++ behind → HasNoGroup behind → HasNoLiteral text
-no_atom text inner behind sign i j h literal rest group e =
-    h literal.leaves rest group (behind_sign sign literal.sign _ _ (sym j ∙ behind_space _ _ (sym i ∙ e ∙ literal_apart literal rest)))
+pub no_atom : (text inner further : List ℕ) (sign : Bool) → text ≡ 32 ∷ inner → inner ≡ sign_text sign ++ further → HasNoGroup further → HasNoLiteral text
+no_atom text inner further sign i j h literal rest group e =
+    h literal.leaves rest group (after_sign sign literal.sign _ _ (sym j ∙ after_space _ _ (sym i ∙ e ∙ literal_apart literal rest)))
 
 pub no_literals_left : (text : List ℕ) → text ≡ [] → AreLiterals text
 no_literals_left text e = ([], All-nil (λ (literal : WrittenLiteral). IsGroup literal.leaves), e)
 
--- a text that begins with a literal is one of literals exactly where what stands behind is one
+-- a text that begins with a literal is one of literals if and only if the rest is
 pub literals_more : (text atom rest : List ℕ) (sign : Bool) → IsGroupText atom → text ≡ 32 ∷ (sign_text sign ++ (atom ++ rest)) → AreLiterals rest → AreLiterals text
 literals_more text atom rest sign group e h =
     let literal : WrittenLiteral = record { sign = sign; leaves = group.0 } in (
@@ -53,8 +53,8 @@ literals_less_by : (text atom rest : List ℕ) (sign : Bool) → IsGroupText ato
 literals_less_by text atom rest sign group e [] h f = absurd (cc)
 literals_less_by text atom rest sign group e (literal ∷ literals) h f =
     let P = λ (literal : WrittenLiteral). IsGroup literal.leaves in
-    let apart = behind_space _ _ (sym e ∙ f ∙ literal_apart literal (flat_map literal_text literals)) in
-    let atoms = behind_sign sign literal.sign _ _ apart in
+    let apart = after_space _ _ (sym e ∙ f ∙ literal_apart literal (flat_map literal_text literals)) in
+    let atoms = after_sign sign literal.sign _ _ apart in
     (literals, All-tail P literal literals h, same_rest group.0 literal.leaves _ _ group.1 (All-head P literal literals h) (ap (λ t. t ++ rest) (sym group.2) ∙ atoms))
 
 pub literals_less : (text atom rest : List ℕ) (sign : Bool) → IsGroupText atom → text ≡ 32 ∷ (sign_text sign ++ (atom ++ rest)) → AreLiterals text → AreLiterals rest

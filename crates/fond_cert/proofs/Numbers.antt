@@ -1,19 +1,17 @@
 -- Digits and their value.
-use Rattle.std.proofs.Common.{◌≡◌, ◌≢◌, ℕ, ◌+◌, ◌-◌, ◌*◌, ◌^◌, ◌<◌, ◌≤◌, ◌==◌, ◌&&◌, ◌||◌, not, nat_lt, Bool, true, false, List, [], ◌∷◌, length, get_or, refl, sym, ap, ◌∙◌, arith}
-use Rattle.std.specs.Char.{is_ascii_digit, digit_value}
+use Rattle.std.proofs.lemmas.Bool.{and_parts}
+use Rattle.std.proofs.Common.{◌≡◌, ◌≢◌, ℕ, ◌^◌, ◌<◌, ◌≤◌, ◌==◌, ◌&&◌, ◌||◌, not, nat_lt, Bool, true, false, List, [], ◌∷◌, length, get_or, refl, sym, ap, ◌∙◌, arith}
+use Rattle.std.specs.Char.{is_ascii_digit}
 use Rattle.std.specs.Int.{IsInRange}
 use Rattle.std.specs.List.{list_all}
-use Rattle.std.specs.Str.Parse.{digits_value, digits_value_after}
+use Rattle.std.specs.Str.Parse.{digits_value}
 use Rattle.std.specs.Fmt.{decimal}
 use Rattle.std.proofs.lemmas.Bool.Decides.{nat_tests}
 use Rattle.std.proofs.lemmas.Str.Parse.{IsDigitsTest, IsNumeralModel, numerals_by_value}
 use Rattle.std.proofs.lemmas.Fmt.{decimal-digits_value, digits_value-decimal}
 use borrow.Author.Tests.{eqb-true}
 use Rattle.fond_cert.specs.Lines.{is_number}
-use Rattle.fond_cert.proofs.Cuts.{both, number_first}
-
-pub digit_value_is : (b : ℕ) → is_ascii_digit b ≡ true → (48 ≤ b) × (b ≤ 57) × (digit_value b ≡ b - 48)
-digit_value_is b e = grind (arith, nat_tests)
+use Rattle.fond_cert.proofs.Cuts.{number_first}
 
 in_range : (b : ℕ) → is_ascii_digit b ≡ true → IsInRange 48 57 b
 in_range b e = grind (arith, nat_tests)
@@ -24,7 +22,7 @@ from_range b h = grind (arith, nat_tests)
 tells : IsDigitsTest (λ ds. list_all is_ascii_digit ds ≡ true)
 tells = record {
   empty = refl;
-  parts = λ c cs e. let k = both (is_ascii_digit c) (list_all is_ascii_digit cs) e in (in_range c k.0, k.1);
+  parts = λ c cs e. let k = and_parts (is_ascii_digit c) (list_all is_ascii_digit cs) e in (in_range c k.0, k.1);
   more = λ c cs k e. rw (from_range c k) e;
 }
 
@@ -42,8 +40,8 @@ zero_alone false b rest e f z = absurd (grind (arith, nat_tests))
 canonical : (digits : List ℕ) → is_number digits ≡ true → (0 < length digits) × (get_or digits 0 0 ≡ 48 → length digits ≡ 1)
 canonical [] e = absurd (cc)
 canonical (b ∷ rest) e =
-    let p = both (is_ascii_digit b && (not (b == 48) || length rest == 0)) (list_all is_ascii_digit rest) e in
-    let q = both (is_ascii_digit b) (not (b == 48) || length rest == 0) p.0 in
+    let p = and_parts (is_ascii_digit b && (not (b == 48) || length rest == 0)) (list_all is_ascii_digit rest) e in
+    let q = and_parts (is_ascii_digit b) (not (b == 48) || length rest == 0) p.0 in
     (omega arith, zero_alone (b == 48) b rest refl q.1)
 
 -- the digits of a number below 2 ^ 64 are what is written for their value

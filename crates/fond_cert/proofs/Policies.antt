@@ -52,22 +52,22 @@ no_rules task text rest e = record { lines = []; are_rules = tt; few = omega ari
 pub rest_short : (task : Task) (text rest : List ℕ) (rules : List Rule) → RulesSo task text rest rules → length rest ≤ length text
 rest_short task text rest rules h = omega (arith, ap length h.spelled, length-append (lines_text (PolicyHeader ∷ h.lines)) rest)
 
--- lines with one more, and what stands behind it
-text_more : (lines : List WrittenLine) (line : WrittenLine) (behind : List ℕ) → lines_text lines ++ (line_text line ++ (codes "\n" ++ behind)) ≡ lines_text (lines ++ (line ∷ [])) ++ behind
-text_more lines line behind =
-    ap (λ t. lines_text lines ++ t) (sym (append_assoc (line_text line) (codes "\n") behind) ∙ ap (λ t. t ++ behind) (sym (append-nil (line_text line ++ codes "\n"))))
-    ∙ sym (append_assoc (lines_text lines) (lines_text (line ∷ [])) behind)
-    ∙ ap (λ t. t ++ behind) (sym (flat_map-append (λ (line : WrittenLine). line_text line ++ codes "\n") lines (line ∷ [])))
+-- the text of lines with one more, followed by a rest
+text_more : (lines : List WrittenLine) (line : WrittenLine) (further : List ℕ) → lines_text lines ++ (line_text line ++ (codes "\n" ++ further)) ≡ lines_text (lines ++ (line ∷ [])) ++ further
+text_more lines line further =
+    ap (λ t. lines_text lines ++ t) (sym (append_assoc (line_text line) (codes "\n") further) ∙ ap (λ t. t ++ further) (sym (append-nil (line_text line ++ codes "\n"))))
+    ∙ sym (append_assoc (lines_text lines) (lines_text (line ∷ [])) further)
+    ∙ ap (λ t. t ++ further) (sym (flat_map-append (λ (line : WrittenLine). line_text line ++ codes "\n") lines (line ∷ [])))
 
-pub one_more_rule : (task : Task) (text rest piece behind : List ℕ) (before after : List Rule) → RulesSo task text rest before → rest ≡ piece ++ (codes "\n" ++ behind) →
-    IsGrown task before piece None after → RulesSo task text behind after
-one_more_rule task text rest piece behind before after h e grown =
+pub one_more_rule : (task : Task) (text rest piece further : List ℕ) (before after : List Rule) → RulesSo task text rest before → rest ≡ piece ++ (codes "\n" ++ further) →
+    IsGrown task before piece None after → RulesSo task text further after
+one_more_rule task text rest piece further before after h e grown =
     let rule = grown.0 in
     let read = grown.3 in record {
       lines = h.lines ++ (read.line ∷ []);
       are_rules = rw grown.1 (all_zipped_more (IsAcceptedRule task) before h.lines rule read.line h.are_rules (read.proper, read.right, read.rule_is));
       few = grown.2;
-      spelled = h.spelled ∙ ap (λ t. lines_text (PolicyHeader ∷ h.lines) ++ t) (e ∙ ap (λ t. t ++ (codes "\n" ++ behind)) read.spelled) ∙ text_more (PolicyHeader ∷ h.lines) read.line behind;
+      spelled = h.spelled ∙ ap (λ t. lines_text (PolicyHeader ∷ h.lines) ++ t) (e ∙ ap (λ t. t ++ (codes "\n" ++ further)) read.spelled) ∙ text_more (PolicyHeader ∷ h.lines) read.line further;
     }
 
 lead_so : (task : Task) (text rest : List ℕ) (rules : List Rule) → (h : RulesSo task text rest rules) → Lead task HeaderDue (PolicyHeader ∷ h.lines) (RuleDue (length rules))
@@ -94,21 +94,21 @@ line_within : (task : Task) (due : Due) (piece : List ℕ) (code at : ℕ) → I
 line_within task due piece code at (inl h) = omega (arith, h.2)
 line_within task due piece code at (inr h) = let within = refusal_within task h.0 (record { code = code; at = at }) h.5 in omega (arith, within, ap length h.4)
 
-pub within_rest : (task : Task) (rest piece behind : List ℕ) (rules : ℕ) (error : LineError) → rest ≡ piece ++ (codes "\n" ++ behind) → LineRefuses (λ (refused : Refused). IsRefusedLine task (RuleDue rules) piece refused.code refused.at) error → LineRefuses (λ (refused : Refused). refused.at ≤ length rest) error
-within_rest task rest piece behind rules NoMemory e h = tt
-within_rest task rest piece behind rules (RefusedLine code at) e h = omega (arith, line_within task (RuleDue rules) piece code at h, ap length e, length-append piece (codes "\n" ++ behind))
+pub within_rest : (task : Task) (rest piece further : List ℕ) (rules : ℕ) (error : LineError) → rest ≡ piece ++ (codes "\n" ++ further) → LineRefuses (λ (refused : Refused). IsRefusedLine task (RuleDue rules) piece refused.code refused.at) error → LineRefuses (λ (refused : Refused). refused.at ≤ length rest) error
+within_rest task rest piece further rules NoMemory e h = tt
+within_rest task rest piece further rules (RefusedLine code at) e h = omega (arith, line_within task (RuleDue rules) piece code at h, ap length e, length-append piece (codes "\n" ++ further))
 
-pub line_fault : (task : Task) (text rest piece behind : List ℕ) (rules : List Rule) (error : LineError) (result : CertError) → RulesSo task text rest rules → HasNoFeed piece → rest ≡ piece ++ (codes "\n" ++ behind) →
+pub line_fault : (task : Task) (text rest piece further : List ℕ) (rules : List Rule) (error : LineError) (result : CertError) → RulesSo task text rest rules → HasNoFeed piece → rest ≡ piece ++ (codes "\n" ++ further) →
     LineRefuses (λ (refused : Refused). IsRefusedLine task (RuleDue (length rules)) piece refused.code refused.at) error → IsPlaced (length text - length rest) error result → CertRefuses (IsPolicyFault task text) result
-line_fault task text rest piece behind rules (RefusedLine code at) result h whole e refused placed = rw placed (fault_at task text rest rules code at h (inr (piece, behind, e, whole, refused)))
-line_fault task text rest piece behind rules NoMemory result h whole e refused placed = rw placed tt
+line_fault task text rest piece further rules (RefusedLine code at) result h whole e refused placed = rw placed (fault_at task text rest rules code at h (inr (piece, further, e, whole, refused)))
+line_fault task text rest piece further rules NoMemory result h whole e refused placed = rw placed tt
 
 pub end_fault : (task : Task) (text rest : List ℕ) (rules : List Rule) → RulesSo task text rest rules → HasNoFeed rest → IsPolicyFault task text 1 (length text - length rest + 0)
 end_fault task text rest rules h none = fault_at task text rest rules 1 0 h (inl (none, refl, refl))
 
--- where one line alone is allowed, a text that does not begin with it is refused
+-- if one line alone is allowed, a text that does not begin with it is refused
 not_begun : (task : Task) (due : Due) (line : WrittenLine) (text : List ℕ) → ((other : WrittenLine) (next : Due) → due_after due other ≡ Some next → other ≡ line) →
-    ((more : List ℕ) → text ≢ line_text line ++ (codes "\n" ++ more)) → HasNoFeed text ⊎ ((piece : List ℕ) × (behind : List ℕ) × HasNoFeed piece × (text ≡ piece ++ (codes "\n" ++ behind))) → IsRefusedRest task due text 1 0
+    ((more : List ℕ) → text ≢ line_text line ++ (codes "\n" ++ more)) → HasNoFeed text ⊎ ((piece : List ℕ) × (further : List ℕ) × HasNoFeed piece × (text ≡ piece ++ (codes "\n" ++ further))) → IsRefusedRest task due text 1 0
 not_begun task due line text only none (inl whole) = inl (whole, refl, refl)
 not_begun task due line text only none (inr h) =
     inr (h.0, h.1, h.3, h.2, inl (λ other next proper allowed e. none h.1 (h.3 ∙ ap (λ t. t ++ (codes "\n" ++ h.1)) (e ∙ ap line_text (only other next allowed))), refl, refl))
@@ -139,22 +139,22 @@ header_fault task text none = record {
   byte_is = refl;
 }
 
-module _ (task : Task) (text rest piece behind : List ℕ) (rules : List Rule) (reach : ℕ) (h : RulesSo task text rest rules) (e : rest ≡ piece ++ (codes "\n" ++ behind)) (read : ReadsReach task piece reach) where
+module _ (task : Task) (text rest piece further : List ℕ) (rules : List Rule) (reach : ℕ) (h : RulesSo task text rest rules) (e : rest ≡ piece ++ (codes "\n" ++ further)) (read : ReadsReach task piece reach) where
   abbrev reached : List WrittenLine
   reached = PolicyHeader ∷ (h.lines ++ (ReachLine (decimal reach) ∷ []))
 
   lead_reach : Lead task HeaderDue reached EndDue
   lead_reach = lead_more task (PolicyHeader ∷ h.lines) (ReachLine (decimal reach) ∷ []) HeaderDue (RuleDue (length rules)) EndDue (lead_so task text rest rules h) (read.proper, read.right, (EndDue, refl, refl))
 
-  reach_split : text ≡ lines_text reached ++ behind
+  reach_split : text ≡ lines_text reached ++ further
   reach_split =
-      h.spelled ∙ ap (λ t. lines_text (PolicyHeader ∷ h.lines) ++ t) (e ∙ ap (λ t. t ++ (codes "\n" ++ behind)) read.spelled)
-      ∙ text_more (PolicyHeader ∷ h.lines) (ReachLine (decimal reach)) behind
+      h.spelled ∙ ap (λ t. lines_text (PolicyHeader ∷ h.lines) ++ t) (e ∙ ap (λ t. t ++ (codes "\n" ++ further)) read.spelled)
+      ∙ text_more (PolicyHeader ∷ h.lines) (ReachLine (decimal reach)) further
 
-  pub after_short : length behind ≤ length text
-  after_short = omega (arith, ap length reach_split, length-append (lines_text reached) behind)
+  pub after_short : length further ≤ length text
+  after_short = omega (arith, ap length reach_split, length-append (lines_text reached) further)
 
-  pub policy_read : behind ≡ codes "end\n" → IsPolicyText task rules reach text
+  pub policy_read : further ≡ codes "end\n" → IsPolicyText task rules reach text
   policy_read end = record {
     lines = h.lines;
     are_rules = h.are_rules;
@@ -166,16 +166,16 @@ module _ (task : Task) (text rest piece behind : List ℕ) (rules : List Rule) (
         ∙ ap (λ l. lines_text (PolicyHeader ∷ l)) (append_assoc h.lines (ReachLine (decimal reach) ∷ []) (EndLine ∷ []));
   }
 
-  pub misplaced_fault : (left : List ℕ) → IsMisplaced behind left → IsPolicyFault task text 1 (length text - length left + 0)
+  pub misplaced_fault : (left : List ℕ) → IsMisplaced further left → IsPolicyFault task text 1 (length text - length left + 0)
   misplaced_fault left (inl m) = record {
     lines = reached;
     due = EndDue;
     lead = lead_reach;
-    rest = behind;
+    rest = further;
     split = reach_split;
     at = 0;
-    refused = not_begun task EndDue EndLine behind only_end m.1 (feed_or_none behind);
-    byte_is = ap (λ t. length text - length t + 0) m.0 ∙ at_byte task text (lines_text reached) behind 1 0 reach_split;
+    refused = not_begun task EndDue EndLine further only_end m.1 (feed_or_none further);
+    byte_is = ap (λ t. length text - length t + 0) m.0 ∙ at_byte task text (lines_text reached) further 1 0 reach_split;
   }
   misplaced_fault left (inr m) =
       let split : text ≡ lines_text (reached ++ (EndLine ∷ [])) ++ left = reach_split ∙ ap (λ t. lines_text reached ++ t) m.0 ∙ text_more reached EndLine left in record {
@@ -189,6 +189,6 @@ module _ (task : Task) (text rest piece behind : List ℕ) (rules : List Rule) (
         byte_is = at_byte task text (lines_text (reached ++ (EndLine ∷ []))) left 1 0 split;
       }
 
-  pub misplaced_short : (left : List ℕ) → IsMisplaced behind left → length left ≤ length text
+  pub misplaced_short : (left : List ℕ) → IsMisplaced further left → length left ≤ length text
   misplaced_short left (inl m) = omega (arith, ap length m.0, after_short)
   misplaced_short left (inr m) = omega (arith, ap length m.0, after_short)

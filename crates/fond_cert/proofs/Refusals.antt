@@ -72,7 +72,7 @@ order_within None false refused bound h e = let same : 0 ≡ refused.at = ap at_
     at_of None = 0
     at_of (Some found) = found.at
 
--- a refusal stands within its line
+-- the byte of a refusal is within its line
 pub refusal_within : (task : Task) (line : WrittenLine) (refused : Refused) → line_refusal task line ≡ Some refused → refused.at ≤ length (line_text line)
 refusal_within task line refused e =
     order_within (first_refused task 0 (line_pieces line)) (is_ordered task line) refused (length (line_text line))

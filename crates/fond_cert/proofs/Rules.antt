@@ -44,7 +44,7 @@ no_action_no_line piece inner other_kind e none (FairShape action outcome target
 no_action_no_line piece inner other_kind e none (UnfairShape action targets literals) h f = no_group_here inner action _ none h.0 (after_rule piece inner _ e f)
 no_action_no_line piece inner other_kind e none (ReachShape count) h f = other_kind _ f
 
--- what stands behind the action of a rule
+-- the rest after the action of a rule
 after_action : (piece inner action rest other body : List ℕ) → piece ≡ codes "rule " ++ inner → (IsGroupText action × (inner ≡ action ++ rest)) →
     IsGroupText other → piece ≡ codes "rule " ++ (other ++ body) → rest ≡ body
 after_action piece inner action rest other body e group h f =

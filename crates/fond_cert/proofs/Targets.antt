@@ -14,7 +14,7 @@ use Rattle.fond_cert.specs.Checked.{as_target, AreTargetsText, AreTargetsAt, IsT
 use Rattle.fond_cert.proofs.Cuts.{same_word, target_no_space}
 use Rattle.fond_cert.proofs.Literals.{same_tail}
 
--- what a word writes
+-- a word is the text of a written target
 abbrev pub Writes : List ℕ → WrittenTarget → Type 0
 Writes word target = IsProperTarget target × (piece_text (target_piece target) ≡ word)
 
@@ -40,11 +40,11 @@ spelled (word ∷ words) h =
     ap (λ t. 32 ∷ (word ++ t)) (spelled words (All-tail P word words h))
     ∙ ap (λ t. 32 ∷ (t ++ flat_map piece_text (target_pieces (map as_target words)))) (sym (writes word (All-head P word words h)).1)
 
--- what a text of targets writes
+-- the targets that a text of targets writes
 pub as_written : (text : List ℕ) → AreTargetsText text → (written : List WrittenTarget) × All IsProperTarget written × (text ≡ flat_map piece_text (target_pieces written))
 as_written text h = (map as_target h.0, proper h.0 h.1, h.2 ∙ spelled h.0 h.1)
 
--- what is left of targets, where these were read so far
+-- the targets that are left, after these were read
 pub record LeftTargets (at : ℕ) (text rest : List ℕ) (targets : List Target) : Type 0 where
   pub whole : List (List ℕ)
   pub left : List (List ℕ)
@@ -73,20 +73,20 @@ ends_spaced : (words : List (List ℕ)) → EndsWord (spaced words)
 ends_spaced [] = tt
 ends_spaced (word ∷ words) = refl
 
--- what comes next of the words that are left
-record NextWord (left : List (List ℕ)) (word behind : List ℕ) : Type 0 where
+-- the next of the words that are left
+record NextWord (left : List (List ℕ)) (word further : List ℕ) : Type 0 where
   pub more : List (List ℕ)
   pub left_is : left ≡ word ∷ more
-  pub behind_is : behind ≡ spaced more
+  pub behind_is : further ≡ spaced more
   pub right : is_target word ≡ true
   pub more_right : AreTargets more
 
-next_word : (left : List (List ℕ)) (inner word behind : List ℕ) → AreTargets left → 32 ∷ inner ≡ spaced left → IsCut inner word behind → NextWord left word behind
-next_word [] inner word behind h e cut = absurd (cc)
-next_word (first ∷ more) inner word behind h e cut =
+next_word : (left : List (List ℕ)) (inner word further : List ℕ) → AreTargets left → 32 ∷ inner ≡ spaced left → IsCut inner word further → NextWord left word further
+next_word [] inner word further h e cut = absurd (cc)
+next_word (first ∷ more) inner word further h e cut =
     let P = λ (word : List ℕ). IsTrue (is_target word) in
     let right = All-head P first more h in
-    let same = same_word word first behind (spaced more) cut.1 (target_no_space first right) cut.2 (ends_spaced more) (sym cut.0 ∙ same_tail 32 32 inner (first ++ spaced more) e) in
+    let same = same_word word first further (spaced more) cut.1 (target_no_space first right) cut.2 (ends_spaced more) (sym cut.0 ∙ same_tail 32 32 inner (first ++ spaced more) e) in
     record {
       more = more;
       left_is = ap (λ w. w ∷ more) (sym same.0);
@@ -95,11 +95,11 @@ next_word (first ∷ more) inner word behind h e cut =
       more_right = All-tail P first more h;
     }
 
-next_is : (at : ℕ) (text rest inner word behind : List ℕ) (targets : List Target) → (h : LeftTargets at text rest targets) → rest ≡ 32 ∷ inner → IsCut inner word behind → NextWord h.left word behind
-next_is at text rest inner word behind targets h e cut = next_word h.left inner word behind h.left_right (sym e ∙ h.left_is) cut
+next_is : (at : ℕ) (text rest inner word further : List ℕ) (targets : List Target) → (h : LeftTargets at text rest targets) → rest ≡ 32 ∷ inner → IsCut inner word further → NextWord h.left word further
+next_is at text rest inner word further targets h e cut = next_word h.left inner word further h.left_right (sym e ∙ h.left_is) cut
 
-pub next_right : (at : ℕ) (text rest inner word behind : List ℕ) (targets : List Target) → LeftTargets at text rest targets → rest ≡ 32 ∷ inner → IsCut inner word behind → IsTrue (is_target word)
-next_right at text rest inner word behind targets h e cut = (next_is at text rest inner word behind targets h e cut).right
+pub next_right : (at : ℕ) (text rest inner word further : List ℕ) (targets : List Target) → LeftTargets at text rest targets → rest ≡ 32 ∷ inner → IsCut inner word further → IsTrue (is_target word)
+next_right at text rest inner word further targets h e cut = (next_is at text rest inner word further targets h e cut).right
 
 -- targets as they are written, with one more
 written_more : (targets : List Target) (target : Target) (more : List WrittenTarget) → written_targets (targets ++ (target ∷ [])) ++ more ≡ written_targets targets ++ (written_target target ∷ more)
@@ -110,35 +110,35 @@ over_word : (task : Task) (at : ℕ) (word : List ℕ) (more : List WrittenTarge
     first_refused task at (target_pieces (as_target word ∷ more)) ≡ refused_or (piece_code task (target_piece (as_target word))) (at + 1) (first_refused task (at + 1 + length word) (target_pieces more))
 over_word task at word more h = ap (λ t. refused_or (piece_code task (target_piece (as_target word))) (at + 1) (first_refused task (at + 1 + length t) (target_pieces more))) (writes word h).1
 
-past : (at : ℕ) (text rest inner word behind : List ℕ) → rest ≡ 32 ∷ inner → inner ≡ word ++ behind → length rest ≤ length text → at + (length text - length rest) + 1 + length word ≡ at + (length text - length behind)
-past at text rest inner word behind e f short = omega (arith, ap length e, ap length f, length-append word behind)
+past : (at : ℕ) (text rest inner word further : List ℕ) → rest ≡ 32 ∷ inner → inner ≡ word ++ further → length rest ≤ length text → at + (length text - length rest) + 1 + length word ≡ at + (length text - length further)
+past at text rest inner word further e f short = omega (arith, ap length e, ap length f, length-append word further)
 
-pub one_read : (at : ℕ) (text rest inner word behind : List ℕ) (targets : List Target) (target : Target) → LeftTargets at text rest targets → rest ≡ 32 ∷ inner → IsCut inner word behind →
-    ((task : Task) → piece_code task (target_piece (as_target word)) ≡ None) → as_target word ≡ written_target target → LeftTargets at text behind (targets ++ (target ∷ []))
-one_read at text rest inner word behind targets target h e cut right named =
-    let next = next_is at text rest inner word behind targets h e cut in record {
+pub one_read : (at : ℕ) (text rest inner word further : List ℕ) (targets : List Target) (target : Target) → LeftTargets at text rest targets → rest ≡ 32 ∷ inner → IsCut inner word further →
+    ((task : Task) → piece_code task (target_piece (as_target word)) ≡ None) → as_target word ≡ written_target target → LeftTargets at text further (targets ++ (target ∷ []))
+one_read at text rest inner word further targets target h e cut right named =
+    let next = next_is at text rest inner word further targets h e cut in record {
       whole = h.whole;
       left = next.more;
       whole_right = h.whole_right;
       left_right = next.more_right;
       whole_is = h.whole_is;
       left_is = next.behind_is;
-      short = omega (arith, ap length e, ap length cut.0, length-append word behind, h.short);
+      short = omega (arith, ap length e, ap length cut.0, length-append word further, h.short);
       refusal = λ task.
           h.refusal task
           ∙ ap (λ l. first_refused task (at + (length text - length rest)) (target_pieces (map as_target l))) next.left_is
           ∙ over_word task (at + (length text - length rest)) word (map as_target next.more) next.right
           ∙ ap (λ c. refused_or c (at + (length text - length rest) + 1) (first_refused task (at + (length text - length rest) + 1 + length word) (target_pieces (map as_target next.more)))) (right task)
-          ∙ ap (λ p. first_refused task p (target_pieces (map as_target next.more))) (past at text rest inner word behind e cut.0 h.short);
+          ∙ ap (λ p. first_refused task p (target_pieces (map as_target next.more))) (past at text rest inner word further e cut.0 h.short);
       named =
           h.named ∙ ap (λ l. written_targets targets ++ map as_target l) next.left_is
           ∙ ap (λ t. written_targets targets ++ (t ∷ map as_target next.more)) named ∙ sym (written_more targets target (map as_target next.more));
     }
 
-pub one_refused : (at : ℕ) (text rest inner word behind : List ℕ) (targets : List Target) → LeftTargets at text rest targets → rest ≡ 32 ∷ inner → IsCut inner word behind →
+pub one_refused : (at : ℕ) (text rest inner word further : List ℕ) (targets : List Target) → LeftTargets at text rest targets → rest ≡ 32 ∷ inner → IsCut inner word further →
     ((task : Task) → piece_code task (target_piece (as_target word)) ≡ Some 4) → (task : Task) → IsTargetRefused task at text (record { code = 4; at = at + (length text - length inner) })
-one_refused at text rest inner word behind targets h e cut wrong task =
-    let next = next_is at text rest inner word behind targets h e cut in
+one_refused at text rest inner word further targets h e cut wrong task =
+    let next = next_is at text rest inner word further targets h e cut in
     let p = at + (length text - length rest) in
     let there : p + 1 ≡ at + (length text - length inner) = omega (arith, ap length e, h.short) in record {
       written = map as_target h.whole;
@@ -152,7 +152,7 @@ one_refused at text rest inner word behind targets h e cut wrong task =
           ∙ ap (λ q. Some (record { code = 4; at = q })) there;
     }
 
-none_left : (words : List (List ℕ)) (rest : List ℕ) → ((behind : List ℕ) → rest ≢ 32 ∷ behind) → rest ≡ spaced words → words ≡ []
+none_left : (words : List (List ℕ)) (rest : List ℕ) → ((further : List ℕ) → rest ≢ 32 ∷ further) → rest ≡ spaced words → words ≡ []
 none_left [] rest none e = refl
 none_left (word ∷ words) rest none e = absurd (none (word ++ spaced words) e)
 
@@ -160,7 +160,7 @@ append_nil : (targets : List WrittenTarget) → targets ++ [] ≡ targets
 append_nil [] = refl
 append_nil (target ∷ targets) = ap (λ t. target ∷ t) (append_nil targets)
 
-pub all_read : (at : ℕ) (text rest : List ℕ) (targets : List Target) → LeftTargets at text rest targets → ((behind : List ℕ) → rest ≢ 32 ∷ behind) → (task : Task) → AreTargetsAt task at text targets
+pub all_read : (at : ℕ) (text rest : List ℕ) (targets : List Target) → LeftTargets at text rest targets → ((further : List ℕ) → rest ≢ 32 ∷ further) → (task : Task) → AreTargetsAt task at text targets
 all_read at text rest targets h none task =
     let end = none_left h.left rest none h.left_is in record {
       written = map as_target h.whole;

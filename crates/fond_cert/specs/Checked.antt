@@ -1,5 +1,5 @@
 -- What is read from the parts of a line, and which of its parts is refused.
-use Rattle.std.specs.Prelude.{◌≡◌, ◌≢◌, ◌⊎◌, ℕ, ◌<◌, ◌≤◌, ◌+◌, ◌^◌, nat_lt, Bool, true, false, List, [], ◌∷◌, ◌++◌, Option, Some, None, All, length, replicate, if◌then◌else◌, codes}
+use Rattle.std.specs.Prelude.{◌≡◌, ◌≢◌, ◌⊎◌, ℕ, ◌<◌, ◌+◌, ◌^◌, nat_lt, Bool, true, false, List, [], ◌∷◌, ◌++◌, Option, Some, None, All, length, replicate, if◌then◌else◌, codes}
 use Rattle.std.specs.List.{flat_map}
 use Rattle.std.specs.Fmt.{decimal}
 use Rattle.std.specs.Str.{bytes_eq}
@@ -10,11 +10,10 @@ use Rattle.fond_cert.specs.declared.error.CertError.{CertError}
 use Rattle.fond_cert.specs.declared.error.CertError.TheVariants.{Refused as RefusedText, NoMemory as WithoutMemory}
 use Rattle.fond_cert.specs.declared.error.LineError.{LineError}
 use Rattle.fond_cert.specs.declared.error.LineError.TheVariants.{Refused as RefusedLine, NoMemory}
-use Rattle.fond_cert.specs.Lines.{IsGroup, spaced, WrittenTarget, GoalWord, NumberWord, IsProperTarget, WrittenLiteral, WrittenLine, PolicyHeader, FairRule, UnfairRule, ReachLine, EndLine, line_text, IsProper, piece_text, target_pieces, literal_pieces}
+use Rattle.fond_cert.specs.Lines.{IsGroup, spaced, WrittenTarget, GoalWord, NumberWord, IsProperTarget, WrittenLiteral, WrittenLine, FairRule, UnfairRule, ReachLine, line_text, IsProper, piece_text, target_pieces, literal_pieces}
 use Rattle.fond_cert.specs.Parts.{AreTargets}
 use Rattle.fond_cert.specs.Words.{Refused, first_refused, atom_numbers, is_increasing, line_refusal}
 use Rattle.fond_cert.specs.Texts.{written_targets, cube_of, IsRuleLine}
-use Rattle.fond_cert.specs.Faults.{RuleDue, IsRefusedLine}
 
 -- a word as a written target
 abbrev pub as_target : List ℕ → WrittenTarget

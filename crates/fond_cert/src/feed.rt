@@ -1,21 +1,15 @@
-//! Texts line by line.
+//! Cutting a text into lines.
 
-ghost use Rattle.fond_cert.specs.Feeds.{is_in_line, HasNoFeed};
-ghost use Rattle.std.specs.List.{prefix_len};
+ghost use Rattle.fond_cert.specs.Feeds.{HasNoFeed};
 ghost use Rattle.std.specs.Prelude.{◌≡◌, ◌++◌, codes, MatchOption};
 
-/// How many bytes stand before the first line feed.
-fn line_len(text: &[u8]) -> usize
-    ensures { result ≡ prefix_len is_in_line text.now }
-{
-    text.iter().take_while(|b| **b != b'\n').count()
-}
+use crate::part::len_before;
 
-/// The bytes before the first line feed, and what stands behind it, where there is one.
+/// The bytes before the first line feed and the bytes after it, if there is one. Takes time in the length of the line.
 pub fn line_of<'a>(text: &'a [u8]) -> Option<(&'a [u8], &'a [u8])>
     ensures { MatchOption result (HasNoFeed text.now) (λ parts. HasNoFeed parts.0.now × (text.now ≡ parts.0.now ++ (codes "\n" ++ parts.1.now))) }
 {
-    let (piece, rest) = text.split_at(line_len(text));
-    let (_, behind) = rest.split_first()?;
-    Some((piece, behind))
+    let (piece, rest) = text.split_at(len_before(text, b'\n'));
+    let (_, further) = rest.split_first()?;
+    Some((piece, further))
 }

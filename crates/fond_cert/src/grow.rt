@@ -1,4 +1,4 @@
-//! Rules line by line.
+//! Reading the rules and the reach number line by line.
 
 ghost use Rattle.fond_cert.specs.Faults.{IsRefusedLine, RuleDue};
 ghost use Rattle.fond_cert.specs.Refusals.{LineRefuses};
@@ -17,10 +17,10 @@ use fond_rules::rules::Rules;
 use fond_task::task_index::TaskIndex;
 use std::alloc::Global;
 
-/// The refusal of a line that has no form that is allowed at its place.
+/// The refusal of a line that has no form allowed at its place.
 pub(crate) const FORMLESS: LineError = LineError::Refused { code: 1, at: 0 };
 
-/// The rule that a line writes, by its parts.
+/// The rule of a line, by the line's parts.
 fn rule_of(
     alloc: Global,
     index: &TaskIndex,
@@ -62,7 +62,7 @@ fn reach_of(piece: &[u8], count: &[u8]) -> Result<u64, LineError>
     }
 }
 
-/// Puts the rule that the line writes, or gives the number where it is the reach line.
+/// Adds the rule of the line, or answers the number if it is the reach line.
 pub(crate) fn grow(
     alloc: Global,
     index: &TaskIndex,

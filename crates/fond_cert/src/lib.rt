@@ -1,5 +1,6 @@
-//! Certificates as text. So far those of policies without layers and pairs are read: the rules and the reach number
-//! that a text spells over the actions and atoms of a task, or the code and the byte of its first fault.
+//! Reading certificates. A text is read as the rules and the reach number of a policy over the actions and atoms of a
+//! task, or refused with the code and the byte of its first fault. Layers and pairs are not read yet. Whether the policy
+//! is right is left to others.
 #![tactic(auto)]
 
 pub mod error;
@@ -9,8 +10,6 @@ mod line;
 mod literal;
 mod part;
 pub mod policy;
-#[cfg(test)]
-mod policy_tests;
 mod rule;
 mod target;
 #[cfg(test)]

@@ -1,4 +1,5 @@
-//! A line between the header and the end, cut into its parts. Takes time in the length of the line, and no memory.
+//! Cutting a line between the header and the end line into its parts. Takes time in the length of the line, and no
+//! memory.
 
 ghost use Rattle.std.specs.Prelude.{◌≡◌, ◌≢◌, ◌++◌, ◌<◌, ◌↔◌, List, ℕ, true, length, MatchOption, codes};
 ghost use Rattle.fond_cert.specs.Lines.{spaced};
@@ -7,7 +8,7 @@ ghost use Rattle.fond_cert.specs.Parts.{AreLiterals};
 use crate::part::{after, are_literals, group};
 use crate::word::{after_targets, is_number, is_target, word};
 
-/// A rule by the texts of its parts. The targets and the literals each have a space before them.
+/// A rule by the texts of its parts. The texts of targets and literals begin with a space unless they are empty.
 #[derive(Clone, Copy)]
 pub enum RuleLine<'a> {
     Fair {
@@ -39,14 +40,14 @@ fn are_fair(outcome: &[u8], target: &[u8], literals: &[u8]) -> bool
     is_number(outcome) && is_target(target) && are_literals(literals)
 }
 
-/// The outcome, the target and the literals behind the word `fair`.
+/// The outcome, the target and the literals after the word `fair`.
 fn fair<'a>(text: &'a [u8]) -> Option<(&'a [u8], &'a [u8], &'a [u8])>
     ensures { MatchOption result
         ((outcome target literals : List ℕ) → AreFair outcome target literals → text.now ≢ fair_text outcome target literals)
         (λ parts. AreFair parts.0.now parts.1.now parts.2.now × (text.now ≡ fair_text parts.0.now parts.1.now parts.2.now)) }
 {
-    let (outcome, behind) = word(text);
-    let (target, rest) = word(after(behind, b" ")?);
+    let (outcome, further) = word(text);
+    let (target, rest) = word(after(further, b" ")?);
     let literals = after(rest, b" :")?;
     if are_fair(outcome, target, literals) {
         Some((outcome, target, literals))
@@ -62,7 +63,7 @@ fn are_unfair(targets: &[u8], literals: &[u8]) -> bool
     !targets.is_empty() && are_literals(literals)
 }
 
-/// The targets and the literals behind the word `unfair`.
+/// The targets and the literals after the word `unfair`.
 fn unfair<'a>(text: &'a [u8]) -> Option<(&'a [u8], &'a [u8])>
     ensures { MatchOption result
         ((targets : List (List ℕ)) (literals : List ℕ) → AreUnfair targets literals → text.now ≢ unfair_text targets literals)
@@ -101,7 +102,7 @@ fn rule<'a>(piece: &'a [u8]) -> Option<RuleLine<'a>>
     })
 }
 
-/// The line between the header and the end that the text is, cut into its parts.
+/// The parts of a line between the header and the end line, if the text is one.
 pub fn cut_line<'a>(piece: &'a [u8]) -> Option<Line<'a>>
     ensures { MatchOption result (HasNoShape piece.now) (λ line. IsLineOf line piece.now) }
 {

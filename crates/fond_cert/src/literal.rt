@@ -1,4 +1,4 @@
-//! The literals of a rule.
+//! Reading the literals of a rule.
 
 ghost use Rattle.fond_cert.specs.Refusals.{LineRefuses};
 ghost use Rattle.fond_cert.specs.Checked.{rises, IsCubeAt, IsLiteralRefused};
@@ -13,7 +13,7 @@ use fond_task::task_index::TaskIndex;
 use fond_text::fault::NoMemory;
 use std::alloc::Global;
 
-/// Literals as they are read, with the last one's atom, and whether the atoms rose so far.
+/// The literals that were read, the atom of the last one, and whether the atoms strictly increase.
 #[derive(Drop)]
 pub(crate) struct Literals {
     pub cube: Cube,
@@ -21,7 +21,7 @@ pub(crate) struct Literals {
     pub is_ordered: bool,
 }
 
-/// Whether the number is above the one before it, if there is one.
+/// Whether the number is greater than the one before it, if there is one.
 fn rises(last: Option<u32>, number: u32) -> bool
     ensures { result ≡ rises last number }
 {
@@ -31,7 +31,7 @@ fn rises(last: Option<u32>, number: u32) -> bool
     }
 }
 
-/// The cube of no literal over the atoms of the task.
+/// The cube over the atoms of the task without literals.
 fn whole_cube(alloc: Global, task: &Task) -> Result<Cube, NoMemory>
     ensures { IfOk result (λ cube. cube ≡ replicate (length task.now.atoms) None) }
 {
@@ -39,7 +39,7 @@ fn whole_cube(alloc: Global, task: &Task) -> Result<Cube, NoMemory>
 }
 
 impl Literals {
-    /// Puts one more literal.
+    /// Adds a literal.
     fn put(&mut self, atom: u32, sign: bool)
         requires { atom < length self.old.cube }
         ensures cube { self.new.cube ≡ slice_set self.old.cube atom (Some sign) }
@@ -52,7 +52,7 @@ impl Literals {
     }
 }
 
-/// The literals that the text writes.
+/// The literals of the text, which begins at this byte of its line.
 pub(crate) fn read_literals(
     alloc: Global,
     index: &TaskIndex,
@@ -70,7 +70,7 @@ pub(crate) fn read_literals(
         is_ordered: true,
     };
     let mut rest = text;
-    while let Some((sign, atom, behind)) = literal(rest) {
+    while let Some((sign, atom, further)) = literal(rest) {
         let Some(number) = index.atom(atom) else {
             return Err(LineError::Refused {
                 code: 2,
@@ -78,7 +78,7 @@ pub(crate) fn read_literals(
             });
         };
         literals.put(number, sign);
-        rest = behind;
+        rest = further;
     }
     Ok(literals)
 }

@@ -1,46 +1,54 @@
-//! The parts of a line: each is read from the front of a text, and what stands behind it is answered beside it.
-//! Each takes time in the length of what it reads, and no memory.
+//! The parts of a line. Each call reads a part at the beginning of a text and answers it with the rest of the text. It
+//! takes time in the length of what it reads, and no memory.
 
-ghost use Rattle.std.specs.Prelude.{◌≡◌, ◌≢◌, ◌++◌, ◌↔◌, ℕ, Bool, List, false, true, option_map, MatchOption, codes};
+ghost use Rattle.std.specs.List.{prefix_len};
+ghost use Rattle.std.specs.Prelude.{◌==◌, not, ◌≡◌, ◌≢◌, ◌++◌, ◌↔◌, ℕ, Bool, List, false, true, option_map, MatchOption, codes};
 ghost use Rattle.fond_cert.specs.Lines.{is_plain_byte, sign_text};
 ghost use Rattle.fond_cert.specs.Parts.{IsGroupText, HasNoGroup, after_leaves, AreLiterals, HasNoLiteral};
 
-/// Whether the byte may stand in a leaf of a certificate.
+/// Whether the byte may occur in a leaf of a certificate.
 fn is_plain_byte(b: u8) -> bool
     ensures { result ≡ is_plain_byte b }
 {
     b.is_ascii_graphic() && b != b'(' && b != b')' && b != b';' && !b.is_ascii_uppercase()
 }
 
-/// What stands behind leaves, parted by single spaces, and their closing parenthesis.
+/// The rest after leaves, separated by single spaces, and their closing parenthesis.
 fn after_leaves<'a>(text: &'a [u8]) -> Option<&'a [u8]>
     ensures { option_map (λ rest. rest.now) result ≡ after_leaves false text.now }
 {
     let mut is_open = false;
     let mut rest = text;
-    while let Some((b, behind)) = rest.split_first() {
+    while let Some((b, further)) = rest.split_first() {
         if is_plain_byte(*b) {
             is_open = true;
         } else if is_open && *b == b' ' {
             is_open = false;
         } else if is_open && *b == b')' {
-            return Some(behind);
+            return Some(further);
         } else {
             return None;
         }
-        rest = behind;
+        rest = further;
     }
     None
 }
 
-/// What stands behind the word, where the text begins with it.
+/// The number of bytes before the first one that is this byte.
+pub fn len_before(text: &[u8], end: u8) -> usize
+    ensures { result ≡ prefix_len (λ b. not (b == end)) text.now }
+{
+    text.iter().take_while(|b| **b != end).count()
+}
+
+/// The rest after the word, if the text begins with it.
 pub fn after<'a>(text: &'a [u8], word: &[u8]) -> Option<&'a [u8]>
     ensures { MatchOption result ((rest : List ℕ) → text.now ≢ word.now ++ rest) (λ rest. text.now ≡ word.now ++ rest.now) }
 {
     text.strip_prefix(word)
 }
 
-/// The atom or action in front of the text, and what stands behind it.
+/// The atom or action at the beginning of the text, and the rest.
 pub fn group<'a>(text: &'a [u8]) -> Option<(&'a [u8], &'a [u8])>
     ensures { MatchOption result (HasNoGroup text.now) (λ parts. IsGroupText parts.0.now × (text.now ≡ parts.0.now ++ parts.1.now)) }
 {
@@ -48,7 +56,7 @@ pub fn group<'a>(text: &'a [u8]) -> Option<(&'a [u8], &'a [u8])>
     Some((&text[..text.len() - rest.len()], rest))
 }
 
-/// The sign in front of the text, and what stands behind it.
+/// The sign at the beginning of the text, and the rest.
 fn sign<'a>(text: &'a [u8]) -> Option<(bool, &'a [u8])>
     ensures { MatchOption result ((sign : Bool) (rest : List ℕ) → text.now ≢ sign_text sign ++ rest) (λ parts. text.now ≡ sign_text parts.0 ++ parts.1.now) }
 {
@@ -59,12 +67,12 @@ fn sign<'a>(text: &'a [u8]) -> Option<(bool, &'a [u8])>
     }
 }
 
-/// The literal in front of the text: whether its sign is `+`, its atom, and what stands behind it.
+/// The literal at the beginning of the text: whether its sign is `+`, its atom, and the rest.
 pub fn literal<'a>(text: &'a [u8]) -> Option<(bool, &'a [u8], &'a [u8])>
     ensures { MatchOption result (HasNoLiteral text.now) (λ parts. IsGroupText parts.1.now × (text.now ≡ codes " " ++ (sign_text parts.0 ++ (parts.1.now ++ parts.2.now)))) }
 {
-    let (sign, behind) = sign(after(text, b" ")?)?;
-    let (atom, rest) = group(behind)?;
+    let (sign, further) = sign(after(text, b" ")?)?;
+    let (atom, rest) = group(further)?;
     Some((sign, atom, rest))
 }
 
@@ -73,8 +81,8 @@ pub fn are_literals(text: &[u8]) -> bool
     ensures { result ≡ true ↔ AreLiterals text.now }
 {
     let mut rest = text;
-    while let Some((_, _, behind)) = literal(rest) {
-        rest = behind;
+    while let Some((_, _, further)) = literal(rest) {
+        rest = further;
     }
     rest.is_empty()
 }

@@ -16,14 +16,14 @@ use fond_task::task::Task;
 use fond_task::task_index::TaskIndex;
 use std::alloc::Global;
 
-/// A policy certificate without layers and pairs: its rules, and how many states they reach.
+/// A policy certificate without layers and pairs: its rules, and the number of states that they reach.
 #[derive(Drop)]
 pub struct Policy {
     pub rules: Rules,
     pub reach: u64,
 }
 
-/// The error of a text by that of its line at which the rest begins.
+/// The error of a text, by the error of the line with which the rest begins.
 fn placed(text: &[u8], rest: &[u8], error: LineError) -> CertError
     requires rest { length rest.now ≤ length text.now }
     requires line { LineRefuses (λ refused. refused.at ≤ length rest.now) error }
@@ -38,7 +38,7 @@ fn placed(text: &[u8], rest: &[u8], error: LineError) -> CertError
     }
 }
 
-/// What is no end behind the reach line: all of it, or what stands behind the end.
+/// The rest from its first fault on, if it is not just the end line: all of it, or the bytes after the end line.
 fn no_end<'a>(text: &'a [u8]) -> Option<&'a [u8]>
     ensures { MatchOption result (text.now ≡ codes "end\n") (λ rest. IsMisplaced text.now rest.now) }
 {
@@ -48,7 +48,7 @@ fn no_end<'a>(text: &'a [u8]) -> Option<&'a [u8]>
     if rest.is_empty() { None } else { Some(rest) }
 }
 
-/// The policy behind the header.
+/// The policy after the header.
 fn read_lines(
     alloc: Global,
     index: &TaskIndex,
@@ -61,11 +61,11 @@ fn read_lines(
 {
     let mut rules = Rules::new(alloc);
     let mut rest = lines;
-    while let Some((piece, behind)) = line_of(rest) {
+    while let Some((piece, further)) = line_of(rest) {
         match grow(alloc, index, &mut rules, piece) {
-            Ok(None) => rest = behind,
+            Ok(None) => rest = further,
             Ok(Some(reach)) => {
-                return match no_end(behind) {
+                return match no_end(further) {
                     None => Ok(Policy { rules, reach }),
                     Some(rest) => Err(placed(text, rest, FORMLESS)),
                 };
@@ -76,8 +76,9 @@ fn read_lines(
     Err(placed(text, rest, FORMLESS))
 }
 
-/// The policy that the text spells over the actions and atoms of the task. Takes time in the length of the text
-/// and memory for its rules, beside what the names of the task take once.
+/// The policy that the text spells over the actions and atoms of the task, or the text's first fault. Takes time in the
+/// length of the text, and in that of the names of all actions and atoms of the task, and memory for the rules and the
+/// names.
 pub fn read_policy(alloc: Global, task: &Task, text: &[u8]) -> Result<Policy, CertError>
     ensures read { IfOk result (λ policy. IsPolicyText task.now policy.rules policy.reach text.now) }
     ensures belongs { IfOk result (λ policy. BelongTo task.now policy.rules) }

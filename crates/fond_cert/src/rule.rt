@@ -1,4 +1,4 @@
-//! The rule that a line writes.
+//! Making the rule of a line.
 
 ghost use Rattle.fond_cert.specs.Refusals.{LineRefuses};
 ghost use Rattle.fond_cert.specs.Checked.{ReadsRule, IsRuleRefused};

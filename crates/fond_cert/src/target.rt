@@ -1,4 +1,4 @@
-//! The targets of a rule.
+//! Reading the targets of a rule.
 
 ghost use Rattle.fond_cert.specs.Refusals.{LineRefuses};
 ghost use Rattle.fond_cert.specs.Checked.{as_target, AreTargetsText, AreTargetsAt, IsTargetRefused};
@@ -17,7 +17,7 @@ use crate::word::{number, word};
 use fond_game::rule::{Target, TargetList};
 use std::alloc::Global;
 
-/// The number that the digits write, or nothing where it is 2^32 or more.
+/// The value of a number, or nothing if it is 2^32 or more.
 pub(crate) fn short_number(digits: &[u8]) -> Option<u32>
     requires { IsTrue (is_number digits.now) }
     ensures { MatchOption result (2 ^ 32 ≤ digits_value 10 digits.now) (λ n. (digits_value 10 digits.now < 2 ^ 32) × (digits.now ≡ decimal n)) }
@@ -25,7 +25,7 @@ pub(crate) fn short_number(digits: &[u8]) -> Option<u32>
     u32::try_from(number(digits)?).ok()
 }
 
-/// The target that the word writes, or nothing where its number is 2^32 or more.
+/// The target that the word writes, or nothing if its number is 2^32 or more.
 pub(crate) fn target(word: &[u8]) -> Option<Target>
     requires { IsTrue (is_target word.now) }
     ensures { MatchOption result
@@ -38,7 +38,7 @@ pub(crate) fn target(word: &[u8]) -> Option<Target>
     Some(Target::Rule(short_number(word)?))
 }
 
-/// The targets that the text writes, each behind a space.
+/// The targets of the text, each after a space. The text begins at this byte of its line.
 pub(crate) fn read_targets(alloc: Global, text: &[u8], at: usize) -> Result<TargetList, LineError>
     requires spelled { AreTargetsText text.now }
     requires within { at + length text.now < 2 ^ 64 }
@@ -48,7 +48,7 @@ pub(crate) fn read_targets(alloc: Global, text: &[u8], at: usize) -> Result<Targ
     let mut targets = TargetList::new(alloc);
     let mut rest = text;
     while let Some(inner) = after(rest, b" ") {
-        let (word, behind) = word(inner);
+        let (word, further) = word(inner);
         let Some(target) = target(word) else {
             return Err(LineError::Refused {
                 code: 4,
@@ -56,7 +56,7 @@ pub(crate) fn read_targets(alloc: Global, text: &[u8], at: usize) -> Result<Targ
             });
         };
         targets.push(target)?;
-        rest = behind;
+        rest = further;
     }
     Ok(targets)
 }

@@ -1,68 +1,74 @@
-//! Lines and numbers worked out by hand.
+//! A certificate over one atom and one action.
 
-use crate::line::{Line, RuleLine, cut_line};
-use crate::word::number;
+use crate::policy::read_policy;
+use fond_state::state::State;
+use fond_task::form::Form;
+use fond_task::task::{Act, Acts, Labels, Outcome, Outcomes, Task};
+use fond_text::atom::{Atom, Atoms, GroundAction, Objects};
+use fond_text::fault::NoMemory;
+use fond_text::name::{Name, Names};
+use std::alloc::Global;
+use std::test::Fail;
 
-#[test]
-fn a_fair_rule_is_cut(rt: HostRuntime) {
-    let Some(
-        Line::Rule(
-            RuleLine::Fair {
-                action,
-                outcome,
-                target,
-                literals,
-            },
-        ),
-    ) = cut_line(b"rule (flip coin) fair 0 goal : +(tails) -(heads)")
-    else {
-        assert!(rt; false);
-        return;
-    };
-    assert_eq!(rt; action, b"(flip coin)".as_slice());
-    assert_eq!(rt; outcome, b"0".as_slice());
-    assert_eq!(rt; target, b"goal".as_slice());
-    assert_eq!(rt; literals, b" +(tails) -(heads)".as_slice());
+fn names(alloc: Global, name: Name) -> Result<Names, NoMemory> {
+    let mut names = Names::new(alloc);
+    names.push(name)?;
+    Ok(names)
+}
+
+fn labels(alloc: Global) -> Result<Labels, NoMemory> {
+    let predicates = names(alloc, Name::lower(alloc, b"heads")?)?;
+    let schemas = names(alloc, Name::lower(alloc, b"flip")?)?;
+    Ok(Labels {
+        predicates,
+        objects: Names::new(alloc),
+        schemas,
+    })
+}
+
+fn atoms(alloc: Global) -> Result<Atoms, NoMemory> {
+    let mut atoms = Atoms::new(alloc);
+    atoms.push(Atom {
+        predicate: 0,
+        objects: Objects::new(alloc),
+    })?;
+    Ok(atoms)
+}
+
+fn acts(alloc: Global) -> Result<Acts, NoMemory> {
+    let mut outcomes = Outcomes::new(alloc);
+    outcomes.push(Outcome::new(alloc))?;
+    let mut acts = Acts::new(alloc);
+    acts.push(Act {
+        ground: GroundAction {
+            schema: 0,
+            objects: Objects::new(alloc),
+        },
+        pre: Form::Truth(true),
+        unfair: false,
+        outcomes,
+    })?;
+    Ok(acts)
+}
+
+/// A task with the atom `(heads)` and the action `(flip)`.
+fn task(alloc: Global) -> Result<Option<Task>, NoMemory> {
+    let init = State::new(alloc, 1)?;
+    let labels = labels(alloc)?;
+    let atoms = atoms(alloc)?;
+    Ok(Task::of_parts(atoms, acts(alloc)?, init, Form::Lit(0, true), labels))
 }
 
 #[test]
-fn an_unfair_rule_is_cut(rt: HostRuntime) {
-    let Some(
-        Line::Rule(
-            RuleLine::Unfair {
-                action,
-                targets,
-                literals,
-            },
-        ),
-    ) = cut_line(b"rule (mix) unfair goal 12 :")
-    else {
-        assert!(rt; false);
-        return;
-    };
-    assert_eq!(rt; action, b"(mix)".as_slice());
-    assert_eq!(rt; targets, b" goal 12".as_slice());
-    assert_eq!(rt; literals, b"".as_slice());
-}
-
-#[test]
-fn a_reach_line_is_cut(rt: HostRuntime) {
-    let Some(Line::Reach { count }) = cut_line(b"reach 18446744073709551615") else {
-        assert!(rt; false);
-        return;
-    };
-    assert_eq!(rt; number(count), Some(18446744073709551615));
-    assert!(rt; number(b"18446744073709551616").is_none());
-}
-
-#[test]
-fn other_texts_are_no_lines(rt: HostRuntime) {
-    assert!(rt; cut_line(b"rule (fl").is_none());
-    assert!(rt; cut_line(b"rule () fair 0 goal :").is_none());
-    assert!(rt; cut_line(b"rule (flip ) fair 0 goal :").is_none());
-    assert!(rt; cut_line(b"rule (FLIP) fair 0 goal :").is_none());
-    assert!(rt; cut_line(b"rule (flip) fair 00 goal :").is_none());
-    assert!(rt; cut_line(b"rule (flip) fair 0 goal : ").is_none());
-    assert!(rt; cut_line(b"rule (mix) unfair :").is_none());
-    assert!(rt; cut_line(b"reach +1").is_none());
+fn a_policy_is_read(rt: HostRuntime) -> Result<(), Fail> {
+    let task = task(rt.alloc())?.expect(&rt, "the parts make a task");
+    let text = b"dualfond 1 policy\nrule (flip) fair 0 goal : -(heads)\nreach 2\nend\n";
+    match read_policy(rt.alloc(), &task, text) {
+        Ok(policy) => {
+            assert_eq!(rt; policy.reach, 2);
+            assert_eq!(rt; policy.rules.len(), 1);
+        }
+        Err(_) => assert!(rt; false),
+    }
+    Ok(())
 }

@@ -5,11 +5,11 @@ ghost use Rattle.std.specs.Prelude.{◌≡◌, ◌≢◌, ◌^◌, ◌<◌, ◌�
 ghost use Rattle.std.specs.Str.Parse.{digits_value};
 ghost use Rattle.fond_cert.specs.Lines.{is_number};
 ghost use Rattle.std.specs.Char.{is_ascii_digit};
-ghost use Rattle.std.specs.List.{list_all, prefix_len};
+ghost use Rattle.std.specs.List.{list_all};
 ghost use Rattle.fond_cert.specs.Lines.{spaced};
-ghost use Rattle.fond_cert.specs.Parts.{is_in_word, is_target, AreTargets, EndsWord, HasNoTarget, IsCut};
+ghost use Rattle.fond_cert.specs.Parts.{is_target, AreTargets, EndsWord, HasNoTarget, IsCut};
 
-use crate::part::after;
+use crate::part::{after, len_before};
 use fond_text::number::read_number;
 
 /// Whether all bytes are digits.
@@ -19,18 +19,11 @@ fn are_digits(word: &[u8]) -> bool
     word.iter().all(|b| b.is_ascii_digit())
 }
 
-/// The number of bytes before the first space.
-fn word_len(text: &[u8]) -> usize
-    ensures { result ≡ prefix_len is_in_word text.now }
-{
-    text.iter().take_while(|b| **b != b' ').count()
-}
-
 /// The bytes before the first space, and the rest.
 pub fn word<'a>(text: &'a [u8]) -> (&'a [u8], &'a [u8])
     ensures { IsCut text.now result.0.now result.1.now }
 {
-    text.split_at(word_len(text))
+    text.split_at(len_before(text, b' '))
 }
 
 /// Whether the word is a number: digits, the first of which is 0 only if it is the only one.

@@ -1,5 +1,5 @@
 -- Right certificates of policies and of unsolvability.
-use Rattle.std.specs.Prelude.{◌≡◌, ℕ, List, [], ◌∷◌, Bool, Some, slice_get, length, Contains, IsSome}
+use Rattle.std.specs.Prelude.{◌≡◌, ℕ, List, Bool, Some, slice_get, Contains, IsSome}
 use Rattle.fond_play.specs.Games as games
 use Rattle.fond_state.specs.Cubes.{LiesIn}
 use Rattle.fond_task.specs.declared.task.Task.{Task}

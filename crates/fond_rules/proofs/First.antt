@@ -1,13 +1,10 @@
 -- The first element of a list that passes a test, by its index and as the element.
-use Rattle.std.proofs.Common.{◌≡◌, ℕ, ◌+◌, ◌<◌, ◌≤◌, List, Bool, true, false, not, Some, None, length, drop, cond, slice_get, refl, sym, ap, ◌∙◌, arith, get_or, below_more}
+use Rattle.std.proofs.Common.{◌≡◌, ℕ, List, Bool, true, false, Some, None, length, cond, slice_get, refl, sym, ◌∙◌, arith}
 use Rattle.std.specs.Prelude.{option_and_then, position, find, nat_lt}
 use Rattle.std.specs.List.{position_or_len}
 use Rattle.std.proofs.lemmas.List.Folds.{find_at}
-use Rattle.std.proofs.lemmas.Option.{slice_get_within, slice_get_past, get_or_from_slice_get}
+use Rattle.std.proofs.lemmas.Option.{slice_get_past}
 use Rattle.std.proofs.lemmas.Bool.Decides.{nat_tests}
-use Rattle.fond_game.specs.declared.rule.Rule.{Rule}
-use Rattle.fond_rules.specs.Select.{AreOver}
-use Rattle.fond_task.proofs.Found.{drop_at}
 
 module _ {X : Type 0} (test : X → Bool) (xs : List X) where
   -- the element at the index of the first that passes is the first that passes

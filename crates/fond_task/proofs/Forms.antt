@@ -1,4 +1,4 @@
--- What values, truth and being within are at each form.
+-- Values, truth and atoms of forms, constructor by constructor.
 use Rattle.std.proofs.Common.{◌≡◌, ℕ, List, Bool, true, Option, map, sym, ap, ◌∙◌}
 use Rattle.std.specs.Prelude.{nat_lt, if◌then◌else◌}
 use Rattle.std.specs.List.{list_all}
@@ -7,15 +7,15 @@ use Rattle.fond_task.specs.declared.form.Form.{Form}
 use Rattle.std.specs.declared.vec.Vec.{Vec}
 use Rattle.std.specs.declared.alloc.Global.{Global}
 use Rattle.std.proofs.lemmas.List.Folds.{list_all-map}
-use Rattle.fond_task.specs.declared.form.Form.TheVariants.{Truth, Lit, And, Or, rolls-Truth, rolls-Lit, rolls-And, rolls-Or}
-use Rattle.fond_task.specs.declared.form.Form.TheOpen.{Truth as TruthOf, Lit as LitOf, And as AndOf, Or as OrOf}
+use Rattle.fond_task.specs.declared.form.Form.TheVariants.{Truth, Lit, And, rolls-Truth, rolls-Lit, rolls-And}
+use Rattle.fond_task.specs.declared.form.Form.TheOpen.{Truth as TruthOf, Lit as LitOf, And as AndOf}
 use Rattle.fond_task.specs.declared.form.Form.TheFolds.{fold-roll-Form}
 use Rattle.fond_task.specs.declared.form.Kleene.{Kleene}
 use Rattle.fond_task.specs.declared.form.Kleene.TheVariants.{No, Yes}
 use Rattle.fond_task.specs.Within.{is_form_within, within_step}
 use Rattle.fond_task.specs.Truth.{is_true, is_true_step}
 use Rattle.fond_text.specs.Bools.{is_same}
-use Rattle.fond_task.specs.Values.{least, greatest, literal_value, value, value_step}
+use Rattle.fond_task.specs.Values.{least, literal_value, value, value_step}
 
 pub value-Truth : (cube : List (Option Bool)) (b : Bool) → value cube (Truth b) ≡ (if b then Yes else No)
 value-Truth cube b = ap (value cube) (sym (rolls-Truth b)) ∙ fold-roll-Form Kleene (value_step cube) (TruthOf b)
@@ -35,15 +35,9 @@ within-Truth atoms b = ap (is_form_within atoms) (sym (rolls-Truth b)) ∙ fold-
 pub within-Lit : (atoms atom : ℕ) (sign : Bool) → is_form_within atoms (Lit atom sign) ≡ nat_lt atom atoms
 within-Lit atoms atom sign = ap (is_form_within atoms) (sym (rolls-Lit atom sign)) ∙ fold-roll-Form Bool (within_step atoms) (LitOf atom sign)
 
--- a conjunction and a disjunction of such parts
+-- the value of a conjunction, and whether it is over atoms
 pub value-And : (cube : List (Option Bool)) (parts : Vec Form Global) → value cube (And parts) ≡ least (map (value cube) parts.items)
 value-And cube parts = ap (value cube) (sym (rolls-And parts)) ∙ fold-roll-Form Kleene (value_step cube) (AndOf parts)
-
-pub value-Or : (cube : List (Option Bool)) (parts : Vec Form Global) → value cube (Or parts) ≡ greatest (map (value cube) parts.items)
-value-Or cube parts = ap (value cube) (sym (rolls-Or parts)) ∙ fold-roll-Form Kleene (value_step cube) (OrOf parts)
-
-pub is_true-And : (state : List Bool) (parts : Vec Form Global) → is_true state (And parts) ≡ list_all (is_true state) parts.items
-is_true-And state parts = ap (is_true state) (sym (rolls-And parts)) ∙ fold-roll-Form Bool (is_true_step state) (AndOf parts) ∙ list_all-map (λ part. part) (is_true state) parts.items
 
 pub within-And : (atoms : ℕ) (parts : Vec Form Global) → is_form_within atoms (And parts) ≡ list_all (is_form_within atoms) parts.items
 within-And atoms parts = ap (is_form_within atoms) (sym (rolls-And parts)) ∙ fold-roll-Form Bool (within_step atoms) (AndOf parts) ∙ list_all-map (λ part. part) (is_form_within atoms) parts.items

@@ -48,12 +48,6 @@ misses_adds n atom past entry within =
     let small : entry.atom < n = ltb-true _ _ (and_parts _ _ within).0 in
     and_right entry.add _ (ne_eqb entry.atom atom (λ same. absurd (omega arith)))
 
-misses_deletes : (n atom : ℕ) → n ≤ atom → (entry : Entry) → is_entry_within n entry ≡ true → (not entry.add && entry.atom == atom) ≡ false
-misses_deletes n atom past entry within =
-    let small : entry.atom < n = ltb-true _ _ (and_parts _ _ within).0 in
-    and_right (not entry.add) _ (ne_eqb entry.atom atom (λ same. absurd (omega arith)))
-
--- what an atom is in the next state, also past the end
 pub next_truth : (state : List Bool) (outcome : List Entry) (atom : ℕ) → IsTrue (list_all (is_entry_within (length state)) outcome) →
     truth_at (next_state state outcome) atom ≡ (adds state outcome atom || (truth_at state atom && not (deletes state outcome atom)))
 next_truth state outcome atom within = ⊎_elim

@@ -1,13 +1,10 @@
 -- Giving truth values entry by entry: what the entries delete, and then what they add, makes the next state.
-use Rattle.std.proofs.Common.{◌≡◌, ℕ, ◌+◌, ◌<◌, List, ◌∷◌, Bool, true, false, not, Some, length, drop, slice_get, refl, sym, ap, ◌∙◌, arith}
-use Rattle.std.specs.Prelude.{◌==◌, ◌&&◌, ◌||◌, if◌then◌else◌}
+use Rattle.std.proofs.Common.{◌≡◌, ℕ, ◌<◌, List, Bool, true, false, not, length, refl, sym, ap, ◌∙◌, arith}
+use Rattle.std.specs.Prelude.{◌&&◌, ◌||◌, if◌then◌else◌}
 use Rattle.std.proofs.lemmas.List.{ext_get_or}
 use Rattle.fond_state.specs.Cubes.{truth_at}
 use Rattle.fond_task.specs.declared.task.Entry.{Entry}
-use Rattle.fond_task.specs.Truth.{is_true}
-use Rattle.fond_text.specs.Bools.{is_same}
 use Rattle.fond_task.specs.Steps.{adds, deletes, next_state}
-use Rattle.fond_task.proofs.Found.{drop_at}
 use Rattle.fond_task.proofs.Indices.{length-by_index, get_or-by_index}
 
 next_value : (added deleted was : Bool) → (if added then true else (if deleted then false else was)) ≡ (added || (was && not deleted))

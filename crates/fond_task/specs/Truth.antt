@@ -1,5 +1,5 @@
 -- The truth of ground forms in a state.
-use Rattle.std.specs.Prelude.{List, Bool, true, false, not}
+use Rattle.std.specs.Prelude.{List, Bool}
 use Rattle.std.specs.List.{list_all, list_any}
 use Rattle.fond_text.specs.Bools.{is_same}
 use Rattle.fond_state.specs.Cubes.{truth_at}

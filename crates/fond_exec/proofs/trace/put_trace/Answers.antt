@@ -1,4 +1,3 @@
-use Rattle.std.proofs.Common.{◌∙◌}
 use Rattle.fond_exec.proofs.Traced.{traced_and_state}
 use Rattle.fond_exec.proofs.trace.put_trace.Goals as goal
 
