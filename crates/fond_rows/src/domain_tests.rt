@@ -1,6 +1,4 @@
-use crate::rows::{ACTION, Row, check};
-use std::alloc::Global;
-use std::process::Abort;
+use crate::rows::{ACTION, Topic, check_texts};
 use std::test::Fail;
 
 /// A problem that has a fault of form as well.
@@ -283,25 +281,13 @@ const REFUSED: [(&str, &str); 78] = [
     ),
 ];
 
-fn check_domains_with_a_fault_of_form(
-    rt: &impl Abort,
-    alloc: Global,
-    table: &[(&str, &str)],
-) -> Result<(), Fail> {
-    for &(domain, line) in table {
-        let row = Row {
-            name: domain,
-            words: &ACTION,
-            files: &[("domain", domain), ("problem", OTHER)],
-            status: 3,
-            text: line,
-        };
-        check(rt, alloc, row)?;
-    }
-    Ok(())
-}
-
 #[test]
 fn domains_with_a_fault_of_form(rt: HostRuntime) -> Result<(), Fail> {
-    check_domains_with_a_fault_of_form(&rt, rt.alloc(), &REFUSED)
+    let topic = Topic {
+        words: &ACTION,
+        files: &[("problem", OTHER)],
+        file: "domain",
+        status: 3,
+    };
+    check_texts(&rt, rt.alloc(), topic, &REFUSED)
 }

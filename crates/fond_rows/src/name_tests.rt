@@ -1,6 +1,4 @@
-use crate::rows::{ACTION, Row, check};
-use std::alloc::Global;
-use std::process::Abort;
+use crate::rows::{ACTION, Topic, check_texts};
 use std::test::Fail;
 
 /// A domain without faults.
@@ -84,48 +82,24 @@ const PROBLEMS: [(&str, &str); 5] = [
     ),
 ];
 
-fn check_domains_with_a_fault_of_names(
-    rt: &impl Abort,
-    alloc: Global,
-    table: &[(&str, &str)],
-) -> Result<(), Fail> {
-    for &(domain, line) in table {
-        let row = Row {
-            name: domain,
-            words: &ACTION,
-            files: &[("domain", domain), ("problem", PROBLEM)],
-            status: 3,
-            text: line,
-        };
-        check(rt, alloc, row)?;
-    }
-    Ok(())
-}
-
 #[test]
 fn domains_with_a_fault_of_names(rt: HostRuntime) -> Result<(), Fail> {
-    check_domains_with_a_fault_of_names(&rt, rt.alloc(), &DOMAINS)
-}
-
-fn check_problems_with_a_fault_of_names(
-    rt: &impl Abort,
-    alloc: Global,
-    table: &[(&str, &str)],
-) -> Result<(), Fail> {
-    for &(problem, line) in table {
-        let row = Row {
-            name: problem,
-            words: &ACTION,
-            files: &[("domain", DOMAIN), ("problem", problem)],
-            status: 3,
-            text: line,
-        };
-        check(rt, alloc, row)?;
-    }
-    Ok(())
+    let topic = Topic {
+        words: &ACTION,
+        files: &[("problem", PROBLEM)],
+        file: "domain",
+        status: 3,
+    };
+    check_texts(&rt, rt.alloc(), topic, &DOMAINS)
 }
 
 #[test]
 fn problems_with_a_fault_of_names(rt: HostRuntime) -> Result<(), Fail> {
-    check_problems_with_a_fault_of_names(&rt, rt.alloc(), &PROBLEMS)
+    let topic = Topic {
+        words: &ACTION,
+        files: &[("domain", DOMAIN)],
+        file: "problem",
+        status: 3,
+    };
+    check_texts(&rt, rt.alloc(), topic, &PROBLEMS)
 }

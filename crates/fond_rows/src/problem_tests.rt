@@ -1,6 +1,4 @@
-use crate::rows::{ACTION, Row, check};
-use std::alloc::Global;
-use std::process::Abort;
+use crate::rows::{ACTION, Topic, check_texts};
 use std::test::Fail;
 
 /// A domain that has a fault of names.
@@ -159,25 +157,13 @@ const REFUSED: [(&str, &str); 38] = [
     ),
 ];
 
-fn check_problems_with_a_fault_of_form(
-    rt: &impl Abort,
-    alloc: Global,
-    table: &[(&str, &str)],
-) -> Result<(), Fail> {
-    for &(problem, line) in table {
-        let row = Row {
-            name: problem,
-            words: &ACTION,
-            files: &[("domain", OTHER), ("problem", problem)],
-            status: 3,
-            text: line,
-        };
-        check(rt, alloc, row)?;
-    }
-    Ok(())
-}
-
 #[test]
 fn problems_with_a_fault_of_form(rt: HostRuntime) -> Result<(), Fail> {
-    check_problems_with_a_fault_of_form(&rt, rt.alloc(), &REFUSED)
+    let topic = Topic {
+        words: &ACTION,
+        files: &[("domain", OTHER)],
+        file: "problem",
+        status: 3,
+    };
+    check_texts(&rt, rt.alloc(), topic, &REFUSED)
 }

@@ -32,6 +32,15 @@ pub struct Row<'a> {
     pub text: &'a str,
 }
 
+/// What the texts of one file have in common: the words, the files beside it, its name, and the status of the answers.
+#[derive(Clone, Copy)]
+pub struct Topic<'a> {
+    pub words: &'a [&'a str],
+    pub files: &'a [(&'a str, &'a str)],
+    pub file: &'a str,
+    pub status: u8,
+}
+
 /// What the tool answered.
 #[derive(Drop)]
 struct Told {
@@ -70,19 +79,51 @@ fn calls(alloc: Global, call: Option<u64>) -> Result<Calls, Fail> {
     Ok(calls)
 }
 
-/// The answer to the words of a row over its files, where the numbered read and the numbered write fail.
+/// The answer to words over these files, where the numbered read and the numbered write fail.
 fn answer_to(
     alloc: Global,
-    row: Row<'_>,
+    line: &[&str],
+    files: ShelfFiles,
     bad_read: Option<u64>,
     bad_write: Option<u64>,
 ) -> Result<Told, Fail> {
-    let words = words(alloc, row.words)?;
-    let mut shelf = MemoryShelf::new(shelf_files(alloc, row.files)?, calls(alloc, bad_read)?);
+    let words = words(alloc, line)?;
+    let mut shelf = MemoryShelf::new(files, calls(alloc, bad_read)?);
     let mut sink = MemorySink::new(alloc, 4096, 7, calls(alloc, bad_write)?).map_err(|_| "sink")?;
     let status = run_tool(alloc, &words, &mut shelf, &mut sink).number();
     let text = Bytes::copy(alloc, sink.bytes()).map_err(|_| "text")?;
     Ok(Told { status, text })
+}
+
+/// A text of a topic is answered with the topic's status and with this answer.
+fn check_text(
+    rt: &impl Abort,
+    alloc: Global,
+    topic: Topic<'_>,
+    text: &str,
+    answer: &str,
+) -> Result<(), Fail> {
+    let mut files = shelf_files(alloc, topic.files)?;
+    files
+        .push(shelf_file(alloc, topic.file, text)?)
+        .map_err(|_| "file")?;
+    let told = answer_to(alloc, topic.words, files, None, None)?;
+    assert_eq!(rt; told.status, topic.status, "{text}");
+    assert_eq!(rt; told.text.as_slice(), answer.as_bytes(), "{text}");
+    Ok(())
+}
+
+/// Each text of a table is answered with the topic's status and with the answer beside it.
+pub fn check_texts(
+    rt: &impl Abort,
+    alloc: Global,
+    topic: Topic<'_>,
+    table: &[(&str, &str)],
+) -> Result<(), Fail> {
+    for (text, answer) in table {
+        check_text(rt, alloc, topic, text, answer)?;
+    }
+    Ok(())
 }
 
 /// The words of a row are answered with its status and its text.
@@ -98,7 +139,8 @@ pub fn check_with(
     bad_read: Option<u64>,
     bad_write: Option<u64>,
 ) -> Result<(), Fail> {
-    let told = answer_to(alloc, row, bad_read, bad_write)?;
+    let files = shelf_files(alloc, row.files)?;
+    let told = answer_to(alloc, row.words, files, bad_read, bad_write)?;
     let name = row.name;
     assert_eq!(rt; told.status, row.status, "{name}");
     assert_eq!(rt; told.text.as_slice(), row.text.as_bytes(), "{name}");

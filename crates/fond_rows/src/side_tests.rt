@@ -1,4 +1,4 @@
-use crate::rows::{COIN, COIN_P, Row, check};
+use crate::rows::{COIN, COIN_P, Row, Topic, check, check_texts};
 use std::alloc::Global;
 use std::process::Abort;
 use std::test::Fail;
@@ -92,41 +92,28 @@ const FIRST: [(&str, [&str; 3], &str); 9] = [
 ];
 
 /// Side lists without a fault, over which a certificate that is not one is rejected.
-const READ: [&str; 5] = [
-    "",
-    " \t\n",
-    "flip",
-    "FLIP flip\tFlip",
-    "; (spin)\n flip ; \u{e9}",
+const READ: [(&str, &str); 5] = [
+    ("", "rejected C1 at 0\n"),
+    (" \t\n", "rejected C1 at 0\n"),
+    ("flip", "rejected C1 at 0\n"),
+    ("FLIP flip\tFlip", "rejected C1 at 0\n"),
+    ("; (spin)\n flip ; \u{e9}", "rejected C1 at 0\n"),
 ];
-
-fn check_side_lists_with_a_fault(
-    rt: &impl Abort,
-    alloc: Global,
-    table: &[(&str, &str)],
-) -> Result<(), Fail> {
-    for &(side, line) in table {
-        let row = Row {
-            name: side,
-            words: &RUN,
-            files: &[
-                ("domain", COIN),
-                ("problem", COIN_P),
-                ("side", side),
-                ("cert", "no certificate"),
-                ("script", "no script"),
-            ],
-            status: 3,
-            text: line,
-        };
-        check(rt, alloc, row)?;
-    }
-    Ok(())
-}
 
 #[test]
 fn side_lists_with_a_fault(rt: HostRuntime) -> Result<(), Fail> {
-    check_side_lists_with_a_fault(&rt, rt.alloc(), &REFUSED)
+    let topic = Topic {
+        words: &RUN,
+        files: &[
+            ("domain", COIN),
+            ("problem", COIN_P),
+            ("cert", "no certificate"),
+            ("script", "no script"),
+        ],
+        file: "side",
+        status: 3,
+    };
+    check_texts(&rt, rt.alloc(), topic, &REFUSED)
 }
 
 fn check_the_first_fault_of_three_files(
@@ -158,31 +145,18 @@ fn the_first_fault_of_three_files(rt: HostRuntime) -> Result<(), Fail> {
     check_the_first_fault_of_three_files(&rt, rt.alloc(), &FIRST)
 }
 
-fn check_side_lists_that_are_read(
-    rt: &impl Abort,
-    alloc: Global,
-    table: &[&str],
-) -> Result<(), Fail> {
-    for &side in table {
-        let row = Row {
-            name: side,
-            words: &RUN,
-            files: &[
-                ("domain", COIN),
-                ("problem", COIN_P),
-                ("side", side),
-                ("cert", "no certificate"),
-                ("script", "no script"),
-            ],
-            status: 7,
-            text: "rejected C1 at 0\n",
-        };
-        check(rt, alloc, row)?;
-    }
-    Ok(())
-}
-
 #[test]
 fn side_lists_that_are_read(rt: HostRuntime) -> Result<(), Fail> {
-    check_side_lists_that_are_read(&rt, rt.alloc(), &READ)
+    let topic = Topic {
+        words: &RUN,
+        files: &[
+            ("domain", COIN),
+            ("problem", COIN_P),
+            ("cert", "no certificate"),
+            ("script", "no script"),
+        ],
+        file: "side",
+        status: 7,
+    };
+    check_texts(&rt, rt.alloc(), topic, &READ)
 }

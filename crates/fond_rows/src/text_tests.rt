@@ -1,4 +1,4 @@
-use crate::rows::{COIN, COIN_P, FLIP, Row, check};
+use crate::rows::{COIN, COIN_P, FLIP, Row, Topic, check, check_texts};
 use std::alloc::Global;
 use std::process::Abort;
 use std::test::Fail;
@@ -50,27 +50,15 @@ const FIRST: [(&str, &str, &str); 5] = [
     ("a", "a", "refused domain 1 1 F7\n"),
 ];
 
-fn check_domains_with_a_fault_of_their_text(
-    rt: &impl Abort,
-    alloc: Global,
-    table: &[(&str, &str)],
-) -> Result<(), Fail> {
-    for &(domain, line) in table {
-        let row = Row {
-            name: domain,
-            words: &FLIP,
-            files: &[("domain", domain), ("problem", ")")],
-            status: 3,
-            text: line,
-        };
-        check(rt, alloc, row)?;
-    }
-    Ok(())
-}
-
 #[test]
 fn domains_with_a_fault_of_their_text(rt: HostRuntime) -> Result<(), Fail> {
-    check_domains_with_a_fault_of_their_text(&rt, rt.alloc(), &REFUSED)
+    let topic = Topic {
+        words: &FLIP,
+        files: &[("problem", ")")],
+        file: "domain",
+        status: 3,
+    };
+    check_texts(&rt, rt.alloc(), topic, &REFUSED)
 }
 
 /// A text, and then so many opening parentheses.
