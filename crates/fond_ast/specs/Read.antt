@@ -1,5 +1,5 @@
 -- Declarations with one type for each name, and effects whose choices have members.
-use Rattle.std.specs.Prelude.{ℕ, ◌==◌, ◌&&◌, Bool, true, not, length}
+use Rattle.std.specs.Prelude.{◌==◌, ◌&&◌, Bool, true, not, length}
 use Rattle.std.specs.List.{list_all}
 use Rattle.fond_ast.specs.declared.names.TypedName.{TypedName}
 use Rattle.fond_ast.specs.declared.files.Schema.{Schema}

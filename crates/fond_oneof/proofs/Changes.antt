@@ -1,5 +1,5 @@
 -- The changes of literals.
-use Rattle.std.proofs.Common.{◌≡◌, ℕ, ◌∙◌, ◌||◌, Bool, true, false, List, [], ◌∷◌, ◌++◌, map, refl}
+use Rattle.std.proofs.Common.{◌≡◌, ℕ, ◌||◌, Bool, true, false, List, [], ◌∷◌, ◌++◌, map, refl}
 use Rattle.std.proofs.lemmas.List.Folds.{list_any-append}
 use Rattle.fond_text.specs.declared.atom.Atom.{Atom}
 use Rattle.fond_meaning.specs.States.{no_atoms, only}

@@ -4,7 +4,7 @@ use Rattle.std.specs.List.{flat_map}
 use Rattle.std.proofs.lemmas.List.{map-append}
 use Rattle.fond_ast.specs.declared.form.LEffect.{LEffect, Nothing, Add, Delete, And', OneOf', Row_of-LEffect, end_of-LEffect, more_of-LEffect}
 use Rattle.fond_ast.specs.declared.form.LEffect.TheBlock.{items-the_row-LEffect}
-use Rattle.fond_meaning.specs.Effects.{Change, both}
+use Rattle.fond_meaning.specs.Effects.{both}
 use Rattle.fond_meaning.specs.Choices.{choices, joined}
 use Rattle.fond_meaning.proofs.Choices.{choices-Nothing, choices-Add, choices-Delete, choices-And', choices-OneOf'}
 use Rattle.fond_oneof.specs.declared.outcome.Literal.{Literal}

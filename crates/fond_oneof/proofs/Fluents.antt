@@ -1,15 +1,12 @@
 -- The outcomes of an effect have no predicates that the effect does not have.
-use Rattle.std.proofs.Common.{◌≡◌, ◌∙◌, ◌&&◌, ℕ, Bool, true, false, List, [], ◌∷◌, ◌++◌, map, refl, sym, ap, subst}
+use Rattle.std.proofs.Common.{◌≡◌, ◌∙◌, ◌&&◌, ℕ, Bool, true, false, List, [], ◌∷◌, ◌++◌, map, refl, sym, ap}
 use Rattle.std.specs.List.{list_all, flat_map}
 use Rattle.std.proofs.lemmas.List.Folds.{list_all-append}
-use Rattle.fond_ast.specs.declared.form.LAtom.{LAtom}
 use Rattle.fond_ast.specs.declared.form.LEffect.{LEffect, Nothing, Add, Delete, And', OneOf', Row_of-LEffect, end_of-LEffect, more_of-LEffect}
-use Rattle.fond_ast.specs.declared.form.LEffect.TheBlock.{items-the_row-LEffect, items_shown-the_row-LEffect-0}
-use Rattle.fond_ast.specs.declared.form.LEffect.TheOpen as open_effect
-use Rattle.fond_ast.specs.declared.form.LEffect.TheViews.{rolls-Add, rolls-Delete, outs-And', outs-OneOf'}
-use Rattle.fond_ast.specs.declared.form.LEffect.TheFolds.{fold-roll-LEffect, fold_out-LEffect, map-LEffect}
+use Rattle.fond_ast.specs.declared.form.LEffect.TheBlock.{items-the_row-LEffect}
 use Rattle.fond_ast.specs.declared.task.LPredicate.{LPredicate}
-use Rattle.fond_ast.specs.Within.{is_fluent, is_effect_fluent, fluent_step}
+use Rattle.fond_ast.specs.Within.{is_fluent, is_effect_fluent}
+use Rattle.fond_ast.proofs.Effects.{fluent-Add, fluent-Delete, fluent-And', fluent-OneOf'}
 use Rattle.fond_oneof.specs.declared.outcome.Literal.{Literal}
 use Rattle.fond_oneof.specs.Outcomes.{outcome_lists, concatenations, pairs}
 use Rattle.fond_oneof.specs.Fluents.{are_fluent, FluentEffectsHaveFluentOutcomes}
@@ -23,22 +20,6 @@ both_true : (a b : Bool) → a ≡ true → b ≡ true → (a && b) ≡ true
 both_true a b h k = ap (λ c. c && b) h ∙ k
 
 module _ (predicates : List LPredicate) where
-  fluent-Add : (atom : LAtom) → is_effect_fluent predicates (Add atom) ≡ is_fluent predicates atom.predicate
-  fluent-Add atom = ap (is_effect_fluent predicates) (sym (rolls-Add atom)) ∙ fold-roll-LEffect Bool (fluent_step predicates) (open_effect.Add atom)
-
-  fluent-Delete : (atom : LAtom) → is_effect_fluent predicates (Delete atom) ≡ is_fluent predicates atom.predicate
-  fluent-Delete atom = ap (is_effect_fluent predicates) (sym (rolls-Delete atom)) ∙ fold-roll-LEffect Bool (fluent_step predicates) (open_effect.Delete atom)
-
-  fluent-And' : (shape : _) (row : Row_of-LEffect _) → is_effect_fluent predicates (And' shape row) ≡ list_all (λ part. part) (map (is_effect_fluent predicates) (items-the_row-LEffect _ row))
-  fluent-And' shape row =
-      fold_out-LEffect Bool (fluent_step predicates) (And' shape row) ∙ ap (λ layer. fluent_step predicates (map-LEffect LEffect Bool (is_effect_fluent predicates) layer)) (outs-And' shape row)
-      ∙ ap (λ parts. list_all (λ part. part) (map (is_effect_fluent predicates) parts)) (items_shown-the_row-LEffect-0 shape row)
-
-  fluent-OneOf' : (shape : _) (row : Row_of-LEffect _) → is_effect_fluent predicates (OneOf' shape row) ≡ list_all (λ part. part) (map (is_effect_fluent predicates) (items-the_row-LEffect _ row))
-  fluent-OneOf' shape row =
-      fold_out-LEffect Bool (fluent_step predicates) (OneOf' shape row) ∙ ap (λ layer. fluent_step predicates (map-LEffect LEffect Bool (is_effect_fluent predicates) layer)) (outs-OneOf' shape row)
-      ∙ ap (λ parts. list_all (λ part. part) (map (is_effect_fluent predicates) parts)) (items_shown-the_row-LEffect-0 shape row)
-
   before-all : (one : List Literal) (lists : List (List Literal)) → are_fluent predicates one ≡ true → list_all (are_fluent predicates) lists ≡ true → list_all (are_fluent predicates) (map (λ more. one ++ more) lists) ≡ true
   before-all one [] h k = refl
   before-all one (list ∷ lists) h k =
@@ -58,10 +39,10 @@ module _ (predicates : List LPredicate) where
   mutual
     pub fluent_outcomes : (effect : LEffect) → is_effect_fluent predicates effect ≡ true → list_all (are_fluent predicates) (outcome_lists effect) ≡ true
     fluent_outcomes Nothing h = ap (list_all (are_fluent predicates)) outcome_lists-Nothing
-    fluent_outcomes (Add atom) h = ap (list_all (are_fluent predicates)) (outcome_lists-Add atom) ∙ one_fluent atom.predicate true (sym (fluent-Add atom) ∙ h)
-    fluent_outcomes (Delete atom) h = ap (list_all (are_fluent predicates)) (outcome_lists-Delete atom) ∙ one_fluent atom.predicate false (sym (fluent-Delete atom) ∙ h)
-    fluent_outcomes (And' shape row) h = ap (list_all (are_fluent predicates)) (outcome_lists-And' shape row) ∙ fluent_each row (sym (fluent-And' shape row) ∙ h)
-    fluent_outcomes (OneOf' shape row) h = ap (list_all (are_fluent predicates)) (outcome_lists-OneOf' shape row) ∙ fluent_some row (sym (fluent-OneOf' shape row) ∙ h)
+    fluent_outcomes (Add atom) h = ap (list_all (are_fluent predicates)) (outcome_lists-Add atom) ∙ one_fluent atom.predicate true (sym (fluent-Add predicates atom) ∙ h)
+    fluent_outcomes (Delete atom) h = ap (list_all (are_fluent predicates)) (outcome_lists-Delete atom) ∙ one_fluent atom.predicate false (sym (fluent-Delete predicates atom) ∙ h)
+    fluent_outcomes (And' shape row) h = ap (list_all (are_fluent predicates)) (outcome_lists-And' shape row) ∙ fluent_each row (sym (fluent-And' predicates shape row) ∙ h)
+    fluent_outcomes (OneOf' shape row) h = ap (list_all (are_fluent predicates)) (outcome_lists-OneOf' shape row) ∙ fluent_some row (sym (fluent-OneOf' predicates shape row) ∙ h)
 
     fluent_each : {m : _} (row : Row_of-LEffect m) → list_all (λ part. part) (map (is_effect_fluent predicates) (items-the_row-LEffect m row)) ≡ true
         → list_all (are_fluent predicates) (concatenations (map outcome_lists (items-the_row-LEffect m row))) ≡ true

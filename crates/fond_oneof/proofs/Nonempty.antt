@@ -1,13 +1,12 @@
 -- An effect in which each choice has a member has an outcome.
-use Rattle.std.proofs.Common.{◌≡◌, ℕ, suc, ◌+◌, ◌<◌, ◌∙◌, ◌&&◌, not, Bool, true, false, List, [], ◌∷◌, ◌++◌, length, map, refl, sym, ap, subst, arith, length-append}
+use Rattle.std.proofs.Common.{◌≡◌, ℕ, ◌<◌, ◌∙◌, ◌&&◌, not, Bool, true, false, List, [], ◌∷◌, ◌++◌, length, map, refl, sym, subst, arith, length-append}
 use Rattle.std.specs.Prelude.{◌==◌}
 use Rattle.std.specs.List.{list_all, flat_map}
 use Rattle.std.proofs.lemmas.List.{length-map}
 use Rattle.fond_ast.specs.declared.form.LEffect.{LEffect, Nothing, Add, Delete, And', OneOf', Row_of-LEffect, end_of-LEffect, more_of-LEffect}
-use Rattle.fond_ast.specs.declared.form.LEffect.TheBlock.{items-the_row-LEffect, items_shown-the_row-LEffect-0}
-use Rattle.fond_ast.specs.declared.form.LEffect.TheViews.{outs-And', outs-OneOf'}
-use Rattle.fond_ast.specs.declared.form.LEffect.TheFolds.{fold_out-LEffect, map-LEffect}
-use Rattle.fond_ast.specs.Within.{is_effect_within, effect_within_step}
+use Rattle.fond_ast.specs.declared.form.LEffect.TheBlock.{items-the_row-LEffect}
+use Rattle.fond_ast.specs.Within.{is_effect_within}
+use Rattle.fond_ast.proofs.Effects.{within-And', within-OneOf'}
 use Rattle.fond_oneof.specs.declared.outcome.Literal.{Literal}
 use Rattle.fond_oneof.specs.Outcomes.{outcome_lists, concatenations, pairs}
 use Rattle.fond_oneof.specs.Nonempty.{EffectsHaveOutcomes}
@@ -18,17 +17,6 @@ and_true true b h = (refl, h)
 and_true false b h = cc
 
 module _ (count : ℕ) where
-  within-And' : (shape : _) (row : Row_of-LEffect _) → is_effect_within count (And' shape row) ≡ list_all (λ part. part) (map (is_effect_within count) (items-the_row-LEffect _ row))
-  within-And' shape row =
-      fold_out-LEffect Bool (effect_within_step count) (And' shape row) ∙ ap (λ layer. effect_within_step count (map-LEffect LEffect Bool (is_effect_within count) layer)) (outs-And' shape row)
-      ∙ ap (λ parts. list_all (λ part. part) (map (is_effect_within count) parts)) (items_shown-the_row-LEffect-0 shape row)
-
-  within-OneOf' : (shape : _) (row : Row_of-LEffect _) → is_effect_within count (OneOf' shape row)
-      ≡ (not (length (map (is_effect_within count) (items-the_row-LEffect _ row)) == 0) && list_all (λ part. part) (map (is_effect_within count) (items-the_row-LEffect _ row)))
-  within-OneOf' shape row =
-      fold_out-LEffect Bool (effect_within_step count) (OneOf' shape row) ∙ ap (λ layer. effect_within_step count (map-LEffect LEffect Bool (is_effect_within count) layer)) (outs-OneOf' shape row)
-      ∙ ap (λ parts. not (length (map (is_effect_within count) parts) == 0) && list_all (λ part. part) (map (is_effect_within count) parts)) (items_shown-the_row-LEffect-0 shape row)
-
   some-pairs : (first second : List (List Literal)) → 0 < length first → 0 < length second → 0 < length (pairs first second)
   some-pairs [] second h k = absurd (omega arith)
   some-pairs (one ∷ first) second h k =
@@ -41,8 +29,8 @@ module _ (count : ℕ) where
     some_outcome Nothing h = subst (λ lists. 0 < length lists) (sym outcome_lists-Nothing) (omega arith)
     some_outcome (Add atom) h = subst (λ lists. 0 < length lists) (sym (outcome_lists-Add atom)) (omega arith)
     some_outcome (Delete atom) h = subst (λ lists. 0 < length lists) (sym (outcome_lists-Delete atom)) (omega arith)
-    some_outcome (And' shape row) h = subst (λ lists. 0 < length lists) (sym (outcome_lists-And' shape row)) (some_of_each row (sym (within-And' shape row) ∙ h))
-    some_outcome (OneOf' shape row) h = subst (λ lists. 0 < length lists) (sym (outcome_lists-OneOf' shape row)) (some_of_some row (sym (within-OneOf' shape row) ∙ h))
+    some_outcome (And' shape row) h = subst (λ lists. 0 < length lists) (sym (outcome_lists-And' shape row)) (some_of_each row (sym (within-And' count shape row) ∙ h))
+    some_outcome (OneOf' shape row) h = subst (λ lists. 0 < length lists) (sym (outcome_lists-OneOf' shape row)) (some_of_some row (sym (within-OneOf' count shape row) ∙ h))
 
     some_of_each : {m : _} (row : Row_of-LEffect m) → list_all (λ part. part) (map (is_effect_within count) (items-the_row-LEffect m row)) ≡ true
         → 0 < length (concatenations (map outcome_lists (items-the_row-LEffect m row)))

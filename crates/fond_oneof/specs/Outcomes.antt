@@ -1,5 +1,5 @@
 -- The outcomes of effects: for each outcome its literals, in order.
-use Rattle.std.specs.Prelude.{Bool, true, false, List, [], ◌∷◌, ◌++◌, map}
+use Rattle.std.specs.Prelude.{true, false, List, [], ◌∷◌, ◌++◌, map}
 use Rattle.std.specs.List.{flat_map}
 use Rattle.fond_ast.specs.declared.form.LEffect.{LEffect}
 use Rattle.fond_ast.specs.declared.form.LEffect.TheOpen.{LEffect-F, Nothing, Add, Delete, And, OneOf}

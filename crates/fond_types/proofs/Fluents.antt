@@ -1,5 +1,5 @@
 -- Each literal of an effect has a fluent predicate, if the fluent predicates are those of which some effect has a literal.
-use Rattle.std.proofs.Common.{◌≡◌, ℕ, suc, zero, ◌+◌, ◌<◌, ◌∙◌, ◌&&◌, ◌||◌, not, Bool, true, false, List, [], ◌∷◌, Some, None, length, map, slice_get, nat_lt, refl, sym, ap, subst, arith}
+use Rattle.std.proofs.Common.{◌≡◌, ℕ, suc, zero, ◌<◌, ◌∙◌, ◌&&◌, ◌||◌, not, Bool, true, false, List, [], ◌∷◌, Some, length, map, slice_get, nat_lt, refl, sym, ap, arith}
 use Rattle.std.specs.Prelude.{◌==◌}
 use Rattle.std.specs.List.{list_all, list_any}
 use Rattle.std.specs.Option.{option_map_or}
@@ -8,11 +8,12 @@ use Rattle.fond_ast.specs.declared.form.LAtom.{LAtom}
 use Rattle.fond_ast.specs.declared.form.LEffect.{LEffect, Nothing, Add, Delete, And', OneOf', Row_of-LEffect, end_of-LEffect, more_of-LEffect}
 use Rattle.fond_ast.specs.declared.form.LEffect.TheBlock.{items-the_row-LEffect, items_shown-the_row-LEffect-0}
 use Rattle.fond_ast.specs.declared.form.LEffect.TheOpen as open_effect
-use Rattle.fond_ast.specs.declared.form.LEffect.TheViews.{rolls-Nothing, rolls-Add, rolls-Delete, outs-And', outs-OneOf'}
+use Rattle.fond_ast.specs.declared.form.LEffect.TheViews.{rolls-Add, rolls-Delete, outs-And', outs-OneOf'}
 use Rattle.fond_ast.specs.declared.form.LEffect.TheFolds.{fold-roll-LEffect, fold_out-LEffect, map-LEffect}
 use Rattle.fond_ast.specs.declared.task.LPredicate.{LPredicate}
 use Rattle.fond_ast.specs.declared.task.LSchema.{LSchema}
-use Rattle.fond_ast.specs.Within.{is_fluent, is_effect_fluent, is_schema_fluent, fluent_step, is_effect_within, is_schema_within, is_condition_within, effect_within_step}
+use Rattle.fond_ast.specs.Within.{is_fluent, is_effect_fluent, is_schema_fluent, is_effect_within, is_schema_within, is_condition_within}
+use Rattle.fond_ast.proofs.Effects.{fluent-Nothing, fluent-Add, fluent-Delete, fluent-And', fluent-OneOf', within-Add, within-Delete, within-And', within-OneOf'}
 use Rattle.fond_types.specs.Resolves.{mentions, mentions_step}
 
 and_true : (a b : Bool) → (a && b) ≡ true → (a ≡ true) × (b ≡ true)
@@ -29,26 +30,6 @@ or_right : (a b : Bool) → b ≡ true → (a || b) ≡ true
 or_right true b h = refl
 or_right false b h = h
 
-module _ (predicates : List LPredicate) where
-  fluent-Nothing : is_effect_fluent predicates Nothing ≡ true
-  fluent-Nothing = ap (is_effect_fluent predicates) (sym rolls-Nothing) ∙ fold-roll-LEffect Bool (fluent_step predicates) open_effect.Nothing
-
-  fluent-Add : (atom : LAtom) → is_effect_fluent predicates (Add atom) ≡ is_fluent predicates atom.predicate
-  fluent-Add atom = ap (is_effect_fluent predicates) (sym (rolls-Add atom)) ∙ fold-roll-LEffect Bool (fluent_step predicates) (open_effect.Add atom)
-
-  fluent-Delete : (atom : LAtom) → is_effect_fluent predicates (Delete atom) ≡ is_fluent predicates atom.predicate
-  fluent-Delete atom = ap (is_effect_fluent predicates) (sym (rolls-Delete atom)) ∙ fold-roll-LEffect Bool (fluent_step predicates) (open_effect.Delete atom)
-
-  fluent-And' : (shape : _) (row : Row_of-LEffect _) → is_effect_fluent predicates (And' shape row) ≡ list_all (λ part. part) (map (is_effect_fluent predicates) (items-the_row-LEffect _ row))
-  fluent-And' shape row =
-      fold_out-LEffect Bool (fluent_step predicates) (And' shape row) ∙ ap (λ layer. fluent_step predicates (map-LEffect LEffect Bool (is_effect_fluent predicates) layer)) (outs-And' shape row)
-      ∙ ap (λ parts. list_all (λ part. part) (map (is_effect_fluent predicates) parts)) (items_shown-the_row-LEffect-0 shape row)
-
-  fluent-OneOf' : (shape : _) (row : Row_of-LEffect _) → is_effect_fluent predicates (OneOf' shape row) ≡ list_all (λ part. part) (map (is_effect_fluent predicates) (items-the_row-LEffect _ row))
-  fluent-OneOf' shape row =
-      fold_out-LEffect Bool (fluent_step predicates) (OneOf' shape row) ∙ ap (λ layer. fluent_step predicates (map-LEffect LEffect Bool (is_effect_fluent predicates) layer)) (outs-OneOf' shape row)
-      ∙ ap (λ parts. list_all (λ part. part) (map (is_effect_fluent predicates) parts)) (items_shown-the_row-LEffect-0 shape row)
-
 mentions-Add : (number : ℕ) (atom : LAtom) → mentions number (Add atom) ≡ (atom.predicate == number)
 mentions-Add number atom = ap (mentions number) (sym (rolls-Add atom)) ∙ fold-roll-LEffect Bool (mentions_step number) (open_effect.Add atom)
 
@@ -64,23 +45,6 @@ mentions-OneOf' : (number : ℕ) (shape : _) (row : Row_of-LEffect _) → mentio
 mentions-OneOf' number shape row =
     fold_out-LEffect Bool (mentions_step number) (OneOf' shape row) ∙ ap (λ layer. mentions_step number (map-LEffect LEffect Bool (mentions number) layer)) (outs-OneOf' shape row)
     ∙ ap (λ parts. list_any (λ part. part) (map (mentions number) parts)) (items_shown-the_row-LEffect-0 shape row)
-
-within-Add : (count : ℕ) (atom : LAtom) → is_effect_within count (Add atom) ≡ nat_lt atom.predicate count
-within-Add count atom = ap (is_effect_within count) (sym (rolls-Add atom)) ∙ fold-roll-LEffect Bool (effect_within_step count) (open_effect.Add atom)
-
-within-Delete : (count : ℕ) (atom : LAtom) → is_effect_within count (Delete atom) ≡ nat_lt atom.predicate count
-within-Delete count atom = ap (is_effect_within count) (sym (rolls-Delete atom)) ∙ fold-roll-LEffect Bool (effect_within_step count) (open_effect.Delete atom)
-
-within-And' : (count : ℕ) (shape : _) (row : Row_of-LEffect _) → is_effect_within count (And' shape row) ≡ list_all (λ part. part) (map (is_effect_within count) (items-the_row-LEffect _ row))
-within-And' count shape row =
-    fold_out-LEffect Bool (effect_within_step count) (And' shape row) ∙ ap (λ layer. effect_within_step count (map-LEffect LEffect Bool (is_effect_within count) layer)) (outs-And' shape row)
-    ∙ ap (λ parts. list_all (λ part. part) (map (is_effect_within count) parts)) (items_shown-the_row-LEffect-0 shape row)
-
-within-OneOf' : (count : ℕ) (shape : _) (row : Row_of-LEffect _) → is_effect_within count (OneOf' shape row)
-    ≡ (not (length (map (is_effect_within count) (items-the_row-LEffect _ row)) == 0) && list_all (λ part. part) (map (is_effect_within count) (items-the_row-LEffect _ row)))
-within-OneOf' count shape row =
-    fold_out-LEffect Bool (effect_within_step count) (OneOf' shape row) ∙ ap (λ layer. effect_within_step count (map-LEffect LEffect Bool (is_effect_within count) layer)) (outs-OneOf' shape row)
-    ∙ ap (λ parts. not (length (map (is_effect_within count) parts) == 0) && list_all (λ part. part) (map (is_effect_within count) parts)) (items_shown-the_row-LEffect-0 shape row)
 
 -- each predicate of which an effect has a literal is fluent
 abbrev pub MentionsFluent : List LPredicate → (ℕ → Bool) → Type 0
