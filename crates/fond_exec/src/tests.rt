@@ -1,6 +1,4 @@
-use crate::executor::Executor;
 use crate::script::read_script;
-use crate::step::Step;
 use crate::trace::trace;
 use fond_game::rule::{Rule, Target, Targets};
 use fond_rules::rules::Rules;
@@ -97,20 +95,6 @@ fn a_policy_is_traced(rt: HostRuntime) -> Result<(), Fail> {
     }
     let wanted = b"rule 0 (strike) outcome 0\ngoal left 1\nstate\n(lit)\n";
     assert_eq!(rt; text.as_slice(), wanted.as_slice());
-    Ok(())
-}
-
-#[test]
-fn a_policy_is_stepped(rt: HostRuntime) -> Result<(), Fail> {
-    let task = task(rt.alloc())?.expect(&rt, "the parts make a task");
-    let rules = rules(rt.alloc())?;
-    if rules.belong_to(&task) {
-        let mut run = Executor::start(rt.alloc(), &task, &rules)?;
-        assert_eq!(rt; run.step(1), Step::BadOutcome { count: 1 });
-        assert_eq!(rt; run.step(0), Step::Took { rule: 0, act: 0 });
-        assert!(rt; run.done());
-        assert_eq!(rt; run.state().len(), 1);
-    }
     Ok(())
 }
 
