@@ -1,4 +1,4 @@
--- The words of a script: its longest runs of bytes other than blanks, each with its first byte.
+-- The words of a script: its longest runs of bytes other than blanks, each with the position of its first byte.
 use Rattle.std.specs.Prelude.{ℕ, ◌+◌, Bool, false, not, List, [], ◌∷◌, ◌++◌, take_while, if◌then◌else◌}
 use Rattle.fond_text.specs.Bytes.{is_blank}
 

@@ -8,7 +8,7 @@ use Rattle.fond_text.specs.Faults.{IsClean, AreClean, IsFirstAmong}
 use Rattle.fond_ast.specs.declared.task.LiftedTask.{LiftedTask}
 use Rattle.fond_tree.specs.Faults.{IsTextFault}
 use Rattle.fond_tree.specs.Spelling.{IsReadAs}
-use Rattle.fond_reader.specs.Faults.{StandsInDomain, StandsInProblem}
+use Rattle.fond_grammar.specs.Faults.{StandsInDomain, StandsInProblem}
 use Rattle.fond_reader.specs.Files.{IsDomainOf, IsProblemOf}
 use Rattle.fond_types.specs.Faults.{Declarations, StandsInNames}
 use Rattle.fond_types.specs.Resolves.{IsResolved}
@@ -23,7 +23,7 @@ OccursInTexts texts Domain = IsTextFault texts.domain
 OccursInTexts texts Problem = IsTextFault texts.problem
 OccursInTexts texts Side = IsSideTextFault texts.side
 
--- a domain and a problem are read as trees, and the text of a side list has no fault
+-- a domain and a problem are read as trees, and a side list is not too long and has no stray byte
 pub record AreTreesOf (texts : TaskTexts) (trees : Trees) : Type 0 where
   pub domain : IsReadAs texts.domain trees.domain
   pub problem : IsReadAs texts.problem trees.problem

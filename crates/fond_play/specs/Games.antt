@@ -60,7 +60,8 @@ pub record ReachesCount {S A : Type 0} (game : Game S A) (policy : Policy S A) (
   pub all : (state : S) → Reach game policy state → Contains states state
   pub counted : length states ≡ count
 
--- more than this many states are reachable by applicable actions: a list of distinct such states is longer
+-- more than this many states are reachable: a list of distinct states, each at the end of a walk by any actions, is
+-- longer
 pub record More {S A : Type 0} (game : Game S A) (bound : ℕ) : Type 0 where
   pub states : List S
   pub once : AreDistinct states

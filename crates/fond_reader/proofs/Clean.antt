@@ -5,16 +5,16 @@ use Rattle.std.specs.Str.{bytes_eq}
 use Rattle.fond_text.specs.declared.place.Place.{Place}
 use Rattle.fond_tree.specs.declared.tree.Tree.{Tree, out-Tree}
 use Rattle.fond_tree.specs.declared.tree.Tree.TheOpen.{Tree-F, Leaf, Node}
-use Rattle.fond_reader.specs.declared.role.Role.{Role}
-use Rattle.fond_reader.specs.declared.role.Role.TheVariants as role
-use Rattle.fond_reader.specs.declared.role.Keyword.{Keyword}
-use Rattle.fond_reader.specs.Forms.{is_word}
-use Rattle.fond_reader.specs.Words.{is_name, is_variable, is_one_of}
+use Rattle.fond_grammar.specs.declared.role.Role.{Role}
+use Rattle.fond_grammar.specs.declared.role.Role.TheVariants as role
+use Rattle.fond_grammar.specs.declared.role.Keyword.{Keyword}
+use Rattle.fond_grammar.specs.Words.{is_word}
+use Rattle.fond_grammar.specs.Words.{is_name, is_variable, is_one_of}
 use Rattle.fond_tree.specs.Trees.{members_step, leaf_step, members_of, leaf_of, place_of}
-use Rattle.fond_reader.specs.Roles.{Expected, Members, node_expected, leaf_code, is_unbuilt, has_term, is_leaf_of, is_term, atom, word, action_keys, is_headed_by}
-use Rattle.fond_reader.specs.Parts.{Part, part, parts, part_at, expected_parts}
+use Rattle.fond_grammar.specs.Roles.{Expected, Members, node_expected, leaf_code, is_unbuilt, has_term, is_leaf_of, is_term, atom, word, action_keys, is_headed_by}
+use Rattle.fond_grammar.specs.Parts.{Part, part, parts, part_at, expected_parts}
 use Rattle.fond_text.specs.Faults.{IsClean}
-use Rattle.fond_reader.specs.Faults.{node_code, tree_code, IsOwnFault, IsRepeated, IsIncomplete, Stands}
+use Rattle.fond_grammar.specs.Faults.{node_code, tree_code, IsOwnFault, IsRepeated, IsIncomplete, Stands}
 use Rattle.fond_reader.specs.Files.{is_name_leaf}
 
 -- a tree of a role has no fault

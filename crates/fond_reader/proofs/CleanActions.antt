@@ -4,15 +4,17 @@ use Rattle.std.specs.List.{list_all}
 use Rattle.std.proofs.lemmas.Slice.Eq.{bytes_eq-Decides}
 use Rattle.std.proofs.lemmas.Bool.Decides.{nat_tests}
 use Rattle.fond_tree.specs.declared.tree.Tree.{Tree}
-use Rattle.fond_reader.specs.declared.role.Role.{Role}
-use Rattle.fond_reader.specs.declared.role.Role.TheVariants as role
-use Rattle.fond_reader.specs.declared.role.Rest.TheVariants.{Pairs}
+use Rattle.fond_grammar.specs.declared.role.Role.{Role}
+use Rattle.fond_grammar.specs.declared.role.Role.TheVariants as role
+use Rattle.fond_grammar.specs.declared.role.Rest.TheVariants.{Pairs}
 use Rattle.fond_tree.specs.Trees.{head_of, members_of, leaf_of}
-use Rattle.fond_reader.specs.Roles.{shape, Members, domain_section, action_keys, is_headed_by}
-use Rattle.fond_reader.specs.Parts.{Part, part, value, value_role, pairs, are_pairs}
-use Rattle.fond_reader.specs.Faults.{keys}
-use Rattle.fond_reader.specs.Forms.{is_word, is_unit, is_empty}
-use Rattle.fond_reader.specs.Files.{is_name_leaf, has_head, values, are_no_parameters}
+use Rattle.fond_grammar.specs.Roles.{shape, Members, domain_section, action_keys, is_headed_by}
+use Rattle.fond_grammar.specs.Parts.{Part, part, value, value_role, pairs, are_pairs}
+use Rattle.fond_grammar.specs.Faults.{keys}
+use Rattle.fond_reader.specs.Forms.{is_unit, is_empty}
+use Rattle.fond_grammar.specs.Words.{is_word}
+use Rattle.fond_reader.specs.Files.{is_name_leaf, values, are_no_parameters}
+use Rattle.fond_grammar.specs.Words.{has_head}
 use Rattle.fond_reader.specs.CleanForms.{fits_condition, fits_whole_effect}
 use Rattle.fond_reader.specs.CleanFiles.{is_none_or_one, fits_pairs, action_after, fits_action}
 use Rattle.fond_reader.proofs.Clean.{IsCleanAs, FitsAs, node_stands, built, unrepeated, name_leaf, key_leaf, some_is_none, true_is_false, fits_uncoded}

@@ -6,13 +6,13 @@ use Rattle.fond_tree.specs.Spelling.{depth, depth_step}
 use Rattle.fond_tree.specs.declared.tree.Tree.{Tree, out-Tree}
 use Rattle.fond_tree.specs.declared.tree.Tree.TheOpen.{Tree-F, Leaf, Node}
 use Rattle.fond_tree.specs.declared.tree.Tree.TheFolds.{fold_out-Tree, map-Tree}
-use Rattle.fond_reader.specs.declared.role.Role.{Role}
-use Rattle.fond_reader.specs.declared.role.Role.TheVariants as role
-use Rattle.fond_reader.specs.declared.role.Rest.TheVariants.{NoMore, Each}
-use Rattle.fond_reader.specs.Words.{is_name, reserved, is_one_of}
+use Rattle.fond_grammar.specs.declared.role.Role.{Role}
+use Rattle.fond_grammar.specs.declared.role.Role.TheVariants as role
+use Rattle.fond_grammar.specs.declared.role.Rest.TheVariants.{NoMore, Each}
+use Rattle.fond_grammar.specs.Words.{is_name, reserved, is_one_of}
 use Rattle.fond_tree.specs.Trees.{members_step, is_node, members_of, leaf_of}
-use Rattle.fond_reader.specs.Roles.{shape, Members, Refused, node_expected, atom, atom_or_refused, form, condition, has_term, is_unbuilt_form, condition_operator}
-use Rattle.fond_reader.specs.Parts.{part}
+use Rattle.fond_grammar.specs.Roles.{shape, Members, Refused, node_expected, atom, atom_or_refused, form, condition, has_term, is_unbuilt_form, condition_operator}
+use Rattle.fond_grammar.specs.Parts.{part}
 use Rattle.fond_reader.specs.Files.{is_name_leaf}
 use Rattle.fond_reader.specs.CleanForms.{SeenCondition, seen_condition, fits_condition, condition_of_members, condition_after}
 use Rattle.fond_reader.proofs.Clean.{IsCleanAs, AreCleanAs, FitsAs, leaf_or_node, node_stands, fits_as, built, name_stands, atom_alone, some_is_none, true_is_false}

@@ -5,12 +5,12 @@ use Rattle.std.specs.Str.{bytes_eq}
 use Rattle.std.proofs.lemmas.Bool.Decides.{nat_tests}
 use Rattle.fond_tree.specs.Spelling.{depth}
 use Rattle.fond_tree.specs.declared.tree.Tree.{Tree}
-use Rattle.fond_reader.specs.declared.role.Role.{Role}
-use Rattle.fond_reader.specs.declared.role.Role.TheVariants as role
-use Rattle.fond_reader.specs.declared.role.Rest.TheVariants.{NoMore, Each}
-use Rattle.fond_reader.specs.Words.{is_name}
+use Rattle.fond_grammar.specs.declared.role.Role.{Role}
+use Rattle.fond_grammar.specs.declared.role.Role.TheVariants as role
+use Rattle.fond_grammar.specs.declared.role.Rest.TheVariants.{NoMore, Each}
+use Rattle.fond_grammar.specs.Words.{is_name}
 use Rattle.fond_tree.specs.Trees.{members_of, leaf_of}
-use Rattle.fond_reader.specs.Roles.{shape, Members, node_expected, atom, atom_or_refused, choice, form, effect, initial, is_unbuilt, is_unbuilt_form, effect_operator, initial_operator}
+use Rattle.fond_grammar.specs.Roles.{shape, Members, node_expected, atom, atom_or_refused, choice, form, effect, initial, is_unbuilt, is_unbuilt_form, effect_operator, initial_operator}
 use Rattle.fond_reader.specs.Files.{is_name_leaf}
 use Rattle.fond_reader.specs.Forms.{is_only}
 use Rattle.fond_reader.specs.CleanForms.{fits_atom, SeenEffect, seen_effect, fits_effect, fits_whole_effect, effect_of_members, effect_after, choice_after, initial_after, initial_of_members, fits_initial}

@@ -6,19 +6,21 @@ use Rattle.std.proofs.lemmas.Slice.Eq.{bytes_eq-Decides}
 use Rattle.std.proofs.lemmas.Bool.Decides.{nat_tests}
 use Rattle.fond_text.specs.declared.place.Place.{Place}
 use Rattle.fond_tree.specs.declared.tree.Tree.{Tree}
-use Rattle.fond_reader.specs.declared.role.Role.{Role}
-use Rattle.fond_reader.specs.declared.role.Role.TheVariants as role
-use Rattle.fond_reader.specs.declared.role.Keyword.{Keyword}
-use Rattle.fond_reader.specs.declared.role.Keyword.TheVariants as keyword
-use Rattle.fond_reader.specs.declared.role.Rest.TheVariants.{NoMore, Each, Typed, Pairs, Unread}
-use Rattle.fond_reader.specs.Words.{is_name, is_variable, is_one_of}
+use Rattle.fond_grammar.specs.declared.role.Role.{Role}
+use Rattle.fond_grammar.specs.declared.role.Role.TheVariants as role
+use Rattle.fond_grammar.specs.declared.role.Keyword.{Keyword}
+use Rattle.fond_grammar.specs.declared.role.Keyword.TheVariants as keyword
+use Rattle.fond_grammar.specs.declared.role.Rest.TheVariants.{NoMore, Each, Typed, Pairs, Unread}
+use Rattle.fond_grammar.specs.Words.{is_name, is_variable, is_one_of}
 use Rattle.fond_tree.specs.Trees.{head_of, front, members_of, leaf_of, place_of}
-use Rattle.fond_reader.specs.Roles.{shape, Expected, Members, Refused, node_expected, domain_section, problem_section, word, is_leaf_of, names_with, is_unbuilt, is_headed_by, has_more, passed_over}
-use Rattle.fond_reader.specs.Parts.{part}
+use Rattle.fond_grammar.specs.Roles.{shape, Expected, Members, Refused, node_expected, domain_section, problem_section, word, is_leaf_of, names_with, is_unbuilt, is_headed_by, has_more, passed_over}
+use Rattle.fond_grammar.specs.Parts.{part}
 use Rattle.fond_text.specs.Faults.{IsClean}
-use Rattle.fond_reader.specs.Faults.{StandsInDomain, StandsInProblem, single_in_domain, single_in_problem, Repeats, Lacks}
-use Rattle.fond_reader.specs.Forms.{is_word, is_only}
-use Rattle.fond_reader.specs.Files.{is_name_leaf, are_header, IsFile, has_head, headed, content, contents, AreSingle, is_domain_section, is_problem_section}
+use Rattle.fond_grammar.specs.Faults.{StandsInDomain, StandsInProblem, single_in_domain, single_in_problem, Repeats, Lacks}
+use Rattle.fond_reader.specs.Forms.{is_only}
+use Rattle.fond_grammar.specs.Words.{is_word}
+use Rattle.fond_reader.specs.Files.{is_name_leaf, are_header, IsFile, headed, content, contents, AreSingle, is_domain_section, is_problem_section}
+use Rattle.fond_grammar.specs.Words.{has_head}
 use Rattle.fond_reader.specs.CleanForms.{fits_atom, fits_condition, fits_initial}
 use Rattle.fond_reader.specs.CleanFiles.{fits_action, sections_after, sections_of, IsCleanDomain, IsCleanProblem}
 use Rattle.fond_reader.proofs.Clean.{IsCleanAs, AreCleanAs, FitsAs, node_stands, fits_as, built, unrepeated, complete, name_stands, name_leaf, variable_leaf, word_leaf, some_is_none, true_is_false, none_of}

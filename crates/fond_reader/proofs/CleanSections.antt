@@ -6,16 +6,17 @@ use Rattle.std.proofs.lemmas.Slice.Eq.{bytes_eq-Decides}
 use Rattle.std.proofs.lemmas.List.Elements.{filter_map-append, Contains-append_left, Contains-append_right}
 use Rattle.fond_text.specs.declared.place.Place.{Place}
 use Rattle.fond_tree.specs.declared.tree.Tree.{Tree}
-use Rattle.fond_reader.specs.declared.role.Role.{Role}
-use Rattle.fond_reader.specs.declared.role.Role.TheVariants as role
-use Rattle.fond_reader.specs.declared.role.Rest.TheVariants.{Unread}
-use Rattle.fond_reader.specs.Words.{is_name, is_one_of}
+use Rattle.fond_grammar.specs.declared.role.Role.{Role}
+use Rattle.fond_grammar.specs.declared.role.Role.TheVariants as role
+use Rattle.fond_grammar.specs.declared.role.Rest.TheVariants.{Unread}
+use Rattle.fond_grammar.specs.Words.{is_name, is_one_of}
 use Rattle.fond_tree.specs.Trees.{head_of, front, members_of, leaf_of, place_of}
-use Rattle.fond_reader.specs.Roles.{shape, Expected, Members, node_expected, leaf_code, section}
-use Rattle.fond_reader.specs.Parts.{part}
-use Rattle.fond_reader.specs.Faults.{Repeats}
-use Rattle.fond_reader.specs.Forms.{is_word}
-use Rattle.fond_reader.specs.Files.{has_head, headed, but_first, content, contents}
+use Rattle.fond_grammar.specs.Roles.{shape, Expected, Members, node_expected, leaf_code, section}
+use Rattle.fond_grammar.specs.Parts.{part}
+use Rattle.fond_grammar.specs.Faults.{Repeats}
+use Rattle.fond_grammar.specs.Words.{is_word}
+use Rattle.fond_reader.specs.Files.{headed, but_first, content, contents}
+use Rattle.fond_grammar.specs.Words.{has_head}
 use Rattle.fond_reader.proofs.Clean.{IsCleanAs, FitsAs, leaf_or_node, node_stands, fits_as, name_stands, some_is_none, true_is_false}
 use Rattle.fond_reader.proofs.ReadLists.{first_of_both, second_of_both}
 

@@ -9,13 +9,14 @@ use Rattle.fond_ast.specs.declared.files.Schema.{Schema}
 use Rattle.fond_ast.specs.declared.syntax.Cond.{Cond}
 use Rattle.fond_ast.specs.declared.syntax.Effect.{Effect}
 use Rattle.fond_tree.specs.declared.tree.Tree.{Tree}
-use Rattle.fond_reader.specs.declared.role.Role.TheVariants as role
-use Rattle.fond_reader.specs.Words.{is_one_of}
+use Rattle.fond_grammar.specs.declared.role.Role.TheVariants as role
+use Rattle.fond_grammar.specs.Words.{is_one_of}
 use Rattle.fond_tree.specs.Trees.{leaf_of}
-use Rattle.fond_reader.specs.Roles.{action_keys, is_headed_by}
-use Rattle.fond_reader.specs.Parts.{Part, part, value, pairs}
-use Rattle.fond_reader.specs.Faults.{Repeats, keys}
-use Rattle.fond_reader.specs.Forms.{is_word, is_unit}
+use Rattle.fond_grammar.specs.Roles.{action_keys, is_headed_by}
+use Rattle.fond_grammar.specs.Parts.{Part, part, value, pairs}
+use Rattle.fond_grammar.specs.Faults.{Repeats, keys}
+use Rattle.fond_reader.specs.Forms.{is_unit}
+use Rattle.fond_grammar.specs.Words.{is_word}
 use Rattle.fond_reader.specs.Files.{values, are_no_parameters, IsPrecondition, IsWholeEffect, IsSchemaOf}
 use Rattle.fond_reader.proofs.Clean.{true_is_false}
 use Rattle.fond_reader.proofs.CleanActions.{values_counted}

@@ -13,9 +13,10 @@ use Rattle.fond_ast.specs.declared.syntax.Cond.TheFolds.{fold-roll-Cond, map-Con
 use Rattle.fond_tree.specs.declared.tree.Tree.{Tree, out-Tree, roll-Tree, out-roll-Tree}
 use Rattle.fond_tree.specs.declared.tree.Tree.TheOpen.{Tree-F, Leaf, Node}
 use Rattle.fond_tree.specs.declared.tree.Tree.TheFolds.{fold_out-Tree, map-Tree, ind-Tree}
-use Rattle.fond_reader.specs.Words.{is_name}
+use Rattle.fond_grammar.specs.Words.{is_name}
 use Rattle.fond_tree.specs.Trees.{members_step, members_of, leaf_of, place_of}
-use Rattle.fond_reader.specs.Forms.{is_word, is_place, is_named, is_empty, is_only, is_atom, are_operands, is_form, condition_step as reads_condition, is_condition, inner}
+use Rattle.fond_reader.specs.Forms.{is_place, is_named, is_empty, is_only, is_atom, are_operands, is_form, condition_step as reads_condition, is_condition, inner}
+use Rattle.fond_grammar.specs.Words.{is_word}
 use Rattle.fond_reader.specs.Files.{is_name_leaf, is_declared}
 use Rattle.fond_reader.specs.CleanForms.{fits_atom, SeenCondition, seen_condition, fits_condition, condition_of_members, condition_after, condition_step}
 use Rattle.fond_reader.proofs.Clean.{true_is_false}

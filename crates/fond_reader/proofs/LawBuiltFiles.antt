@@ -8,9 +8,9 @@ use Rattle.fond_ast.specs.declared.files.Schema.{Schema}
 use Rattle.fond_ast.specs.declared.syntax.Cond.{Cond, Truth}
 use Rattle.fond_ast.specs.declared.syntax.Effect.{Effect, Nothing}
 use Rattle.fond_tree.specs.declared.tree.Tree.{Tree}
-use Rattle.fond_reader.specs.Words.{is_name}
+use Rattle.fond_grammar.specs.Words.{is_name}
 use Rattle.fond_tree.specs.Trees.{members_of, leaf_of, place_of}
-use Rattle.fond_reader.specs.Faults.{StandsInDomain, StandsInProblem}
+use Rattle.fond_grammar.specs.Faults.{StandsInDomain, StandsInProblem}
 use Rattle.fond_reader.specs.Forms.{is_condition, is_initial}
 use Rattle.fond_reader.specs.Files.{is_name_leaf, headed, content, contents, is_declared, values, IsPrecondition, IsWholeEffect, IsSchemaOf, AreSchemasOf, IsDomainOf, IsProblemOf}
 use Rattle.fond_reader.specs.CleanFiles.{is_none_or_one, fits_pairs, action_after, fits_action, sections_of, IsCleanDomain, IsCleanProblem}

@@ -11,7 +11,7 @@ use Rattle.fond_ast.specs.declared.syntax.Effect.TheFolds.{fold-roll-Effect, map
 use Rattle.fond_tree.specs.declared.tree.Tree.{Tree, out-Tree}
 use Rattle.fond_tree.specs.declared.tree.Tree.TheOpen.{Tree-F, Leaf, Node}
 use Rattle.fond_tree.specs.declared.tree.Tree.TheFolds.{fold_out-Tree, map-Tree}
-use Rattle.fond_reader.specs.Words.{is_name}
+use Rattle.fond_grammar.specs.Words.{is_name}
 use Rattle.fond_tree.specs.Trees.{members_step, members_of, leaf_of}
 use Rattle.fond_reader.specs.Forms.{is_empty, is_atom, inner, effect_step as reads_effect, is_effect}
 use Rattle.fond_reader.specs.CleanForms.{fits_atom, SeenEffect, seen_effect, fits_effect, fits_choice, fits_whole_effect, effect_of_members, effect_after, choice_after, effect_step, initial_of_members, initial_after, fits_initial}

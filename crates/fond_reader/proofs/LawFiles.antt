@@ -11,18 +11,20 @@ use Rattle.fond_ast.specs.declared.files.InitAtom.{InitAtom}
 use Rattle.fond_ast.specs.declared.files.Problem.{Problem}
 use Rattle.fond_ast.specs.declared.files.Schema.{Schema}
 use Rattle.fond_tree.specs.declared.tree.Tree.{Tree}
-use Rattle.fond_reader.specs.declared.role.Keyword.{Keyword}
-use Rattle.fond_reader.specs.declared.role.Keyword.TheVariants as keyword
-use Rattle.fond_reader.specs.declared.role.Role.{Role}
-use Rattle.fond_reader.specs.declared.role.Role.TheVariants as role
-use Rattle.fond_reader.specs.declared.role.Rest.TheVariants.{NoMore, Each as EachOf, Typed}
-use Rattle.fond_reader.specs.Words.{is_name, is_one_of}
+use Rattle.fond_grammar.specs.declared.role.Keyword.{Keyword}
+use Rattle.fond_grammar.specs.declared.role.Keyword.TheVariants as keyword
+use Rattle.fond_grammar.specs.declared.role.Role.{Role}
+use Rattle.fond_grammar.specs.declared.role.Role.TheVariants as role
+use Rattle.fond_grammar.specs.declared.role.Rest.TheVariants.{NoMore, Each as EachOf, Typed}
+use Rattle.fond_grammar.specs.Words.{is_name, is_one_of}
 use Rattle.fond_tree.specs.Trees.{head_of, front, members_of, leaf_of}
-use Rattle.fond_reader.specs.Roles.{shape, Members, none, atom, form_of, condition, effect, initial, section, domain_section, problem_section, word, has_term, has_parameter, has_more, is_headed_by, action_keys, is_unbuilt_form, condition_operator, effect_operator, initial_operator}
+use Rattle.fond_grammar.specs.Roles.{shape, Members, none, atom, form_of, condition, effect, initial, section, domain_section, problem_section, word, has_term, has_parameter, has_more, is_headed_by, action_keys, is_unbuilt_form, condition_operator, effect_operator, initial_operator}
 use Rattle.fond_text.specs.Faults.{IsClean}
-use Rattle.fond_reader.specs.Faults.{IsIncomplete, Repeats, Lacks, after_header, single_in_domain, single_in_problem, StandsInDomain, StandsInProblem}
-use Rattle.fond_reader.specs.Forms.{is_word, is_only, is_named, is_condition, is_initial}
-use Rattle.fond_reader.specs.Files.{is_name_leaf, IsFile, has_head, headed, content, contents, AreSingle, is_domain_section, is_problem_section, is_declared, IsSchemaOf, AreSchemasOf, IsDomainOf, IsProblemOf}
+use Rattle.fond_grammar.specs.Faults.{IsIncomplete, Repeats, Lacks, after_header, single_in_domain, single_in_problem, StandsInDomain, StandsInProblem}
+use Rattle.fond_reader.specs.Forms.{is_only, is_named, is_condition, is_initial}
+use Rattle.fond_grammar.specs.Words.{is_word}
+use Rattle.fond_reader.specs.Files.{is_name_leaf, IsFile, headed, content, contents, AreSingle, is_domain_section, is_problem_section, is_declared, IsSchemaOf, AreSchemasOf, IsDomainOf, IsProblemOf}
+use Rattle.fond_grammar.specs.Words.{has_head}
 use Rattle.fond_reader.specs.CleanForms.{fits_atom}
 use Rattle.fond_reader.proofs.Clean.{leaf_or_node, true_is_false, code_unless}
 use Rattle.fond_reader.proofs.LawActions.{each_split, twice}

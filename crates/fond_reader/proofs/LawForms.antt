@@ -15,14 +15,15 @@ use Rattle.fond_ast.specs.declared.syntax.Effect.{Effect, out-Effect}
 use Rattle.fond_ast.specs.declared.syntax.Effect.TheOpen as open_effect
 use Rattle.fond_ast.specs.declared.syntax.Effect.TheFolds.{fold_out-Effect, map-Effect}
 use Rattle.fond_tree.specs.declared.tree.Tree.{Tree}
-use Rattle.fond_reader.specs.declared.role.Role.{Role}
-use Rattle.fond_reader.specs.declared.role.Role.TheVariants as role
-use Rattle.fond_reader.specs.declared.role.Rest.TheVariants.{NoMore, Each as EachOf}
-use Rattle.fond_reader.specs.Words.{is_name, is_variable, is_keyword, is_one_of, reserved}
+use Rattle.fond_grammar.specs.declared.role.Role.{Role}
+use Rattle.fond_grammar.specs.declared.role.Role.TheVariants as role
+use Rattle.fond_grammar.specs.declared.role.Rest.TheVariants.{NoMore, Each as EachOf}
+use Rattle.fond_grammar.specs.Words.{is_name, is_variable, is_keyword, is_one_of, reserved}
 use Rattle.fond_tree.specs.Trees.{is_node, members_of, leaf_of}
-use Rattle.fond_reader.specs.Roles.{shape, Shape, Expected, Members, Refused, none, atom, atom_or_refused, form, form_of, condition, effect, choice, initial, is_unbuilt_form, condition_operator, effect_operator, initial_operator, has_term, is_leaf_of}
-use Rattle.fond_reader.specs.Parts.{part, is_counted, shape_parts}
-use Rattle.fond_reader.specs.Forms.{is_word, is_place, is_named, is_unit, is_empty, is_only, is_atom, are_operands, is_form, condition_step, is_condition, inner, effect_step, is_effect}
+use Rattle.fond_grammar.specs.Roles.{shape, Shape, Expected, Members, Refused, none, atom, atom_or_refused, form, form_of, condition, effect, choice, initial, is_unbuilt_form, condition_operator, effect_operator, initial_operator, has_term, is_leaf_of}
+use Rattle.fond_grammar.specs.Parts.{part, is_counted, shape_parts}
+use Rattle.fond_reader.specs.Forms.{is_place, is_named, is_unit, is_empty, is_only, is_atom, are_operands, is_form, condition_step, is_condition, inner, effect_step, is_effect}
+use Rattle.fond_grammar.specs.Words.{is_word}
 use Rattle.fond_reader.specs.Files.{is_name_leaf}
 use Rattle.fond_reader.specs.CleanForms.{fits_atom}
 use Rattle.fond_reader.proofs.Clean.{leaf_or_node, true_is_false}

@@ -8,14 +8,16 @@ use Rattle.fond_ast.specs.declared.files.Schema.{Schema}
 use Rattle.fond_ast.specs.declared.syntax.Cond.{Cond}
 use Rattle.fond_ast.specs.declared.syntax.Effect.{Effect}
 use Rattle.fond_tree.specs.declared.tree.Tree.{Tree}
-use Rattle.fond_reader.specs.declared.role.Role.{Role}
-use Rattle.fond_reader.specs.declared.role.Role.TheVariants as role
+use Rattle.fond_grammar.specs.declared.role.Role.{Role}
+use Rattle.fond_grammar.specs.declared.role.Role.TheVariants as role
 use Rattle.fond_tree.specs.Trees.{members_of, leaf_of}
-use Rattle.fond_reader.specs.Roles.{Shape, Expected, Members, node_expected, leaf_code, word, is_unbuilt, action_keys, is_headed_by}
-use Rattle.fond_reader.specs.Parts.{Part, part, parts, part_at, expected_parts, shape_parts, is_counted}
-use Rattle.fond_reader.specs.Faults.{tree_code, node_code, IsOwnFault, IsRepeated, IsIncomplete}
-use Rattle.fond_reader.specs.Forms.{is_word, is_unit, is_condition, is_effect, is_initial}
-use Rattle.fond_reader.specs.Files.{is_name_leaf, are_header, has_head, content, is_domain_section, is_problem_section, IsSchemaOf, IsDomainOf, IsProblemOf}
+use Rattle.fond_grammar.specs.Roles.{Shape, Expected, Members, node_expected, leaf_code, word, is_unbuilt, action_keys, is_headed_by}
+use Rattle.fond_grammar.specs.Parts.{Part, part, parts, part_at, expected_parts, shape_parts, is_counted}
+use Rattle.fond_grammar.specs.Faults.{tree_code, node_code, IsOwnFault, IsRepeated, IsIncomplete}
+use Rattle.fond_reader.specs.Forms.{is_unit, is_condition, is_effect, is_initial}
+use Rattle.fond_grammar.specs.Words.{is_word}
+use Rattle.fond_reader.specs.Files.{is_name_leaf, are_header, content, is_domain_section, is_problem_section, IsSchemaOf, IsDomainOf, IsProblemOf}
+use Rattle.fond_grammar.specs.Words.{has_head}
 use Rattle.fond_reader.specs.CleanForms.{fits_atom}
 use Rattle.fond_reader.proofs.Clean.{IsCleanAs, leaf_or_node, parts_of, some_is_none, code_unless}
 

@@ -4,17 +4,19 @@ use Rattle.std.proofs.lemmas.Slice.Eq.{bytes_eq-Decides}
 use Rattle.fond_text.specs.declared.place.Place.{Place}
 use Rattle.fond_ast.specs.declared.files.Schema.{Schema}
 use Rattle.fond_tree.specs.declared.tree.Tree.{Tree}
-use Rattle.fond_reader.specs.declared.role.Keyword.{Keyword}
-use Rattle.fond_reader.specs.declared.role.Role.{Role}
-use Rattle.fond_reader.specs.declared.role.Role.TheVariants as role
-use Rattle.fond_reader.specs.declared.role.Rest.TheVariants.{NoMore, Each as EachOf, Typed, Pairs, Unread}
-use Rattle.fond_reader.specs.Words.{is_name, is_one_of}
+use Rattle.fond_grammar.specs.declared.role.Keyword.{Keyword}
+use Rattle.fond_grammar.specs.declared.role.Role.{Role}
+use Rattle.fond_grammar.specs.declared.role.Role.TheVariants as role
+use Rattle.fond_grammar.specs.declared.role.Rest.TheVariants.{NoMore, Each as EachOf, Typed, Pairs, Unread}
+use Rattle.fond_grammar.specs.Words.{is_name, is_one_of}
 use Rattle.fond_tree.specs.Trees.{head_of, front, members_of, leaf_of}
-use Rattle.fond_reader.specs.Roles.{shape, Shape, Expected, Members, atom, section, domain_section, problem_section, passed_over, word, has_term, has_parameter, has_more, is_leaf_of, is_headed_by, action_keys}
-use Rattle.fond_reader.specs.Parts.{is_counted, shape_parts}
-use Rattle.fond_reader.specs.Faults.{IsRepeated, Repeats, after_header, keys}
-use Rattle.fond_reader.specs.Forms.{is_word, is_unit}
-use Rattle.fond_reader.specs.Files.{is_name_leaf, are_header, has_head, but_first, content, IsSchemaOf}
+use Rattle.fond_grammar.specs.Roles.{shape, Shape, Expected, Members, atom, section, domain_section, problem_section, passed_over, word, has_term, has_parameter, has_more, is_leaf_of, is_headed_by, action_keys}
+use Rattle.fond_grammar.specs.Parts.{is_counted, shape_parts}
+use Rattle.fond_grammar.specs.Faults.{IsRepeated, Repeats, after_header, keys}
+use Rattle.fond_reader.specs.Forms.{is_unit}
+use Rattle.fond_grammar.specs.Words.{is_word}
+use Rattle.fond_reader.specs.Files.{is_name_leaf, are_header, but_first, content, IsSchemaOf}
+use Rattle.fond_grammar.specs.Words.{has_head}
 use Rattle.fond_reader.specs.CleanForms.{fits_atom}
 use Rattle.fond_reader.proofs.Clean.{leaf_or_node, true_is_false}
 use Rattle.fond_reader.proofs.LawActions.{one_of, schema_pairs, schema_single}

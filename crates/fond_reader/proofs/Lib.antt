@@ -1,5 +1,3 @@
-pub mod Again
-pub mod Among
 pub mod Clean
 pub mod CleanActions
 pub mod CleanConditions
@@ -7,7 +5,6 @@ pub mod CleanEffects
 pub mod CleanFiles
 pub mod CleanForms
 pub mod CleanSections
-pub mod Incomplete
 pub mod LawActions
 pub mod LawBuilt
 pub mod LawBuiltFiles
@@ -17,10 +14,7 @@ pub mod LawFiles
 pub mod LawForms
 pub mod LawParts
 pub mod LawSections
-pub mod Members
-pub mod Pairs
 pub mod ReadFiles
 pub mod ReadLists
 pub mod ReadSchemas
 pub mod ReadValues
-pub mod Steps

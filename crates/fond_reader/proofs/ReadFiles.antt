@@ -5,7 +5,8 @@ use Rattle.std.proofs.lemmas.List.{take_more}
 use Rattle.std.proofs.lemmas.List.Elements.{filter-append}
 use Rattle.fond_ast.specs.declared.files.Schema.{Schema}
 use Rattle.fond_tree.specs.declared.tree.Tree.{Tree}
-use Rattle.fond_reader.specs.Files.{has_head, headed, IsSchemaOf, AreSchemasOf}
+use Rattle.fond_reader.specs.Files.{headed, IsSchemaOf, AreSchemasOf}
+use Rattle.fond_grammar.specs.Words.{has_head}
 use Rattle.fond_reader.proofs.ReadLists.{left_at, first_of_both, second_of_both}
 
 module _ (word : List ℕ) where

@@ -6,12 +6,13 @@ use Rattle.std.proofs.lemmas.Slice.Eq.{bytes_eq-Decides}
 use Rattle.fond_text.specs.declared.place.Place.{Place}
 use Rattle.fond_ast.specs.declared.files.Schema.{Schema}
 use Rattle.fond_tree.specs.declared.tree.Tree.{Tree}
-use Rattle.fond_reader.specs.Words.{is_name}
+use Rattle.fond_grammar.specs.Words.{is_name}
 use Rattle.fond_tree.specs.Trees.{members_of, leaf_of, place_of}
-use Rattle.fond_reader.specs.Roles.{action_keys, is_headed_by}
-use Rattle.fond_reader.specs.Parts.{are_pairs}
-use Rattle.fond_reader.specs.Faults.{keys}
-use Rattle.fond_reader.specs.Forms.{is_word, is_place, is_named}
+use Rattle.fond_grammar.specs.Roles.{action_keys, is_headed_by}
+use Rattle.fond_grammar.specs.Parts.{are_pairs}
+use Rattle.fond_grammar.specs.Faults.{keys}
+use Rattle.fond_reader.specs.Forms.{is_place, is_named}
+use Rattle.fond_grammar.specs.Words.{is_word}
 use Rattle.fond_reader.specs.Files.{is_name_leaf, but_first, values, are_no_parameters, IsPrecondition, IsWholeEffect, IsSchemaOf}
 use Rattle.fond_reader.specs.CleanForms.{fits_condition, fits_whole_effect}
 use Rattle.fond_reader.specs.CleanFiles.{is_none_or_one, fits_pairs}

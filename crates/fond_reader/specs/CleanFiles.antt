@@ -3,9 +3,9 @@ use Rattle.std.specs.Prelude.{◌≡◌, ◌==◌, ◌&&◌, Bool, true, false, 
 use Rattle.std.specs.List.{list_all}
 use Rattle.fond_tree.specs.declared.tree.Tree.{Tree}
 use Rattle.fond_tree.specs.Trees.{members_of, leaf_of}
-use Rattle.fond_reader.specs.Roles.{action_keys, is_headed_by}
-use Rattle.fond_reader.specs.Parts.{are_pairs}
-use Rattle.fond_reader.specs.Faults.{after_header, keys, single_in_domain, single_in_problem}
+use Rattle.fond_grammar.specs.Roles.{action_keys, is_headed_by}
+use Rattle.fond_grammar.specs.Parts.{are_pairs}
+use Rattle.fond_grammar.specs.Faults.{after_header, keys, single_in_domain, single_in_problem}
 use Rattle.fond_reader.specs.Forms.{is_only}
 use Rattle.fond_reader.specs.Files.{is_name_leaf, IsFile, headed, content, contents, AreSingle, is_domain_section, is_problem_section, values, are_no_parameters}
 use Rattle.fond_reader.specs.CleanForms.{fits_atom, fits_condition, fits_whole_effect, fits_initial}

@@ -5,7 +5,7 @@ use Rattle.std.specs.Str.{bytes_eq}
 use Rattle.fond_tree.specs.declared.tree.Tree.{Tree}
 use Rattle.fond_tree.specs.declared.tree.Tree.TheOpen.{Tree-F, Leaf, Node}
 use Rattle.fond_tree.specs.declared.tree.Tree.TheFolds.{fold-Tree}
-use Rattle.fond_reader.specs.Words.{is_name}
+use Rattle.fond_grammar.specs.Words.{is_name}
 use Rattle.fond_tree.specs.Trees.{members_of, leaf_of}
 use Rattle.fond_reader.specs.Forms.{is_only}
 use Rattle.fond_reader.specs.Files.{is_name_leaf}

@@ -9,12 +9,12 @@ use Rattle.fond_ast.specs.declared.files.Problem.{Problem}
 use Rattle.fond_ast.specs.declared.files.Schema.{Schema}
 use Rattle.fond_ast.specs.declared.syntax.Cond.{Cond, Truth}
 use Rattle.fond_ast.specs.declared.syntax.Effect.{Effect, Nothing}
-use Rattle.fond_reader.specs.Words.{is_name}
+use Rattle.fond_grammar.specs.Words.{is_name, is_word, has_head}
 use Rattle.fond_tree.specs.Trees.{head_of, members_of, leaf_of, place_of}
-use Rattle.fond_reader.specs.Roles.{passed_over, action_keys, is_headed_by}
-use Rattle.fond_reader.specs.Parts.{are_pairs}
-use Rattle.fond_reader.specs.Faults.{keys, single_in_domain, single_in_problem}
-use Rattle.fond_reader.specs.Forms.{is_word, is_named, is_only, is_unit, is_condition, is_effect, is_initial}
+use Rattle.fond_grammar.specs.Roles.{passed_over, action_keys, is_headed_by}
+use Rattle.fond_grammar.specs.Parts.{are_pairs}
+use Rattle.fond_grammar.specs.Faults.{keys, single_in_domain, single_in_problem}
+use Rattle.fond_reader.specs.Forms.{is_named, is_only, is_unit, is_condition, is_effect, is_initial}
 
 -- whether a tree is a leaf that is a name
 abbrev pub is_name_leaf : Tree → Bool
@@ -37,10 +37,6 @@ pub record IsFile (kind : List ℕ) (tree : Tree) (sections : List Tree) : Type 
   pub whole : members_of tree ≡ Some (define ∷ header ∷ sections)
   pub defined : is_word (codes "define") (leaf_of define) ≡ true
   pub headed : are_header kind (members_of header) ≡ true
-
--- whether a tree is a node with this head
-abbrev pub has_head : List ℕ → Tree → Bool
-has_head word tree = is_word word (head_of tree)
 
 -- the sections with this head
 abbrev pub headed : List ℕ → List Tree → List Tree

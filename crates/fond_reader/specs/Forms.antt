@@ -12,13 +12,8 @@ use Rattle.fond_ast.specs.declared.syntax.Cond.TheFolds.{fold-Cond}
 use Rattle.fond_ast.specs.declared.syntax.Effect.{Effect}
 use Rattle.fond_ast.specs.declared.syntax.Effect.TheOpen as effect
 use Rattle.fond_ast.specs.declared.syntax.Effect.TheFolds.{fold-Effect}
-use Rattle.fond_reader.specs.Words.{is_name}
+use Rattle.fond_grammar.specs.Words.{is_name, is_word}
 use Rattle.fond_tree.specs.Trees.{members_of, leaf_of, place_of}
-
--- whether a leaf is this word
-abbrev pub is_word : List ℕ → Option (List ℕ) → Bool
-is_word word None = false
-is_word word (Some leaf) = bytes_eq leaf word
 
 -- whether two places are the same
 abbrev pub is_place : Place → Place → Bool

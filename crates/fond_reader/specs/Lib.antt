@@ -1,10 +1,5 @@
-pub mod Words
-pub mod Roles
-pub mod Parts
-pub mod Faults
 pub mod Forms
 pub mod Files
 pub mod Laws
-pub mod Walks
 pub mod CleanForms
 pub mod CleanFiles

@@ -11,10 +11,11 @@ ghost use Rattle.std.specs.Prelude.{◌≡◌, ◌∷◌, Some, true, codes, sli
 use crate::atom::name_of;
 use crate::condition::read_condition;
 use crate::effect::read_whole_effect;
-use crate::section::{after, is_leaf};
+use crate::section::after;
 use fond_ast::files::Schema;
 use fond_ast::names::TypedNames;
 use fond_ast::syntax::{Cond, Effect};
+use fond_grammar::leaves::is_leaf;
 use fond_text::fault::NoMemory;
 use fond_tree::tree::Tree;
 use std::alloc::Global;

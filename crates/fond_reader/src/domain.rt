@@ -1,7 +1,7 @@
 //! Reading a tree as a domain.
 
 ghost use Rattle.fond_reader.specs.CleanFiles.{sections_of as sections_of_file, IsCleanDomain, fits_action};
-ghost use Rattle.fond_reader.specs.Faults.{StandsInDomain};
+ghost use Rattle.fond_grammar.specs.Faults.{StandsInDomain};
 ghost use Rattle.fond_reader.specs.Files.{IsDomainOf, AreSchemasOf, headed};
 ghost use Rattle.fond_text.specs.Faults.{IsClean, IsLeastIn, Refuses};
 ghost use Rattle.fond_text.specs.declared.place.FileKind.TheVariants.{Domain as DomainKind};
@@ -9,12 +9,13 @@ ghost use Rattle.std.specs.List.{list_all};
 ghost use Rattle.std.specs.Prelude.{◌≡◌, true, codes, IfOk, IfErr, OnOk};
 
 use crate::action::read_action;
-use crate::fault::first_fault;
 use crate::initial::read_predicates;
-use crate::role::Role;
-use crate::section::{begins, contents_of, sections_of};
+use crate::section::{contents_of, sections_of};
 use fond_ast::files::{Domain, Schemas};
 use fond_ast::names::TypedNames;
+use fond_grammar::fault::first_fault;
+use fond_grammar::leaves::begins;
+use fond_grammar::role::Role;
 use fond_text::fault::{Fault, FrontError, NoMemory};
 use fond_text::place::FileKind;
 use fond_tree::tree::Tree;

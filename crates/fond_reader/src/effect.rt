@@ -7,9 +7,9 @@ ghost use Rattle.std.specs.List.{list_all};
 ghost use Rattle.std.specs.Prelude.{◌≡◌, ◌==◌, ◌&&◌, ◌∷◌, [], true, false, length, map, IfOk};
 
 use crate::atom::read_atom;
-use crate::leaves::is_word;
 use fond_ast::names::ReadAtom;
 use fond_ast::syntax::Effect;
+use fond_grammar::leaves::is_word;
 use fond_text::fault::NoMemory;
 use fond_tree::tree::Tree;
 use std::alloc::Global;

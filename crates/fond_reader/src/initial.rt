@@ -8,9 +8,9 @@ ghost use Rattle.std.specs.List.{list_all};
 ghost use Rattle.std.specs.Prelude.{◌≡◌, true, map, IfOk};
 
 use crate::atom::read_atom;
-use crate::leaves::is_word;
 use fond_ast::files::{Declared, DeclaredList, InitAtom, InitAtoms};
 use fond_ast::names::TypedNames;
+use fond_grammar::leaves::is_word;
 use fond_text::fault::NoMemory;
 use fond_tree::tree::Tree;
 use std::alloc::Global;

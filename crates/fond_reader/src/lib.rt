@@ -1,5 +1,5 @@
-//! From trees to declarations: the domain or the problem that a tree is read as, or its first fault. The crates above
-//! learn what was read, or which fault comes first. What names mean is left to them.
+//! From trees to declarations: the domain or the problem that a tree without a fault of form is read as. The crates
+//! above learn what was read, or the first fault. What names mean is left to them.
 #![tactic(auto)]
 
 mod action;
@@ -7,16 +7,9 @@ mod atom;
 mod condition;
 pub mod domain;
 mod effect;
-mod expected;
-pub mod fault;
 mod initial;
 pub mod laws;
-mod leaves;
 pub mod problem;
-mod repeats;
-pub mod role;
 mod section;
 #[cfg(test)]
 mod tests;
-mod unbuilt;
-mod walk;

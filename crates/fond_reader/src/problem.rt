@@ -3,7 +3,7 @@
 ghost use Rattle.fond_text.specs.Lists.{each_passes};
 ghost use Rattle.fond_reader.specs.CleanFiles.{sections_of as sections_of_file, IsCleanProblem};
 ghost use Rattle.fond_reader.specs.CleanForms.{fits_condition};
-ghost use Rattle.fond_reader.specs.Faults.{StandsInProblem};
+ghost use Rattle.fond_grammar.specs.Faults.{StandsInProblem};
 ghost use Rattle.fond_reader.specs.Files.{IsProblemOf};
 ghost use Rattle.fond_reader.specs.Forms.{is_condition, is_only};
 ghost use Rattle.fond_text.specs.Faults.{IsClean, IsLeastIn, Refuses};
@@ -11,13 +11,13 @@ ghost use Rattle.fond_text.specs.declared.place.FileKind.TheVariants.{Problem as
 ghost use Rattle.std.specs.Prelude.{◌≡◌, ◌∷◌, [], Some, true, IfOk, IfErr, OnOk};
 
 use crate::condition::read_condition;
-use crate::fault::first_fault;
 use crate::initial::read_initials;
-use crate::role::Role;
 use crate::section::{contents_of, sections_of};
 use fond_ast::files::Problem;
 use fond_ast::names::TypedNames;
 use fond_ast::syntax::Cond;
+use fond_grammar::fault::first_fault;
+use fond_grammar::role::Role;
 use fond_text::fault::{Fault, FrontError, NoMemory};
 use fond_text::place::FileKind;
 use fond_tree::tree::Tree;

@@ -1,36 +1,14 @@
-//! The sections of a file that has no fault, by the words that they begin with.
+//! The sections of a file that has no fault, by their heads.
 
 ghost use Rattle.fond_reader.specs.CleanFiles.{sections_of as sections_of_file};
-ghost use Rattle.fond_reader.specs.Files.{has_head, headed, content, contents};
-ghost use Rattle.fond_reader.specs.Forms.{is_word as is_word_leaf};
+ghost use Rattle.fond_reader.specs.Files.{headed, content, contents};
+ghost use Rattle.fond_grammar.specs.Words.{has_head};
+ghost use Rattle.fond_grammar.specs.Words.{is_word as is_word_leaf};
 ghost use Rattle.fond_tree.specs.Trees.{leaf_of};
 ghost use Rattle.std.specs.Prelude.{◌≡◌, ◌≤◌, length};
 
-use crate::leaves::is_word;
+use fond_grammar::leaves::begins;
 use fond_tree::tree::Tree;
-
-/// Whether a tree is this leaf.
-pub(crate) fn is_leaf(tree: &Tree, word: &[u8]) -> bool
-    ensures { result ≡ is_word_leaf word.now (leaf_of tree.now) }
-{
-    match tree {
-        Tree::Leaf(_, name) => is_word(name.bytes(), word),
-        Tree::Node(_, _) => false,
-    }
-}
-
-/// Whether a tree is a node that begins with this word.
-pub(crate) fn begins(tree: &Tree, word: &[u8]) -> bool
-    ensures { result ≡ has_head word.now tree.now }
-{
-    match tree {
-        Tree::Leaf(_, _) => false,
-        Tree::Node(_, members) => match members.as_slice() {
-            [] => false,
-            [head, ..] => is_leaf(head, word),
-        },
-    }
-}
 
 /// The members of a node after its head.
 pub(crate) fn after(tree: &Tree) -> &[Tree]

@@ -1,8 +1,6 @@
 use crate::domain::read_domain;
-use crate::fault::first_fault;
 use crate::laws::{clean_domains_are_read, clean_problems_are_read};
 use crate::problem::read_problem;
-use crate::role::Role;
 use fond_text::place::FileKind;
 use fond_tree::read::read_tree;
 use std::test::Fail;
@@ -21,7 +19,6 @@ fn a_problem_is_read(rt: HostRuntime) -> Result<(), Fail> {
     let alloc = rt.alloc();
     let text = b"(define (problem p) (:domain d) (:goal ()))";
     let tree = read_tree(alloc, FileKind::Problem, text)?;
-    assert_eq!(rt; first_fault(Role::ProblemFile, &tree), None);
     let problem = read_problem(alloc, &tree)?;
     assert_eq!(rt; problem.init.len(), 0);
     Ok(())

@@ -1,0 +1,6 @@
+pub mod Again
+pub mod Among
+pub mod Incomplete
+pub mod Members
+pub mod Pairs
+pub mod Steps

@@ -1,0 +1,5 @@
+pub mod Words
+pub mod Roles
+pub mod Parts
+pub mod Faults
+pub mod Walks
