@@ -12,6 +12,4 @@ mod part;
 pub mod policy;
 mod rule;
 mod target;
-#[cfg(test)]
-mod tests;
 mod word;

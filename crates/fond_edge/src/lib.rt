@@ -12,5 +12,3 @@ pub mod memory_sink;
 pub mod send;
 pub mod shelf;
 pub mod sink;
-#[cfg(test)]
-mod tests;

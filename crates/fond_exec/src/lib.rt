@@ -6,6 +6,4 @@
 pub mod executor;
 pub mod script;
 pub mod step;
-#[cfg(test)]
-mod tests;
 pub mod trace;

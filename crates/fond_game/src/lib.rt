@@ -12,5 +12,3 @@
 
 pub mod laws;
 pub mod rule;
-#[cfg(test)]
-mod tests;

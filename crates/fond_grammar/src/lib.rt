@@ -8,7 +8,5 @@ pub mod fault;
 pub mod leaves;
 mod repeats;
 pub mod role;
-#[cfg(test)]
-mod tests;
 mod unbuilt;
 mod walk;

@@ -5,6 +5,4 @@
 mod act;
 pub mod ground;
 mod table;
-#[cfg(test)]
-mod tests;
 mod value;

@@ -3,6 +3,4 @@
 #![tactic(auto)]
 
 pub mod succ;
-#[cfg(test)]
-mod tests;
 mod values;

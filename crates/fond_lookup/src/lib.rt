@@ -3,6 +3,4 @@
 //! proves it.
 #![tactic(auto)]
 
-#[cfg(test)]
-mod tests;
 pub mod text_index;

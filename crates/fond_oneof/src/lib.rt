@@ -5,5 +5,3 @@
 
 pub mod laws;
 pub mod outcome;
-#[cfg(test)]
-mod tests;

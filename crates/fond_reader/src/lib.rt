@@ -11,5 +11,3 @@ mod initial;
 pub mod laws;
 pub mod problem;
 mod section;
-#[cfg(test)]
-mod tests;

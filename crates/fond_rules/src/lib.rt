@@ -5,5 +5,3 @@
 
 pub mod laws;
 pub mod rules;
-#[cfg(test)]
-mod tests;

@@ -5,5 +5,3 @@
 
 pub mod cube;
 pub mod state;
-#[cfg(test)]
-mod tests;

@@ -9,7 +9,5 @@ pub mod parts;
 pub mod step;
 pub mod task;
 pub mod task_index;
-#[cfg(test)]
-mod tests;
 pub mod text;
 pub mod truth;

@@ -12,6 +12,4 @@ pub mod list;
 pub mod name;
 pub mod number;
 pub mod place;
-#[cfg(test)]
-mod tests;
 pub mod word;

@@ -5,6 +5,4 @@
 pub mod laws;
 pub mod read;
 pub mod scan;
-#[cfg(test)]
-mod tests;
 pub mod tree;

@@ -9,6 +9,4 @@ mod index;
 mod numbered;
 mod repeated;
 pub mod resolve;
-#[cfg(test)]
-mod tests;
 mod unknown;

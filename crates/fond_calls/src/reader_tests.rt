@@ -1,6 +1,5 @@
-use crate::domain::read_domain;
-use crate::laws::{clean_domains_are_read, clean_problems_are_read};
-use crate::problem::read_problem;
+use fond_reader::domain::read_domain;
+use fond_reader::problem::read_problem;
 use fond_text::place::FileKind;
 use fond_tree::read::read_tree;
 use std::test::Fail;
@@ -22,10 +21,4 @@ fn a_problem_is_read(rt: HostRuntime) -> Result<(), Fail> {
     let problem = read_problem(alloc, &tree)?;
     assert_eq!(rt; problem.init.len(), 0);
     Ok(())
-}
-
-#[test]
-fn laws_can_be_called() {
-    clean_domains_are_read();
-    clean_problems_are_read();
 }

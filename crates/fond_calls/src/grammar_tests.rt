@@ -1,5 +1,5 @@
-use crate::fault::first_fault;
-use crate::role::Role;
+use fond_grammar::fault::first_fault;
+use fond_grammar::role::Role;
 use fond_text::code::MISSING_SECTION;
 use fond_text::first::Found;
 use fond_text::place::{FileKind, Place};

@@ -1,4 +1,4 @@
-use crate::text_index::TextIndex;
+use fond_lookup::text_index::TextIndex;
 use std::test::Fail;
 
 #[test]

@@ -1,8 +1,7 @@
-use crate::laws::{no_tree_has_a_fault, one_fault, one_tree};
-use crate::read::read_tree;
-use crate::scan::{Piece, Scanner};
-use crate::tree::front;
 use fond_text::place::{FileKind, Place};
+use fond_tree::read::read_tree;
+use fond_tree::scan::{Piece, Scanner};
+use fond_tree::tree::front;
 use std::test::Fail;
 
 #[test]
@@ -26,11 +25,4 @@ fn a_scanner_goes_from_piece_to_piece(rt: HostRuntime) {
     assert!(rt; matches!(scanner.next(), Piece::Leaf(_, _)));
     assert!(rt; scanner.closes());
     assert!(rt; matches!(scanner.next(), Piece::End(_)));
-}
-
-#[test]
-fn laws_can_be_called() {
-    one_tree();
-    no_tree_has_a_fault();
-    one_fault();
 }

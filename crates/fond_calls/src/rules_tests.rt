@@ -1,6 +1,5 @@
-use crate::laws::selected_rule_is_policy;
-use crate::rules::Rules;
 use fond_game::rule::{Rule, Target, Targets};
+use fond_rules::rules::Rules;
 use fond_state::cube::Cube;
 use fond_state::state::State;
 use fond_text::fault::NoMemory;
@@ -39,6 +38,5 @@ fn the_first_rule_that_holds_is_selected(rt: HostRuntime) -> Result<(), Fail> {
     } else {
         assert!(rt; false);
     }
-    selected_rule_is_policy();
     Ok(())
 }

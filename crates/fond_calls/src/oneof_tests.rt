@@ -1,5 +1,5 @@
-use crate::outcome::outcomes;
 use fond_ast::form::{LAtom, LEffect};
+use fond_oneof::outcome::outcomes;
 use std::test::Fail;
 
 #[test]

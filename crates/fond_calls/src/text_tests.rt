@@ -1,10 +1,10 @@
-use crate::bytes::{Bytes, is_blank};
-use crate::first::{Found, earlier, found_at, found_if};
-use crate::list::List;
-use crate::name::Name;
-use crate::number::{put_number, read_number};
-use crate::place::Place;
-use crate::word::Word;
+use fond_text::bytes::{Bytes, is_blank};
+use fond_text::first::{Found, earlier, found_at, found_if};
+use fond_text::list::List;
+use fond_text::name::Name;
+use fond_text::number::{put_number, read_number};
+use fond_text::place::Place;
+use fond_text::word::Word;
 use std::test::Fail;
 
 #[test]
@@ -21,7 +21,8 @@ fn texts_are_kept(rt: HostRuntime) -> Result<(), Fail> {
 fn lists_grow(rt: HostRuntime) -> Result<(), Fail> {
     let mut bytes = Bytes::copy(rt.alloc(), b"ab").map_err(|_| "bytes")?;
     bytes.push(b'c').map_err(|_| "push")?;
-    assert_eq!(rt; bytes.as_slice(), b"abc".as_slice());
+    bytes.extend(b"de").map_err(|_| "extend")?;
+    assert_eq!(rt; bytes.as_slice(), b"abcde".as_slice());
     assert_eq!(rt; *bytes.get(1), b'b');
     let mut pairs = List::new(rt.alloc());
     pairs.push((1u32, 2u64)).map_err(|_| "pair")?;

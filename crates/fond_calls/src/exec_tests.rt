@@ -1,0 +1,51 @@
+use crate::coin::ground_coin;
+use fond_cert::policy::read_policy;
+use fond_exec::executor::Executor;
+use fond_exec::script::read_script;
+use fond_exec::step::Step;
+use fond_exec::trace::trace;
+use std::test::Fail;
+
+const POLICY: &[u8] = b"dualfond 1 policy\nrule (flip) fair 0 goal : -(heads)\nreach 2\nend\n";
+
+#[test]
+fn a_policy_is_read_and_traced(rt: HostRuntime) -> Result<(), Fail> {
+    let coin = ground_coin(rt.alloc())?;
+    let policy = read_policy(rt.alloc(), &coin, POLICY)?;
+    assert_eq!(rt; policy.reach, 2);
+    assert_eq!(rt; policy.rules.len(), 1);
+    assert!(rt; policy.rules.belong_to(&coin));
+    let mut text = Vec::new(rt.alloc());
+    assert!(rt;
+        trace(
+            rt.alloc(),
+            &coin,
+            &policy.rules,
+            [0, 7].as_slice(),
+            &mut text
+        )?
+    );
+    let wanted = b"rule 0 (flip) outcome 0\ngoal left 1\nstate\n(heads)\n";
+    assert_eq!(rt; text.as_slice(), wanted.as_slice());
+    Ok(())
+}
+
+#[test]
+fn a_policy_is_stepped(rt: HostRuntime) -> Result<(), Fail> {
+    let coin = ground_coin(rt.alloc())?;
+    let policy = read_policy(rt.alloc(), &coin, POLICY)?;
+    let mut run = Executor::start(rt.alloc(), &coin, &policy.rules)?;
+    assert!(rt; !run.done());
+    assert_eq!(rt; run.step(2), Step::BadOutcome { count: 2 });
+    assert_eq!(rt; run.step(0), Step::Took { rule: 0, act: 0 });
+    assert!(rt; run.done());
+    assert_eq!(rt; run.state().len(), 1);
+    Ok(())
+}
+
+#[test]
+fn a_script_is_read(rt: HostRuntime) -> Result<(), Fail> {
+    let numbers = read_script(rt.alloc(), b" 0\n4294967295")?;
+    assert_eq!(rt; numbers.as_slice(), [0, 4_294_967_295].as_slice());
+    Ok(())
+}

@@ -1,0 +1,32 @@
+//! Calls of the public functions with ample memory: the clauses say what a call gives, and a test that it succeeds. The
+//! crate holds tests and nothing else, since a crate that has tests is proved twice.
+#![tactic(auto)]
+
+#[cfg(test)]
+mod coin;
+#[cfg(test)]
+mod edge_tests;
+#[cfg(test)]
+mod exec_tests;
+#[cfg(test)]
+mod grammar_tests;
+#[cfg(test)]
+mod law_tests;
+#[cfg(test)]
+mod lifted_tests;
+#[cfg(test)]
+mod lookup_tests;
+#[cfg(test)]
+mod oneof_tests;
+#[cfg(test)]
+mod reader_tests;
+#[cfg(test)]
+mod rules_tests;
+#[cfg(test)]
+mod state_tests;
+#[cfg(test)]
+mod task_tests;
+#[cfg(test)]
+mod text_tests;
+#[cfg(test)]
+mod tree_tests;
