@@ -9,7 +9,6 @@ ghost use Rattle.std.specs.List.{list_all};
 ghost use Rattle.std.specs.Option.{option_copied};
 ghost use Rattle.std.specs.Prelude.{◌≡◌, ℕ, true, is_some, Contains, Some, slice_get, IfOk, IfSome, IfNone, MatchOption};
 
-use crate::trees::{is_leaf, leaf_name, members};
 use fond_ast::task::{LSchema, LSchemas, LiftedTask};
 use fond_text::fault::{FrontError, NoMemory};
 use fond_text::place::FileKind;
@@ -21,7 +20,7 @@ use std::alloc::Global;
 fn are_all_leaves(trees: &[Tree]) -> bool
     ensures { result ≡ list_all (λ tree. is_some (leaf_of tree)) trees.now }
 {
-    trees.iter().all(|tree| is_leaf(tree))
+    trees.iter().all(|tree| tree.leaf().is_some())
 }
 
 /// Whether a tree is a node of leaves with at least one leaf.
@@ -51,12 +50,22 @@ pub fn read_action(alloc: Global, word: &Word) -> Result<Option<Tree>, NoMemory>
     }
 }
 
+/// The members of a node, none of a leaf.
+fn members(tree: &Tree) -> &[Tree]
+    ensures { result.now ≡ members_or_none tree.now }
+{
+    match tree {
+        Tree::Leaf(_, _) => &[],
+        Tree::Node(_, members) => members.as_slice(),
+    }
+}
+
 /// The name of an action's schema, if the action is a name without objects.
 fn schema_name(action: &Tree) -> Option<&[u8]>
     ensures { option_copied result ≡ name_alone (members_or_none action.now) }
 {
     match members(action) {
-        [only] => leaf_name(only),
+        [only] => only.leaf(),
         _ => None,
     }
 }

@@ -12,5 +12,4 @@ mod run;
 pub mod status;
 mod succ;
 pub mod tool;
-mod trees;
 mod words;
