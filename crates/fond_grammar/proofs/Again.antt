@@ -29,7 +29,7 @@ contains_cases : {X : Type 0} (y x : X) (xs : List X) → Contains (y ∷ xs) x 
 contains_cases y x xs (zero, within, same) = inl same
 contains_cases y x xs (suc k, within, same) = inr (k, omega arith, same)
 
-contains_none : {X : Type 0} (x : X) → Contains {X = X} [] x → ⊥
+contains_none : {X : Type 0} (x : X) → ¬ Contains {X = X} [] x
 contains_none x (k, within, same) = omega arith
 
 word_is : (head : List ℕ) (leaf : Option (List ℕ)) → is_word_leaf head leaf ≡ true → leaf ≡ Some head
@@ -109,14 +109,10 @@ module _ (heads : Tree → Option (List ℕ)) (head : List ℕ) where
   again_to before (tree ∷ trees) seen was place code (inl (s, here, at, is)) = (
     record {
       before = before;
-      tree = tree;
+      item = tree;
       after = trees;
       split = refl;
-      head = head;
-      headed = word_is head (heads tree) here;
-      counts = one_of_itself head;
-      earlier = was s;
-      place_is = at;
+      has = record { head = head; headed = word_is head (heads tree) here; counts = one_of_itself head; earlier = was s; place_is = at };
     },
     is,
   )
@@ -140,12 +136,12 @@ module _ (heads : Tree → Option (List ℕ)) (head : List ℕ) where
 
   repeats_from : (trees : List Tree) (place : Place) (code : ℕ) → Repeats heads (head ∷ []) trees place → code ≡ 9 → Again false trees place code
   repeats_from trees place code r nine =
-      let same : r.head ≡ head = the_one r.head head r.counts in
-      let again : Again false (r.before ++ r.tree ∷ r.after) (place_of r.tree) 9 =
-      again_from r.before r.tree r.after false (inr (subst (λ (h : List ℕ). Contains (filter_map heads r.before) h) same r.earlier)) (r.headed ∙ ap (λ h. Some h) same) in
+      let same : r.has.head ≡ head = the_one r.has.head head r.has.counts in
+      let again : Again false (r.before ++ r.item ∷ r.after) (place_of r.item) 9 =
+      again_from r.before r.item r.after false (inr (subst (λ (h : List ℕ). Contains (filter_map heads r.before) h) same r.has.earlier)) (r.has.headed ∙ ap (λ h. Some h) same) in
       subst (λ (n : ℕ). Again false trees place n) (sym nine)
-      (subst (λ (p : Place). Again false trees p 9) (sym r.place_is)
-      (subst (λ (all : List Tree). Again false all (place_of r.tree) 9) (sym r.split) again))
+      (subst (λ (p : Place). Again false trees p 9) (sym r.has.place_is)
+      (subst (λ (all : List Tree). Again false all (place_of r.item) 9) (sym r.split) again))
 
   -- what is found of the one head is the first that is repeated
   pub first_repeated : (trees : List Tree) (first : Option Found) → IsFirst (Again false trees) first → IsFirst (λ place code. Repeats heads (head ∷ []) trees place × (code ≡ 9)) first
@@ -173,30 +169,13 @@ module _ (heads : Tree → Option (List ℕ)) (head : List ℕ) where
 -- ---- several heads
 
 module _ (heads : Tree → Option (List ℕ)) (head : List ℕ) (others : List (List ℕ)) (trees : List Tree) where
-  repeats_of : (single : List (List ℕ)) (place : Place) (r : Repeats heads (head ∷ others) trees place) → is_one_of single r.head ≡ true → Repeats heads single trees place
-  repeats_of single place r counts = record {
+  repeats_of : (some single : List (List ℕ)) (place : Place) (r : Repeats heads some trees place) → is_one_of single r.has.head ≡ true → Repeats heads single trees place
+  repeats_of some single place r counts = record {
     before = r.before;
-    tree = r.tree;
+    item = r.item;
     after = r.after;
     split = r.split;
-    head = r.head;
-    headed = r.headed;
-    counts = counts;
-    earlier = r.earlier;
-    place_is = r.place_is;
-  }
-
-  among_more : (single : List (List ℕ)) (place : Place) (r : Repeats heads single trees place) → is_one_of (head ∷ others) r.head ≡ true → Repeats heads (head ∷ others) trees place
-  among_more single place r counts = record {
-    before = r.before;
-    tree = r.tree;
-    after = r.after;
-    split = r.split;
-    head = r.head;
-    headed = r.headed;
-    counts = counts;
-    earlier = r.earlier;
-    place_is = r.place_is;
+    has = record { head = r.has.head; headed = r.has.headed; counts = counts; earlier = r.has.earlier; place_is = r.has.place_is };
   }
 
   pub first_of_heads : (one other first : Option Found) → IsFirst (λ place code. Repeats heads (head ∷ []) trees place × (code ≡ 9)) one →
@@ -207,12 +186,12 @@ module _ (heads : Tree → Option (List ℕ)) (head : List ℕ) (others : List (
       (λ place code. (Repeats heads (head ∷ []) trees place × (code ≡ 9)) ⊎ (Repeats heads others trees place × (code ≡ 9)))
       (λ place code. Repeats heads (head ∷ others) trees place × (code ≡ 9))
       (λ place code h. elim h [
-        | inl r ↦ (among_more (head ∷ []) place r.0 (one_is_of_more r.0.head head others r.0.counts), r.1)
-        | inr r ↦ (among_more others place r.0 (ap (λ b. bytes_eq r.0.head head || b) r.0.counts ∙ or-true (bytes_eq r.0.head head)), r.1)
+        | inl r ↦ (repeats_of (head ∷ []) (head ∷ others) place r.0 (one_is_of_more r.0.has.head head others r.0.has.counts), r.1)
+        | inr r ↦ (repeats_of others (head ∷ others) place r.0 (ap (λ b. bytes_eq r.0.has.head head || b) r.0.has.counts ∙ or-true (bytes_eq r.0.has.head head)), r.1)
       ])
-      (λ place code r. elim (or_cases (bytes_eq r.0.head head) (is_one_of others r.0.head) r.0.counts) [
-        | inl here ↦ inl (repeats_of (head ∷ []) place r.0 (ap (λ b. b || false) here), r.1)
-        | inr after ↦ inr (repeats_of others place r.0 after, r.1)
+      (λ place code r. elim (or_cases (bytes_eq r.0.has.head head) (is_one_of others r.0.has.head) r.0.has.counts) [
+        | inl here ↦ inl (repeats_of (head ∷ others) (head ∷ []) place r.0 (ap (λ b. b || false) here), r.1)
+        | inr after ↦ inr (repeats_of (head ∷ others) others place r.0 after, r.1)
       ])
       first
       (first_of_both (λ place code. Repeats heads (head ∷ []) trees place × (code ≡ 9)) (λ place code. Repeats heads others trees place × (code ≡ 9)) one other first p q e)

@@ -2,6 +2,7 @@
 -- of a node that is itself refused with F8, F11 or F12 are not checked.
 use Rattle.std.specs.Prelude.{◌≡◌, ◌⊎◌, ℕ, true, List, [], ◌∷◌, ◌++◌, Contains, Option, Some, None, codes, if◌then◌else◌}
 use Rattle.std.specs.List.{filter_map}
+use Rattle.fond_text.specs.Lists.{Somewhere}
 use Rattle.fond_text.specs.declared.code.TheConstants.{MISFIT, REPEATED_SECTION, MISSING_SECTION, UNSUPPORTED}
 use Rattle.fond_text.specs.declared.place.Place.{Place}
 use Rattle.fond_tree.specs.declared.tree.Tree.{Tree}
@@ -43,17 +44,17 @@ single_in_domain = codes ":requirements" ∷ codes ":types" ∷ codes ":constant
 abbrev pub single_in_problem : List (List ℕ)
 single_in_problem = codes ":requirements" ∷ codes ":domain" ∷ codes ":objects" ∷ codes ":init" ∷ codes ":goal" ∷ []
 
--- a tree whose head may occur only once follows another one with that head; the fault is at its own place
-pub record Repeats (heads : Tree → Option (List ℕ)) (single : List (List ℕ)) (trees : List Tree) (place : Place) : Type 0 where
-  pub before : List Tree
-  pub tree : Tree
-  pub after : List Tree
-  pub split : trees ≡ before ++ tree ∷ after
+-- a tree has a head that may occur only once, and so has one of the trees before it; the fault is at its own place
+pub record IsSecond (heads : Tree → Option (List ℕ)) (single : List (List ℕ)) (place : Place) (before : List Tree) (tree : Tree) : Type 0 where
   pub head : List ℕ
   pub headed : heads tree ≡ Some head
   pub counts : is_one_of single head ≡ true
   pub earlier : Contains (filter_map heads before) head
   pub place_is : place ≡ place_of tree
+
+-- a head that may occur only once occurs a second time in a list of trees
+abbrev pub Repeats : (Tree → Option (List ℕ)) → List (List ℕ) → List Tree → Place → Type 0
+Repeats heads single trees place = Somewhere (IsSecond heads single place) trees
 
 -- every second tree of a list, from the first on
 abbrev pub keys : List Tree → List Tree

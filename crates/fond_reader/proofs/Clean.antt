@@ -32,19 +32,19 @@ leaf_or_node tree = from (out-Tree tree) refl where
   from (Leaf place name) e = inl (name, ap leaf_step e, ap members_step e)
   from (Node place members) e = inr (members.items, ap members_step e, ap leaf_step e)
 
-pub true_is_false : true ≡ false → ⊥
+pub true_is_false : ¬ true ≡ false
 true_is_false is = cc
 
 -- an option that is not some value is none
-none_left : (option : Option ℕ) → ((code : ℕ) → option ≡ Some code → ⊥) → option ≡ None
+none_left : (option : Option ℕ) → ((code : ℕ) → ¬ option ≡ Some code) → option ≡ None
 none_left None never = refl
 none_left (Some code) never = absurd (never code refl)
 
-not_true : (b : Bool) → (b ≡ true → ⊥) → b ≡ false
+not_true : (b : Bool) → (¬ b ≡ true) → b ≡ false
 not_true true never = absurd (never refl)
 not_true false never = refl
 
-pub some_is_none : (code : ℕ) → Some code ≡ None → ⊥
+pub some_is_none : (code : ℕ) → ¬ Some code ≡ None
 some_is_none code is = cc
 
 -- a code, unless something fits
@@ -66,7 +66,7 @@ pub record FitsAs (expected : Expected) (members : List Tree) : Type 0 where
 
 -- a clean tree has no fault of its own of any of the four sorts, and its parts are clean
 module _ (role : Role) (tree : Tree) (clean : IsCleanAs role tree) where
-  own : (place : Place) (code : ℕ) → IsOwnFault (part role tree) place code → ⊥
+  own : (place : Place) (code : ℕ) → ¬ IsOwnFault (part role tree) place code
   own place code fault = clean place code (record { path = []; at = part role tree; reached = refl; own = fault })
 
   pub inner : (number : ℕ) (at : Part) → slice_get (parts (part role tree)) number ≡ Some at → IsCleanAs at.role at.tree
@@ -80,10 +80,10 @@ module _ (role : Role) (tree : Tree) (clean : IsCleanAs role tree) where
   pub unrefused : tree_code role (leaf_of tree) (members_of tree) ≡ None
   unrefused = none_left _ (λ code is. own (place_of tree) code (inl (refl, is)))
 
-  pub unrepeated : (place : Place) → IsRepeated role tree place → ⊥
+  pub unrepeated : (place : Place) → ¬ IsRepeated role tree place
   unrepeated place fault = own place 9 (inr (inl (fault, refl)))
 
-  pub complete : (place : Place) → IsIncomplete role tree place → ⊥
+  pub complete : (place : Place) → ¬ IsIncomplete role tree place
   complete place fault = own place 10 (inr (inr (inl (fault, refl))))
 
   pub built : (members : List Tree) → members_of tree ≡ Some members → is_unbuilt role members ≡ false
@@ -95,7 +95,7 @@ module _ (role : Role) (tree : Tree) (clean : IsCleanAs role tree) where
     | inl h ↦ (h.0, h.1, sym (ap (λ leaf. tree_code role leaf (members_of tree)) h.1) ∙ unrefused)
     | inr h ↦ absurd (refused h.0 h.1 h.2)
   ] where
-    refused : (members : List Tree) → members_of tree ≡ Some members → leaf_of tree ≡ None → ⊥
+    refused : (members : List Tree) → members_of tree ≡ Some members → ¬ leaf_of tree ≡ None
     refused members is none =
         let code : tree_code role None (Some members) ≡ None = sym (ap (λ leaf. tree_code role leaf (Some members)) none) ∙ sym (ap (λ ms. tree_code role (leaf_of tree) ms) is) ∙ unrefused in
         some_is_none 7 (sym (ap (λ expected. node_code expected members) (no_node members)) ∙ code)
@@ -106,7 +106,7 @@ module _ (role : Role) (tree : Tree) (clean : IsCleanAs role tree) where
     | inl h ↦ absurd (refused h.0 h.1)
     | inr h ↦ (h.0, h.1)
   ] where
-    refused : (leaf : List ℕ) → leaf_of tree ≡ Some leaf → ⊥
+    refused : (leaf : List ℕ) → ¬ leaf_of tree ≡ Some leaf
     refused leaf is =
         let code : leaf_code role leaf ≡ None = sym (ap (λ l. tree_code role l (members_of tree)) is) ∙ unrefused in
         some_is_none 7 (sym (no_leaf leaf) ∙ code)
@@ -122,7 +122,7 @@ module _ (role : Role) (tree : Tree) (clean : IsCleanAs role tree) where
         ];
     inner = λ number at reached. inner number at (ap (λ ps. slice_get ps number) (parts_of role tree members is ∙ ap (λ e. expected_parts e members) expects) ∙ reached);
   } where
-    apart : members_of tree ≡ None → ⊥
+    apart : ¬ members_of tree ≡ None
     apart none = let same : Some members ≡ None = sym is ∙ none in cc
 
 -- a name that is clean is a leaf that is a name

@@ -1,5 +1,6 @@
 -- Clean actions are of the form that is read.
 use Rattle.std.proofs.Common.{◌≡◌, ℕ, suc, ◌≤◌, ◌&&◌, ◌==◌, Bool, true, false, List, [], ◌∷◌, ◌++◌, filter, length, Option, Some, None, codes, slice_get, option_to_list, option_map, nat_lt, refl, sym, ap, ◌∙◌, subst, arith, if◌then◌else◌, Contains}
+use Rattle.std.specs.Prelude.{⊤}
 use Rattle.std.specs.List.{list_all}
 use Rattle.std.proofs.lemmas.Slice.Eq.{bytes_eq-Decides}
 use Rattle.std.proofs.lemmas.Bool.Decides.{nat_tests}
@@ -25,7 +26,7 @@ use Rattle.fond_reader.proofs.ReadSchemas.{both_hold}
 
 -- these parts have no fault
 abbrev pub AllClean : List Part → Type 0
-AllClean [] = Unit {0}
+AllClean [] = ⊤
 AllClean (at ∷ parts) = IsCleanAs at.role at.tree × AllClean parts
 
 pub all_clean : (parts : List Part) → ((number : ℕ) (at : Part) → slice_get parts number ≡ Some at → IsCleanAs at.role at.tree) → AllClean parts

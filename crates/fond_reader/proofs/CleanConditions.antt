@@ -114,12 +114,12 @@ counted_all seen fits after count many all =
     ap (λ b. b && list_all fits (map seen after)) same ∙ all
 
 -- a clean form has a leaf for its head if an atom is expected
-pub headless : (of : Role) (tree : Tree) → IsCleanAs of tree → (head : Tree) (after : List Tree) → members_of tree ≡ Some (head ∷ after) → node_expected of (head ∷ after) ≡ Some (Members atom) → leaf_of head ≡ None → ⊥
+pub headless : (of : Role) (tree : Tree) → IsCleanAs of tree → (head : Tree) (after : List Tree) → members_of tree ≡ Some (head ∷ after) → node_expected of (head ∷ after) ≡ Some (Members atom) → ¬ leaf_of head ≡ None
 headless of tree clean head after is expects none =
     let fits : FitsAs (Members atom) (head ∷ after) = fits_as of tree clean (head ∷ after) (Members atom) is expects in
     let stands : (leaf : List ℕ) × (leaf_of head ≡ Some leaf) × (is_name leaf ≡ true) = name_stands head (fits.inner 0 (part role.Name head) refl) in
     leafless stands.0 (sym stands.1 ∙ none) where
-      leafless : (leaf : List ℕ) → Some leaf ≡ None → ⊥
+      leafless : (leaf : List ℕ) → ¬ Some leaf ≡ None
       leafless leaf same = cc
 
 -- a clean form of a condition is one that fits, by the tests on its head in their order

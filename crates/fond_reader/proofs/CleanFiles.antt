@@ -37,7 +37,7 @@ clean_predicate tree clean =
     let node : (members : List Tree) × (members_of tree ≡ Some members) = node_stands role.Predicate tree clean (λ _. refl) in
     ap (λ ms. is_only is_name_leaf ms) node.1
     ∙ from node.0 (fits_as role.Predicate tree clean node.0 (Members (shape (role.Name ∷ []) (Typed role.Variable role.VariableType))) node.1 refl) (built role.Predicate tree clean node.0 node.1) where
-      with_more : (head first : Tree) (rest : List Tree) → IsCleanAs role.Name head → IsCleanAs role.Variable first → names_with is_variable (head ∷ first ∷ rest) ≡ false → ⊥
+      with_more : (head first : Tree) (rest : List Tree) → IsCleanAs role.Name head → IsCleanAs role.Variable first → ¬ names_with is_variable (head ∷ first ∷ rest) ≡ false
       with_more head first rest name variable bare =
           let stands : (leaf : List ℕ) × (leaf_of head ≡ Some leaf) × (is_name leaf ≡ true) = name_stands head name in
           let named : is_leaf_of is_name head ≡ true = rw stands.1 stands.2 in
@@ -86,7 +86,7 @@ clean_file kind of inner tree clean expects members is = from members is (fits_a
   }
 
 -- each head that may occur once heads one section at most
-pub are_single : (single : List (List ℕ)) (sections : List Tree) → ((place : Place) → Repeats head_of single sections place → ⊥) → AreSingle single sections
+pub are_single : (single : List (List ℕ)) (sections : List Tree) → ((place : Place) → ¬ Repeats head_of single sections place) → AreSingle single sections
 are_single single sections unrepeated = λ word counts. at_most_one head_of single sections unrepeated word counts
 
 -- a section whose head is not supported before members has no members after it
@@ -216,30 +216,30 @@ goal_passes tree clean has =
 lacking : (word : List ℕ) (sections : List Tree) → headed word sections ≡ [] → Lacks word sections
 lacking word [] none found = absurd (omega (arith, found.1))
 lacking word (t ∷ ts) none found = step (head_of t) refl (λ n f. lacking word ts n f) where
-  apart : (xs : List Tree) → t ∷ xs ≡ [] → ⊥
+  apart : (xs : List Tree) → ¬ t ∷ xs ≡ []
   apart xs is = cc
 
   headed_rest : (b : Bool) → (if b then t ∷ headed word ts else headed word ts) ≡ [] → headed word ts ≡ []
   headed_rest true is = absurd (apart (headed word ts) is)
   headed_rest false is = is
 
-  unheaded : (b : Bool) → (if b then t ∷ headed word ts else headed word ts) ≡ [] → b ≡ true → ⊥
+  unheaded : (b : Bool) → (if b then t ∷ headed word ts else headed word ts) ≡ [] → ¬ b ≡ true
   unheaded true is same = apart (headed word ts) is
   unheaded false is same = true_is_false (sym same)
 
-  later : (h : List ℕ) (xs : List (List ℕ)) → (h ≡ word → ⊥) → (k : ℕ) → k < length (h ∷ xs) → slice_index_or (h ∷ xs) k word ≡ word → Contains xs word
+  later : (h : List ℕ) (xs : List (List ℕ)) → (¬ h ≡ word) → (k : ℕ) → k < length (h ∷ xs) → slice_index_or (h ∷ xs) k word ≡ word → Contains xs word
   later h xs other zero below is = absurd (other is)
   later h xs other (suc k) below is = (k, omega arith, is)
 
-  step : (head : Option (List ℕ)) → head_of t ≡ head → (headed word ts ≡ [] → Contains (filter_map head_of ts) word → ⊥) → ⊥
+  step : (head : Option (List ℕ)) → head_of t ≡ head → ¬ (headed word ts ≡ [] → ¬ Contains (filter_map head_of ts) word)
   step None is rest = rest (headed_rest (has_head word t) none) (rw is at found)
   step (Some h) is rest =
       let known : Contains (h ∷ filter_map head_of ts) word = rw is at found in
-      let other : h ≡ word → ⊥ = λ same. unheaded (has_head word t) none (ap (λ head. is_word word head) is ∙ (bytes_eq-Decides h word).1 same) in
+      let other : ¬ h ≡ word = λ same. unheaded (has_head word t) none (ap (λ head. is_word word head) is ∙ (bytes_eq-Decides h word).1 same) in
       rest (headed_rest (has_head word t) none) (later h (filter_map head_of ts) other known.0 known.1 known.2)
 
 -- the contents of the one section with a head that is not lacking pass what each of those with the head passes
-only_contents : (word : List ℕ) (test : Tree → Bool) (sections : List Tree) → (Lacks word sections → ⊥) → length (headed word sections) ≤ 1 →
+only_contents : (word : List ℕ) (test : Tree → Bool) (sections : List Tree) → (¬ Lacks word sections) → length (headed word sections) ≤ 1 →
     ((i : ℕ) (tree : Tree) → slice_get sections i ≡ Some tree → has_head word tree ≡ true → is_only test (Some (content tree)) ≡ true) → is_only test (Some (contents word sections)) ≡ true
 only_contents word test sections stands few each = from (headed word sections) refl few (headed_pass word (λ t. is_only test (Some (content t))) sections each) where
   from : (trees : List Tree) → headed word sections ≡ trees → length trees ≤ 1 → list_all (λ t. is_only test (Some (content t))) trees ≡ true → is_only test (Some (flat_map content trees)) ≡ true

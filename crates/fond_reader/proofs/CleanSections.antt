@@ -35,7 +35,7 @@ pub headed_section : (of : Role) (by_head : List ℕ → Expected) → ((members
 headed_section of by_head expects no_leaf tree clean =
     let node : (members : List Tree) × (members_of tree ≡ Some members) = node_stands of tree clean no_leaf in
     from node.0 node.1 where
-      leafless : (head : Tree) (leaf : List ℕ) → leaf_of head ≡ Some leaf → leaf_of head ≡ None → ⊥
+      leafless : (head : Tree) (leaf : List ℕ) → leaf_of head ≡ Some leaf → ¬ leaf_of head ≡ None
       leafless head leaf is none = let same : Some leaf ≡ None = sym is ∙ none in cc
 
       from : (members : List Tree) → members_of tree ≡ Some members → HeadedSection by_head tree
@@ -116,7 +116,7 @@ contained words word found = from words found.0 found.1 found.2 where
   from (w ∷ ws) (suc k) below is = there _ _ (from ws k (omega arith) is)
 
 -- if no head that may occur only once follows another one, each occurs at most once
-module _ (heads : Tree → Option (List ℕ)) (single : List (List ℕ)) (trees : List Tree) (unrepeated : (place : Place) → Repeats heads single trees place → ⊥) (word : List ℕ) (counts : Contains single word) where
+module _ (heads : Tree → Option (List ℕ)) (single : List (List ℕ)) (trees : List Tree) (unrepeated : (place : Place) → ¬ Repeats heads single trees place) (word : List ℕ) (counts : Contains single word) where
   of_word : (tree : Tree) (head : Option (List ℕ)) → heads tree ≡ head → is_word word head ≡ true → heads tree ≡ Some word
   of_word tree None is same = absurd (true_is_false (sym same))
   of_word tree (Some head) is same = is ∙ ap (λ h. Some h) ((bytes_eq-Decides head word).0 same)
@@ -131,14 +131,10 @@ module _ (heads : Tree → Option (List ℕ)) (single : List (List ℕ)) (trees 
         step : (b : Bool) → is_word word (heads t) ≡ b → filter (λ t. is_word word (heads t)) ts ≡ [] → (if b then t ∷ filter (λ t. is_word word (heads t)) ts else filter (λ t. is_word word (heads t)) ts) ≡ []
         step true is rest = absurd (unrepeated (place_of t) (record {
           before = before;
-          tree = t;
+          item = t;
           after = ts;
           split = split;
-          head = word;
-          headed = of_word t (heads t) refl is;
-          counts = contained single word counts;
-          earlier = earlier;
-          place_is = refl;
+          has = record { head = word; headed = of_word t (heads t) refl is; counts = contained single word counts; earlier = earlier; place_is = refl };
         }))
         step false is rest = rest
 

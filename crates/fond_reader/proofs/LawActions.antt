@@ -1,5 +1,6 @@
 -- Actions that are read have no fault of their own.
 use Rattle.std.proofs.Common.{◌≡◌, ◌⊎◌, inl, inr, ℕ, zero, suc, ◌+◌, ◌<◌, ◌≤◌, ◌||◌, Bool, true, false, List, [], ◌∷◌, ◌++◌, filter, length, Option, Some, None, codes, slice_index_or, option_to_list, option_map, refl, sym, ap, ◌∙◌, subst, arith, length-append, if◌then◌else◌, Contains}
+use Rattle.std.specs.Prelude.{⊤}
 use Rattle.std.specs.List.{list_all, filter_map}
 use Rattle.std.specs.Str.{bytes_eq}
 use Rattle.std.proofs.lemmas.Slice.Eq.{bytes_eq-Decides}
@@ -119,14 +120,14 @@ module _ (heads : Tree → Option (List ℕ)) (head : List ℕ) where
       let second : 1 ≤ length (with_it (tree ∷ after)) = this_one (is_word head (heads tree)) tree (with_it after) (is_it tree is) in
       omega arith
 
-pub twice : (heads : Tree → Option (List ℕ)) (single : List (List ℕ)) (trees : List Tree) (place : Place) (r : Repeats heads single trees place) → 2 ≤ length (filter (λ t. is_word r.head (heads t)) trees)
+pub twice : (heads : Tree → Option (List ℕ)) (single : List (List ℕ)) (trees : List Tree) (place : Place) (r : Repeats heads single trees place) → 2 ≤ length (filter (λ t. is_word r.has.head (heads t)) trees)
 twice heads single trees place r =
-    let P : List Tree → Type 0 = λ ts. 2 ≤ length (filter (λ t. is_word r.head (heads t)) ts) in
-    subst P (sym r.split) (two_of heads r.head r.before r.tree r.after r.headed r.earlier)
+    let P : List Tree → Type 0 = λ ts. 2 ≤ length (filter (λ t. is_word r.has.head (heads t)) ts) in
+    subst P (sym r.split) (two_of heads r.has.head r.before r.item r.after r.has.headed r.has.earlier)
 
 -- this holds of each of these words, and so of one that is among them
 abbrev pub EachWord : (List ℕ → Type 0) → List (List ℕ) → Type 0
-EachWord P [] = Unit {0}
+EachWord P [] = ⊤
 EachWord P (word ∷ words) = P word × EachWord P words
 
 pub one_of : (P : List ℕ → Type 0) (words : List (List ℕ)) (word : List ℕ) → is_one_of words word ≡ true → EachWord P words → P word
@@ -150,9 +151,9 @@ module _ (tree : Tree) (schema : Schema) (s : IsSchemaOf tree schema) where
   pub schema_pairs : AllRead (pairs s.pairs)
   schema_pairs = pairs_read s.pairs s.known parameters.1 pre.1 effect.1
 
-  pub schema_single : (place : Place) → Repeats leaf_of action_keys (keys s.pairs) place → ⊥
+  pub schema_single : (place : Place) → ¬ Repeats leaf_of action_keys (keys s.pairs) place
   schema_single place r =
-      let few : length (values r.head s.pairs) ≤ 1 = one_of (λ word. length (values word s.pairs) ≤ 1) action_keys r.head r.counts (parameters.0, (pre.0, (effect.0, tt))) in
-      let same : length (values r.head s.pairs) ≡ length (filter (λ key. is_word r.head (leaf_of key)) (keys s.pairs)) = values_counted r.head s.pairs s.paired in
-      let many : 2 ≤ length (filter (λ key. is_word r.head (leaf_of key)) (keys s.pairs)) = twice leaf_of action_keys (keys s.pairs) place r in
+      let few : length (values r.has.head s.pairs) ≤ 1 = one_of (λ word. length (values word s.pairs) ≤ 1) action_keys r.has.head r.has.counts (parameters.0, (pre.0, (effect.0, tt))) in
+      let same : length (values r.has.head s.pairs) ≡ length (filter (λ key. is_word r.has.head (leaf_of key)) (keys s.pairs)) = values_counted r.has.head s.pairs s.paired in
+      let many : 2 ≤ length (filter (λ key. is_word r.has.head (leaf_of key)) (keys s.pairs)) = twice leaf_of action_keys (keys s.pairs) place r in
       omega arith

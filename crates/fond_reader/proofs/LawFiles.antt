@@ -63,22 +63,22 @@ module _ (head : List ℕ) where
       (split.0, each_headed P ts split.1)
 
   -- if the sections with the head have contents, there is one
-  stands_among : (sections : List Tree) → (contents head sections ≡ [] → ⊥) → Contains (filter_map head_of sections) head
+  stands_among : (sections : List Tree) → (¬ contents head sections ≡ []) → Contains (filter_map head_of sections) head
   stands_among [] some = absurd (some refl)
   stands_among (t ∷ ts) some = step (head_of t) refl (stands_among ts) where
-    there : (is_it : Bool) → (is_it ≡ true → ⊥) → (flat_map content (if is_it then t ∷ headed head ts else headed head ts) ≡ [] → ⊥) → contents head ts ≡ [] → ⊥
+    there : (is_it : Bool) → (¬ is_it ≡ true) → (¬ flat_map content (if is_it then t ∷ headed head ts else headed head ts) ≡ []) → ¬ contents head ts ≡ []
     there true other some none = other refl
     there false other some none = some none
 
-    step : (own : Option (List ℕ)) → head_of t ≡ own → ((contents head ts ≡ [] → ⊥) → Contains (filter_map head_of ts) head) → Contains (filter_map head_of (t ∷ ts)) head
+    step : (own : Option (List ℕ)) → head_of t ≡ own → ((¬ contents head ts ≡ []) → Contains (filter_map head_of ts) head) → Contains (filter_map head_of (t ∷ ts)) head
     step None is rest =
-        let other : has_head head t ≡ true → ⊥ = λ same. (let bad : false ≡ true = rw is at same in true_is_false (sym bad)) in
+        let other : ¬ has_head head t ≡ true = λ same. (let bad : false ≡ true = rw is at same in true_is_false (sym bad)) in
         rw is (rest (there (has_head head t) other some))
     step (Some h) is rest = decide (bytes_eq h head) refl where
       decide : (b : Bool) → bytes_eq h head ≡ b → Contains (filter_map head_of (t ∷ ts)) head
       decide true same = rw is (0, omega arith, (bytes_eq-Decides h head).0 same)
       decide false same =
-          let other : has_head head t ≡ true → ⊥ = λ own. (let bad : bytes_eq h head ≡ true = rw is at own in true_is_false (sym bad ∙ same)) in
+          let other : ¬ has_head head t ≡ true = λ own. (let bad : bytes_eq h head ≡ true = rw is at own in true_is_false (sym bad ∙ same)) in
           let found : Contains (filter_map head_of ts) head = rest (there (has_head head t) other some) in
           rw is (suc found.0, omega (arith, found.1), found.2)
 
@@ -133,14 +133,14 @@ contains_of (w ∷ ws) word is = step (bytes_eq word w) refl is (contains_of ws 
   step false same some rest = let found : Contains ws word = rest some in (suc found.0, omega (arith, found.1), found.2)
 
 -- if each head that may occur once heads one section at most, none occurs twice
-unrepeated : (single : List (List ℕ)) (sections : List Tree) → AreSingle single sections → (place : Place) → Repeats head_of single sections place → ⊥
+unrepeated : (single : List (List ℕ)) (sections : List Tree) → AreSingle single sections → (place : Place) → ¬ Repeats head_of single sections place
 unrepeated single sections once place r =
-    let few : length (filter (λ t. is_word r.head (head_of t)) sections) ≤ 1 = once r.head (contains_of single r.head r.counts) in
-    let many : 2 ≤ length (filter (λ t. is_word r.head (head_of t)) sections) = twice head_of single sections place r in
+    let few : length (filter (λ t. is_word r.has.head (head_of t)) sections) ≤ 1 = once r.has.head (contains_of single r.has.head r.has.counts) in
+    let many : 2 ≤ length (filter (λ t. is_word r.has.head (head_of t)) sections) = twice head_of single sections place r in
     omega arith
 
 -- no section of a file that is read occurs a second time
-file_single : (tree : Tree) (kind : List ℕ) (sections : List Tree) → IsFile kind tree sections → (single : List (List ℕ)) → AreSingle single sections → (place : Place) → (members : List Tree) → members_of tree ≡ Some members → Repeats head_of single (after_header members) place → ⊥
+file_single : (tree : Tree) (kind : List ℕ) (sections : List Tree) → IsFile kind tree sections → (single : List (List ℕ)) → AreSingle single sections → (place : Place) → (members : List Tree) → members_of tree ≡ Some members → ¬ Repeats head_of single (after_header members) place
 file_single tree kind sections file single once place members is repeats =
     let P : List Tree → Type 0 = λ ts. Repeats head_of single ts place in
     unrepeated single sections once place (subst P (ap after_header (same_members tree members (file.define ∷ file.header ∷ sections) is file.whole)) repeats)
@@ -190,10 +190,10 @@ module _ (tree : Tree) (problem : Problem) (p : IsProblemOf tree problem) where
   goal_is : (t : Tree) × (contents (codes ":goal") p.sections ≡ t ∷ []) × (is_condition problem.goal t ≡ true)
   goal_is = one_operand (is_condition problem.goal) (contents (codes ":goal") p.sections) p.goal
 
-  apart : (t : Tree) (ts : List Tree) → ts ≡ t ∷ [] → ts ≡ [] → ⊥
+  apart : (t : Tree) (ts : List Tree) → ts ≡ t ∷ [] → ¬ ts ≡ []
   apart t ts one nothing = let both : t ∷ [] ≡ [] = sym one ∙ nothing in cc
 
-  complete : (place : Place) → IsIncomplete role.ProblemFile tree place → ⊥
+  complete : (place : Place) → ¬ IsIncomplete role.ProblemFile tree place
   complete place incomplete =
       let after : after_header incomplete.0 ≡ p.sections = ap after_header (same_members tree incomplete.0 (p.file.define ∷ p.file.header ∷ p.sections) incomplete.1 p.file.whole) in
       let P : List Tree → Type 0 = λ ts. Lacks (codes ":domain") ts ⊎ Lacks (codes ":goal") ts in

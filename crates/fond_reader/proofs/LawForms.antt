@@ -59,7 +59,7 @@ name_there tree is = elim (leaf_or_node tree) [
   | inl h ↦ (h.0, h.1, rw h.1 at is)
   | inr h ↦ absurd (headless (leaf_of tree) h.2 refl)
 ] where
-  headless : (leaf : Option (List ℕ)) → leaf_of tree ≡ None → leaf_of tree ≡ leaf → ⊥
+  headless : (leaf : Option (List ℕ)) → leaf_of tree ≡ None → ¬ leaf_of tree ≡ leaf
   headless leaf none same = true_is_false (sym (rw none at is))
 
 pub named_leaf : (place : Place) (name : List ℕ) (tree : Tree) → is_named place name tree ≡ true → is_name_leaf tree ≡ true

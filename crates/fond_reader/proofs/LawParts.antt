@@ -1,5 +1,6 @@
 -- Trees from which something is read have no fault of their own if their parts are read too.
 use Rattle.std.proofs.Common.{◌≡◌, inl, inr, ℕ, zero, suc, Bool, true, false, List, [], ◌∷◌, map, Option, Some, None, codes, option_and_then, slice_get, refl, sym, ap, ◌∙◌, subst}
+use Rattle.std.specs.Prelude.{⊤}
 use Rattle.fond_text.specs.declared.place.Place.{Place}
 use Rattle.fond_ast.specs.declared.files.Domain.{Domain}
 use Rattle.fond_ast.specs.declared.files.InitAtom.{InitAtom}
@@ -23,7 +24,7 @@ use Rattle.fond_reader.proofs.Clean.{IsCleanAs, leaf_or_node, parts_of, some_is_
 
 -- this holds of each of these trees
 abbrev pub Each : (Tree → Type 0) → List Tree → Type 0
-Each P [] = Unit {0}
+Each P [] = ⊤
 Each P (tree ∷ trees) = P tree × Each P trees
 
 -- these trees are one, of which this holds
@@ -83,7 +84,7 @@ IsRead role.Atom tree = fits_atom tree ≡ true
 
 -- something is read from each of these parts
 abbrev pub AllRead : List Part → Type 0
-AllRead [] = Unit {0}
+AllRead [] = ⊤
 AllRead (at ∷ parts) = IsRead at.role at.tree × AllRead parts
 
 pub all_of : (of : Role) (trees : List Tree) → Each (IsRead of) trees → AllRead (map (part of) trees)
@@ -98,12 +99,12 @@ read_at (p ∷ ps) (suc number) at all is = read_at ps number at all.1 is
 -- a tree of a role has no fault of its own, and its parts are read
 pub record IsFine (of : Role) (tree : Tree) : Type 0 where
   pub unrefused : tree_code of (leaf_of tree) (members_of tree) ≡ None
-  pub unrepeated : (place : Place) → IsRepeated of tree place → ⊥
-  pub complete : (place : Place) → IsIncomplete of tree place → ⊥
+  pub unrepeated : (place : Place) → ¬ IsRepeated of tree place
+  pub complete : (place : Place) → ¬ IsIncomplete of tree place
   pub built : (members : List Tree) → members_of tree ≡ Some members → is_unbuilt of members ≡ false
   pub inner : AllRead (parts (part of tree))
 
-some_or_none : {X : Type 0} (x : X) (option : Option X) → option ≡ Some x → option ≡ None → ⊥
+some_or_none : {X : Type 0} (x : X) (option : Option X) → option ≡ Some x → ¬ option ≡ None
 some_or_none x option some none = let same : Some x ≡ None = sym some ∙ none in cc
 
 pub no_node : (tree : Tree) (leaf : List ℕ) → leaf_of tree ≡ Some leaf → members_of tree ≡ None
@@ -117,7 +118,7 @@ no_parts of tree none = rw none refl
 
 -- nothing occurs twice in a tree of a role, and nothing is missing
 abbrev pub IsSingle : Role → Tree → Type 0
-IsSingle of tree = ((place : Place) → IsRepeated of tree place → ⊥) × ((place : Place) → IsIncomplete of tree place → ⊥)
+IsSingle of tree = ((place : Place) → ¬ IsRepeated of tree place) × ((place : Place) → ¬ IsIncomplete of tree place)
 
 -- a leaf that is allowed is fine
 pub leaf_fine : (of : Role) (tree : Tree) (leaf : List ℕ) → leaf_of tree ≡ Some leaf → leaf_code of leaf ≡ None → IsSingle of tree → IsFine of tree
@@ -170,7 +171,7 @@ module _ (fine : (of : Role) (tree : Tree) → IsRead of tree → IsFine of tree
     from next None there is = cc
     from next (Some inner) there is = next inner (read_at (parts (part of tree)) number inner (fine of tree read).inner there) at is
 
-  unfaulted : (at : Part) → IsFine at.role at.tree → (place : Place) (code : ℕ) → IsOwnFault at place code → ⊥
+  unfaulted : (at : Part) → IsFine at.role at.tree → (place : Place) (code : ℕ) → ¬ IsOwnFault at place code
   unfaulted at fine place code (inl misfit) = some_is_none code (sym misfit.1 ∙ fine.unrefused)
   unfaulted at fine place code (inr (inl repeated)) = fine.unrepeated place repeated.0
   unfaulted at fine place code (inr (inr (inl incomplete))) = fine.complete place incomplete.0

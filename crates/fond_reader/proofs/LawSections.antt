@@ -172,7 +172,7 @@ domain_section_shape tree read =
     one_of (λ word. Headed word tree → IsDomainSectionShape tree) heads there.0 there.1 (requirements, (types, (constants, (predicates, (action, tt))))) there.2
 
 -- no key of an action that is read occurs twice
-pub domain_section_single : (tree : Tree) → IsReadInDomain tree → (place : Place) → IsRepeated role.DomainSection tree place → ⊥
+pub domain_section_single : (tree : Tree) → IsReadInDomain tree → (place : Place) → ¬ IsRepeated role.DomainSection tree place
 domain_section_single tree read place repeated =
     let own : has_head (codes ":action") tree ≡ true = ap (is_word (codes ":action")) repeated.2 in
     let s : (schema : Schema) × IsSchemaOf tree schema = read.action own in
