@@ -73,11 +73,11 @@ longest (x ∷ a) (y ∷ b) s t h k n m i j e =
     let more = longest a b s t (All-tail P x a h) (All-tail P y b k) n m i j first.1 in
     (cc, more.1)
 
-not_a_digit : (b : ℕ) → b ≡ 58 → is_ascii_digit b ≡ true → ⊥
+not_a_digit : (b : ℕ) → b ≡ 58 → ¬ is_ascii_digit b ≡ true
 not_a_digit b e f = grind (arith, nat_tests)
 
 -- a colon begins no target
-no_colon : (word rest l : List ℕ) → is_target word ≡ true → 58 ∷ l ≡ word ++ rest → ⊥
+no_colon : (word rest l : List ℕ) → is_target word ≡ true → ¬ 58 ∷ l ≡ word ++ rest
 no_colon [] rest l h e = absurd (cc)
 no_colon (b ∷ word) rest l h e =
     let first = same_head 58 b l (word ++ rest) e in

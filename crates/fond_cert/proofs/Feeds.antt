@@ -1,12 +1,13 @@
 -- Texts up to the first line feed.
 use Rattle.std.proofs.Common.{◌≡◌, ℕ, ◌+◌, ◌==◌, not, cond, Bool, true, false, suc, List, [], ◌∷◌, ◌++◌, ◌⊎◌, inl, inr, length, take, drop, codes, refl, ap, ◌∙◌, arith}
+use Rattle.std.specs.Prelude.{⊤}
 use Rattle.std.specs.List.{prefix_len}
 use borrow.Author.Tests.{eqb-true}
 use Rattle.fond_cert.specs.Feeds.{is_in_line, HasNoFeed}
 
 -- a text is empty, or begins with a line feed
 abbrev pub EndsLine : List ℕ → Type 0
-EndsLine [] = Unit {0}
+EndsLine [] = ⊤
 EndsLine (b ∷ rest) = b ≡ 10
 
 -- a text is a line without its line feed, followed by a rest that is empty or begins with a line feed

@@ -63,5 +63,5 @@ pub rule_error : (task : Task) (rules : ℕ) (piece : List ℕ) (error : LineErr
 rule_error task rules piece (RefusedLine code at) few h = rule_refused task rules piece (record { code = code; at = at }) few h
 rule_error task rules piece NoMemory few h = tt
 
-pub few : (r n : ℕ) → r ≡ n → r < 2 ^ 32 → (r ≡ 4294967295 → ⊥) → n + 1 < 2 ^ 32
+pub few : (r n : ℕ) → r ≡ n → r < 2 ^ 32 → (¬ r ≡ 4294967295) → n + 1 < 2 ^ 32
 few r n e h f = omega (arith, e, h, f)

@@ -15,10 +15,10 @@ IsNoReach piece = (rest : List ℕ) → piece ≢ codes "reach " ++ rest
 second_differs : (a b c d : ℕ) (s t : List ℕ) → a ∷ (b ∷ s) ≡ c ∷ (d ∷ t) → b ≡ d
 second_differs a b c d s t e = same_head b d s t (same_tail a c (b ∷ s) (d ∷ t) e)
 
-pub rule_is_no_reach : (s t : List ℕ) → codes "reach " ++ s ≡ codes "rule " ++ t → ⊥
+pub rule_is_no_reach : (s t : List ℕ) → ¬ codes "reach " ++ s ≡ codes "rule " ++ t
 rule_is_no_reach s t e = let h = second_differs 114 101 114 117 _ _ e in absurd (omega (arith, h))
 
-fair_is_not_unfair : (s t : List ℕ) → codes " fair " ++ s ≡ codes " unfair" ++ t → ⊥
+fair_is_not_unfair : (s t : List ℕ) → ¬ codes " fair " ++ s ≡ codes " unfair" ++ t
 fair_is_not_unfair s t e = let h = second_differs 32 102 32 117 _ _ e in absurd (omega (arith, h))
 
 pub no_number_no_line : (piece count : List ℕ) → piece ≡ codes "reach " ++ count → is_number count ≡ false → HasNoShape piece

@@ -13,7 +13,7 @@ use Rattle.fond_rules.specs.Select.{selected_rule}
 use Rattle.fond_rules.proofs.First.{found_first}
 use Rattle.fond_rules.specs.Belongs.{AreActsThere}
 
-pub differs : (b : Bool) → b ≡ false → b ≡ true → ⊥
+pub differs : (b : Bool) → b ≡ false → ¬ b ≡ true
 differs b fails holds = true≢false (sym holds ∙ fails)
 
 -- the action of a rule is there
@@ -33,18 +33,18 @@ module _ (rules : List Rule) (state : List Bool) where
       ∙ ap (λ o. option_map (λ rule. rule.act) (option_and_then (λ number. slice_get rules number) o)) is
       ∙ ap (option_map (λ rule. rule.act)) at
 
-  -- where no rule is selected the policy chooses no action
-  pub none_chosen : (task : Task) → selected_rule rules state ≡ None → (number : ℕ) → selected rules state ≡ Some number → IsApplicable task state number → ⊥
+  -- if no rule is selected, the policy chooses no action
+  pub none_chosen : (task : Task) → selected_rule rules state ≡ None → (number : ℕ) → selected rules state ≡ Some number → ¬ IsApplicable task state number
   none_chosen task is number chosen applicable =
       let none : selected rules state ≡ None =
       sym (ap (option_map (λ rule. rule.act)) (found_first (λ rule. lies_in state rule.cond) rules))
       ∙ ap (λ o. option_map (λ rule. rule.act) (option_and_then (λ number. slice_get rules number) o)) is in
       none-some number (sym none ∙ chosen)
 
-  -- where the chosen action is not applicable no chosen one is
+  -- if the chosen action is not applicable, no other action is chosen
   pub none_applicable : (task : Task) (act : ℕ) (answer : Bool) → selected rules state ≡ Some act →
       ((a : Act) → slice_get task.acts act ≡ Some a → answer ≡ is_true state a.pre) → answer ≡ false →
-      (number : ℕ) → selected rules state ≡ Some number → IsApplicable task state number → ⊥
+      (number : ℕ) → selected rules state ≡ Some number → ¬ IsApplicable task state number
   none_applicable task act answer is told fails number chosen applicable =
       let same : number ≡ act = same_Some number act (sym chosen ∙ is) in
       let at : slice_get task.acts act ≡ Some applicable.act = ap (slice_get task.acts) (sym same) ∙ applicable.numbered in

@@ -24,7 +24,7 @@ use Rattle.fond_game.specs.Certificates.{LiesInLayers, IsRightRefusal}
 use Rattle.fond_game.proofs.Lists.{Contains_numbered, same_numbered, Contains-here, Contains-later, Contains-cases, Contains-map}
 use Rattle.fond_game.proofs.Reached.{reached_long, next_lies}
 
--- all states of so many atoms
+-- all states over this many atoms
 all_states : ℕ → List (List Bool)
 all_states zero = [] ∷ []
 all_states (suc n) = map (λ state. true ∷ state) (all_states n) ++ map (λ state. false ∷ state) (all_states n)
@@ -35,14 +35,14 @@ is_among_all [] = Contains-here [] []
 is_among_all (true ∷ state) = Contains-append_left _ _ _ (Contains-map (λ state. true ∷ state) (all_states (length state)) state (is_among_all state))
 is_among_all (false ∷ state) = Contains-append_right _ _ _ (Contains-map (λ state. false ∷ state) (all_states (length state)) state (is_among_all state))
 
--- it can't be that no list has exactly those of the given states of which the fact holds
-chosen_list : (P : List Bool → Type 0) (all : List (List Bool)) → ((chosen : List (List Bool)) → ((state : List Bool) → Contains chosen state → P state) → ((state : List Bool) → Contains all state → P state → Contains chosen state) → ⊥) → ⊥
+-- it is not the case that no list has exactly those of the given states of which a fact holds
+chosen_list : (P : List Bool → Type 0) (all : List (List Bool)) → ¬ ((chosen : List (List Bool)) → ((state : List Bool) → Contains chosen state → P state) → ¬ ((state : List Bool) → Contains all state → P state → Contains chosen state))
 chosen_list P [] none = none [] (λ state has. absurd (nothing_in state has)) (λ state has holds. has)
   where
-    nothing_in : (state : List Bool) → Contains [] state → ⊥
+    nothing_in : (state : List Bool) → ¬ Contains [] state
     nothing_in state has = omega (arith, has.1)
 chosen_list P (one ∷ all) none = chosen_list P all (λ chosen sound whole.
-    let fails : P one → ⊥ = λ holds. none (one ∷ chosen)
+    let fails : ¬ P one = λ holds. none (one ∷ chosen)
     (λ state has. ⊎_elim (λ same. subst P same holds) (sound state) (Contains-cases state one chosen has))
     (λ state has of_state. ⊎_elim (λ same. subst (Contains (one ∷ chosen)) same (Contains-here one chosen)) (λ behind. Contains-later state one chosen (whole state behind of_state)) (Contains-cases state one all has)) in
     none chosen sound (λ state has of_state. ⊎_elim (λ same. absurd (fails (subst P (sym same) of_state))) (λ behind. whole state behind of_state) (Contains-cases state one all has)))
@@ -50,7 +50,7 @@ chosen_list P (one ∷ all) none = chosen_list P all (λ chosen sound whole.
 no_false : (state : List Bool) (cube : CubeView) (form : Form) → LiesIn state cube → value cube form ≡ No → is_true state form ≡ false
 no_false state cube form lies is = let P : Kleene → Type 0 = λ a. Tells a (is_true state form) in subst P is (Tells-value state cube lies form)
 
--- the state lies in a cube of the layer
+-- a state lies in a cube of the layer
 record InLayer (state : List Bool) (layer : List CubeView) : Type 0 where
   cube : CubeView
   has : Contains layer cube
@@ -59,13 +59,13 @@ record InLayer (state : List Bool) (layer : List CubeView) : Type 0 where
 module _ (task : Task) (policy : Policy) (solution : IsSolution task policy) where
   -- no reached state lies in one of the layers
   abbrev NoneIn : List (List CubeView) → Type 0
-  NoneIn layers = (state : List Bool) → Reach task policy state → LiesInLayers state layers → ⊥
+  NoneIn layers = (state : List Bool) → Reach task policy state → ¬ LiesInLayers state layers
 
   abbrev InBoth : List CubeView → List Bool → Type 0
   InBoth layer state = Reach task policy state × InLayer state layer
 
   module _ (done : List (List CubeView)) (layer : List CubeView) (sure : IsSureLayer task done layer) (none : NoneIn done) where
-    -- where an outcome leads from a cube, the next state lies in the layer
+    -- if an outcome leads from a cube into the layer, the next state lies in the layer
     led : (into : List CubeView) (state : List Bool) (cube : CubeView) (act : Act) (number : ℕ) (outcome : List Entry) → Reach task policy state → LiesIn state cube → slice_get task.acts number ≡ Some act → Contains act.outcomes outcome → Leads cube outcome into → InLayer (next_state state outcome) into
     led into state cube act number outcome reached lies numbered one leads =
         let long = reached_long task policy state reached in
@@ -79,7 +79,7 @@ module _ (task : Task) (policy : Policy) (solution : IsSolution task policy) whe
         let cube = here.1.cube in
         let lies = here.1.lies in
         let sure_cube = sure cube here.1.has in
-        let open_ : IsGoal task state → ⊥ = λ goal. false≢true (sym (no_false state cube task.goal lies sure_cube.no_goal) ∙ goal) in
+        let open_ : ¬ IsGoal task state = λ goal. false≢true (sym (no_false state cube task.goal lies sure_cube.no_goal) ∙ goal) in
         let acts = solution.acts state reached open_ in
         let choice = acts.0 in
         let applicable = acts.2 in
@@ -118,14 +118,14 @@ module _ (task : Task) (policy : Policy) (solution : IsSolution task policy) whe
         }))
         forces
 
-    -- so none is reached
-    none_more : (state : List Bool) → InBoth layer state → ⊥
+    -- no state of the layer is reached
+    none_more : (state : List Bool) → ¬ InBoth layer state
     none_more state here = chosen_list (InBoth layer) (all_states (length task.atoms)) (λ trap sound whole.
         let keeps : (state : List Bool) → InBoth layer state → Contains trap state = λ state both.
         whole state (subst (λ n. Contains (all_states n) state) (reached_long task policy state both.0) (is_among_all state)) both in
         solution.free trap (record { some = (state, keeps state here); each = λ state has. stays trap sound keeps state (sound state has) }))
 
-  -- no layer is reached, one after the other
+  -- no layer is reached, layer by layer
   none_reached : (done rest : List (List CubeView)) → AreSureLayers task (done ++ rest) → NoneIn done → NoneIn (done ++ rest)
   none_reached done [] sure none = λ state reached lies. none state reached (subst (LiesInLayers state) (append-nil done) lies)
   none_reached done (layer ∷ rest) sure none =
@@ -138,10 +138,10 @@ module _ (task : Task) (policy : Policy) (solution : IsSolution task policy) whe
       subst NoneIn joined (none_reached (done ++ layer ∷ []) rest (subst (AreSureLayers task) (sym joined) sure) more)
 
 -- layers force
-pub layers_exclude : (task : Task) (layers : List (List CubeView)) (policy : Policy) (state : List Bool) → AreSureLayers task layers → Reach task policy state → LiesInLayers state layers → IsSolution task policy → ⊥
+pub layers_exclude : (task : Task) (layers : List (List CubeView)) (policy : Policy) (state : List Bool) → AreSureLayers task layers → Reach task policy state → LiesInLayers state layers → ¬ IsSolution task policy
 layers_exclude task layers policy state sure reached lies solution =
     none_reached task policy solution [] layers sure (λ state reached lies. absurd (omega (arith, lies.one.1))) state reached lies
 
--- so refusals hold
-pub refusals_exclude : (task : Task) (layers : List (List CubeView)) → IsRightRefusal task layers → IsSolvable task → ⊥
+-- refusals hold
+pub refusals_exclude : (task : Task) (layers : List (List CubeView)) → IsRightRefusal task layers → ¬ IsSolvable task
 refusals_exclude task layers right solvable = layers_exclude task layers solvable.0 task.init right.layers_sure start right.start solvable.2

@@ -31,7 +31,7 @@ module _ {X : Type 0} where
   found_here : (test : X → Bool) (y : X) (xs : List X) (bound : ℕ) → test y ≡ true → Found test (y ∷ xs) bound
   found_here test y xs bound here = record { number = zero; item = y; early = omega arith; numbered = refl; passes = here; first = cond-true _ _ _ here }
 
-  -- where one passes, the first that passes has no larger number
+  -- if an element passes, the first one that passes has no larger number
   pub found_by : (test : X → Bool) (xs : List X) (i : ℕ) (x : X) → slice_get xs i ≡ Some x → test x ≡ true → Found test xs i
   found_by test [] i x is here = absurd (none-some x is)
   found_by test (y ∷ xs) zero x is here = found_here test y xs zero (ap test (same_Some y x is) ∙ here)

@@ -1,4 +1,4 @@
--- The rules of a right policy certificate are a solution.
+-- The rules of a correct policy certificate are a solution.
 use Rattle.std.proofs.Common.{◌≡◌, ℕ, zero, suc, ◌<◌, ◌≤◌, List, Bool, true, Option, Some, None, length, get_or, refl, sym, ap, ◌∙◌, subst, arith}
 use Rattle.std.specs.Prelude.{slice_get, Contains, IsTrue, find, option_map, IsSome}
 use Rattle.std.proofs.lemmas.Bool.{false≢true}
@@ -34,21 +34,21 @@ yes_true state cube form lies is = let P : Kleene → Type 0 = λ a. Tells a (is
 
 module _ (task : Task) (pairs : List Pair) (rules : List Rule) (sure : (number : ℕ) (rule : Rule) → slice_get rules number ≡ Some rule → IsSureRule task pairs rules number rule)
     (trap : List (List Bool)) (is : IsTrap task (selected rules) trap) where
-  -- no state of the trap has its selected rule at a number below this one
+  -- no state of the trap selects a rule below this number
   abbrev NoneBelow : ℕ → Type 0
-  NoneBelow n = (state : List Bool) → Contains trap state → (number : ℕ) (rule : Rule) → number < n → slice_get rules number ≡ Some rule → find (λ rule. lies_in state rule.cond) rules ≡ Some rule → ⊥
+  NoneBelow n = (state : List Bool) → Contains trap state → (number : ℕ) (rule : Rule) → number < n → slice_get rules number ≡ Some rule → ¬ find (λ rule. lies_in state rule.cond) rules ≡ Some rule
 
   -- a state of the trap lies in no cube that meets an earlier target
-  none_met : (n : ℕ) → NoneBelow n → (number : ℕ) → number ≤ n → (after : List Bool) → Contains trap after → (cube : CubeView) → LiesIn after cube → (target : Target) → IsEarlier number target → Meets task rules cube target → ⊥
+  none_met : (n : ℕ) → NoneBelow n → (number : ℕ) → number ≤ n → (after : List Bool) → Contains trap after → (cube : CubeView) → LiesIn after cube → (target : Target) → IsEarlier number target → ¬ Meets task rules cube target
   none_met n none number small after kept cube lies Goal early met = (is.each after kept).open_ (yes_true after cube task.goal lies met)
   none_met n none number small after kept cube lies (ToRule other) early met =
       let found = found_by (λ rule. lies_in after rule.cond) rules other met.0 met.1 ((lies_in-Decides after met.0.cond).1 (LiesIn-through after cube met.0.cond lies met.2)) in
       let lower : found.number < n = omega (arith, found.early, early) in
       none after kept found.number found.item lower found.numbered found.first
 
-  -- so the targets of a rule that such a state selects are not met
+  -- the targets of a rule that a state of the trap selects are not met
   not_met : (n : ℕ) → NoneBelow n → (number : ℕ) → number ≤ n → (state : List Bool) → (stays : StaysIn task (selected rules) trap state) → (cond : CubeView) → LiesIn state cond →
-      (act : Act) → slice_get task.acts stays.choice ≡ Some act → IsTrue (is_true state act.pre) → (targets : Targets) → AreMet task rules number cond act targets → ⊥
+      (act : Act) → slice_get task.acts stays.choice ≡ Some act → IsTrue (is_true state act.pre) → (targets : Targets) → ¬ AreMet task rules number cond act targets
   not_met n none number small state stays cond lies act numbered holds (One outcome target) met =
       let entries = met.2.0 in
       let one : Contains act.outcomes entries = Contains_numbered act.outcomes outcome entries met.2.1 in

@@ -1,4 +1,4 @@
--- Sure layers, one put upon the other.
+-- Lists of sure layers, with one more.
 use Rattle.std.proofs.Common.{◌≡◌, List, [], ◌∷◌, ◌++◌, refl, sym, ap, ◌∙◌, subst, arith}
 use Rattle.std.proofs.lemmas.List.{append_assoc, same_from_push, length-append}
 use Rattle.std.specs.Prelude.{length}
@@ -10,11 +10,11 @@ last_of : {X : Type 0} (x : X) (xs : List X) → (front : List X) × (last : X) 
 last_of x [] = ([], x, refl)
 last_of x (y ∷ ys) = let rest = last_of y ys in (x ∷ rest.0, rest.1, ap (λ zs. x ∷ zs) rest.2)
 
--- there are none at first
+-- no layers are sure layers
 pub AreSureLayers-none : (task : Task) → AreSureLayers task []
 AreSureLayers-none task before layer behind split = absurd (omega (arith, ap length split, length-append before (layer ∷ behind)))
 
--- a layer that is sure above all so far can be put behind them
+-- sure layers, followed by one that is sure above them, are sure layers
 pub AreSureLayers-push : (task : Task) (layers : List (List CubeView)) (layer : List CubeView) → AreSureLayers task layers → IsSureLayer task layers layer → AreSureLayers task (layers ++ layer ∷ [])
 AreSureLayers-push task layers layer sure more before one [] split =
     let parts = same_from_push layers before layer one split in

@@ -1,6 +1,6 @@
--- Small games that were worked out by hand, computed from the definitions.
+-- Small games, worked out by hand and computed with the definitions.
 use Rattle.std.proofs.Common.{not, ◌≡◌, ℕ, zero, suc, ◌<◌, List, [], ◌∷◌, Bool, true, false, Option, Some, None, refl, sym, ◌∙◌, subst, inl, inr, ⊎_elim, arith}
-use Rattle.std.specs.Prelude.{◌&&◌, Contains, slice_get}
+use Rattle.std.specs.Prelude.{◌&&◌, Contains, slice_get, ⊤}
 use Rattle.std.proofs.lemmas.Bool.{false≢true, and_parts}
 use Rattle.std.proofs.lemmas.Option.{none-some, same_Some}
 use denote.RawPtr.{null_ptr}
@@ -35,23 +35,23 @@ use Rattle.fond_game.proofs.Ranks.{ranks_exclude}
 use Rattle.fond_game.proofs.Forced.{refusals_exclude}
 use Rattle.fond_game.proofs.Stacked.{AreSureLayers-none, AreSureLayers-push}
 
--- what holds of each element, by the elements
+-- a fact holds of each item of a list, item by item
 abbrev Each : {X : Type 0} → (X → Type 0) → List X → Type 0
-Each P [] = Unit {0}
+Each P [] = ⊤
 Each P (x ∷ xs) = P x × Each P xs
 
 at_each : {X : Type 0} (P : X → Type 0) (xs : List X) → Each P xs → (x : X) → Contains xs x → P x
 at_each P [] each x has = absurd (omega (arith, has.1))
 at_each P (y ∷ xs) each x has = ⊎_elim (λ same. subst P same each.0) (at_each P xs each.1 x) (Contains-cases x y xs has)
 
--- whether what one cube says of an atom is all that another wants of it
+-- whether the literal that one cube has of an atom contains that of another
 abbrev says : Option Bool → Option Bool → Bool
 says known None = true
 says (Some true) (Some sign) = sign
 says (Some false) (Some sign) = not sign
 says None (Some sign) = false
 
--- the test of lying in another cube
+-- whether one cube lies in another
 abbrev inside : CubeView → CubeView → Bool
 inside cube [] = true
 inside [] (known ∷ other) = says None known && inside [] other
@@ -72,7 +72,7 @@ inside_lies [] (wanted ∷ other) told (suc atom) sign is = inside_lies [] other
 inside_lies (known ∷ cube) (wanted ∷ other) told zero sign is = said known wanted (and_parts _ _ told).0 sign is
 inside_lies (known ∷ cube) (wanted ∷ other) told (suc atom) sign is = inside_lies cube other (and_parts _ _ told).1 atom sign is
 
-No_is_not_Yes : No ≡ Yes → ⊥
+No_is_not_Yes : ¬ No ≡ Yes
 No_is_not_Yes is = cc
 
 -- an action without names
@@ -83,7 +83,7 @@ action pre unfair outcomes = record { ground = record { schema = 0; objects = []
 abbrev sets : ℕ → Bool → Entry
 sets atom sign = record { cond = Truth true; atom = atom; add = sign }
 
--- names play no part in these games
+-- no names are needed in these games
 abbrev unnamed : Atom
 unnamed = record { predicate = 0; objects = [] }
 
@@ -94,7 +94,7 @@ no_labels = record { predicates = []; objects = []; schemas = [] }
 leads : (cube other : CubeView) (outcome : List Entry) (layer : List CubeView) → Contains layer other → inside (image cube outcome) other ≡ true → Leads cube outcome layer
 leads cube other outcome layer has told = record { other = other; one = has; lies = inside_lies (image cube outcome) other told }
 
--- coin: a flip that gives heads or nothing, where heads is wanted
+-- coin: a flip gives heads or nothing, and the goal is heads
 abbrev flip : Bool → Act
 flip unfair = action (Truth true) unfair ((sets 0 true ∷ []) ∷ [] ∷ [])
 
@@ -118,7 +118,7 @@ no_heads = (Some false ∷ []) ∷ []
 abbrev flip_rule : Rule
 flip_rule = record { cond = None ∷ []; act = 0; targets = One 0 Goal }
 
--- where the flip is fair, its rule is sure
+-- if the flip is fair, its rule is sure
 flip_rule_sure : IsSureRule (coin false) [] (flip_rule ∷ []) 0 flip_rule
 flip_rule_sure = record {
   act = flip false;
@@ -128,21 +128,21 @@ flip_rule_sure = record {
   met = (refl, tt, (sets 0 true ∷ [], refl, simp (value-Lit, value-Truth)));
 }
 
--- one that names itself as target is not
+-- a rule that names itself as its target is not sure
 abbrev circle_rule : Rule
 circle_rule = record { cond = None ∷ []; act = 0; targets = One 0 (ToRule 0) }
 
-circle_rule_not_sure : IsSureRule (coin false) [] (circle_rule ∷ []) 0 circle_rule → ⊥
+circle_rule_not_sure : ¬ IsSureRule (coin false) [] (circle_rule ∷ []) 0 circle_rule
 circle_rule_not_sure sure = omega (arith, at_each (λ act. AreMet (coin false) (circle_rule ∷ []) 0 circle_rule.cond act circle_rule.targets → 0 < 0) (flip false ∷ []) ((λ met. met.1), tt) sure.act (Contains_numbered (flip false ∷ []) 0 sure.act sure.has_act) sure.met)
 
--- two states are reached: where it fails, and where heads came
+-- the policy reaches two states, with heads and without
 abbrev tails : List Bool
 tails = false ∷ []
 
 abbrev heads : List Bool
 heads = true ∷ []
 
-tails_open : (unfair : Bool) → IsGoal (coin unfair) tails → ⊥
+tails_open : (unfair : Bool) → ¬ IsGoal (coin unfair) tails
 tails_open unfair goal = false≢true (sym (is_true-Lit tails 0 true) ∙ goal)
 
 heads_next : next_state tails (sets 0 true ∷ []) ≡ heads
@@ -168,7 +168,7 @@ only_these state (onward before number after reached open_ chosen next) =
     ((λ open_ next. after_tails number after next), ((λ open_ next. absurd (open_ (is_true-Lit heads 0 true))), tt))
     before (only_these before reached) open_ next
 
--- so the certificate with this rule is right, and the rule a solution
+-- the certificate with this rule is correct, and the rule is a solution
 coin_right : IsRightPolicy (coin false) [] [] (flip_rule ∷ []) 2
 coin_right = record {
   layers_sure = AreSureLayers-none (coin false);
@@ -177,7 +177,7 @@ coin_right = record {
   ruled = λ state reached open_. refl;
   counted = record {
     states = tails ∷ heads ∷ [];
-    once = ((λ has. at_each (λ s. s ≡ tails → ⊥) (heads ∷ []) ((λ same. heads_are_not_tails same), tt) tails has refl), ((λ has. omega (arith, has.1)), tt));
+    once = ((λ has. at_each (λ s. ¬ s ≡ tails) (heads ∷ []) ((λ same. heads_are_not_tails same), tt) tails has refl), ((λ has. omega (arith, has.1)), tt));
     reached = at_each (Reach (coin false) (selected (flip_rule ∷ []))) (tails ∷ heads ∷ []) (start, (heads_reached, tt));
     all = only_these;
     counted = refl;
@@ -188,14 +188,14 @@ coin_right = record {
     sure zero rule is = subst (λ (r : Rule). IsSureRule (coin false) [] (flip_rule ∷ []) 0 r) (same_Some flip_rule rule is) flip_rule_sure
     sure (suc number) rule is = absurd (none-some rule is)
 
-    heads_are_not_tails : heads ≡ tails → ⊥
+    heads_are_not_tails : ¬ heads ≡ tails
     heads_are_not_tails same = cc
 
 coin_solved : IsSolution (coin false) (selected (flip_rule ∷ []))
 coin_solved = ranks_exclude (coin false) [] [] (flip_rule ∷ []) 2 coin_right
 
--- and the cube without heads is no sure layer
-no_heads_not_sure : IsSureLayer (coin false) [] no_heads → ⊥
+-- the cube without heads is no sure layer if the flip is fair
+no_heads_not_sure : ¬ IsSureLayer (coin false) [] no_heads
 no_heads_not_sure sure =
     let here = sure (Some false ∷ []) (0, omega arith, refl) in
     let forced = here.forced (flip false) (0, omega arith, refl) (λ is. No_is_not_Yes (sym is ∙ value-Truth (Some false ∷ []) true)) in
@@ -211,29 +211,29 @@ no_heads_not_sure sure =
     (λ unfair. false≢true unfair.0))
     forced
 
--- above a layer that is not sure itself it would be, though the rule is a solution: so the earlier layers count too
+-- above a layer that is not sure it would be sure, although the rule is a solution: all layers below must be sure too
 sure_above_unsure : IsSureLayer (coin false) (((Some true ∷ []) ∷ []) ∷ []) no_heads
 sure_above_unsure = at_each (IsSureCube (coin false) (((Some true ∷ []) ∷ []) ∷ []) no_heads) no_heads (
   record {
     no_goal = value-Lit (Some false ∷ []) 0 true;
-    forced = at_each (λ act. (value (Some false ∷ []) act.pre ≡ No → ⊥) → Forces (((Some true ∷ []) ∷ []) ∷ []) no_heads (Some false ∷ []) act) (flip false ∷ [])
+    forced = at_each (λ act. (¬ value (Some false ∷ []) act.pre ≡ No) → Forces (((Some true ∷ []) ∷ []) ∷ []) no_heads (Some false ∷ []) act) (flip false ∷ [])
         ((λ may. inl ((Some true ∷ []) ∷ [], (0, omega arith, refl), (sets 0 true ∷ [], (0, omega arith, refl), leads (Some false ∷ []) (Some true ∷ []) (sets 0 true ∷ []) ((Some true ∷ []) ∷ []) (0, omega arith, refl) (simp value-Truth)))), tt);
   },
   tt,
 )
 
--- where the flip is unfair, that cube is a sure layer
+-- if the flip is unfair, the cube without heads is a sure layer
 no_heads_sure : IsSureLayer (coin true) [] no_heads
 no_heads_sure = at_each (IsSureCube (coin true) [] no_heads) no_heads (
   record {
     no_goal = value-Lit (Some false ∷ []) 0 true;
-    forced = at_each (λ act. (value (Some false ∷ []) act.pre ≡ No → ⊥) → Forces [] no_heads (Some false ∷ []) act) (flip true ∷ [])
+    forced = at_each (λ act. (¬ value (Some false ∷ []) act.pre ≡ No) → Forces [] no_heads (Some false ∷ []) act) (flip true ∷ [])
         ((λ may. inr (inr (refl, ([], (1, omega arith, refl), leads (Some false ∷ []) (Some false ∷ []) [] no_heads (0, omega arith, refl) refl)))), tt);
   },
   tt,
 )
 
--- and the state without heads a trap of the policy that always flips
+-- if the flip is unfair, the state without heads is a trap of the policy that always flips
 tails_trap : IsTrap (coin true) (λ state. Some 0) (tails ∷ [])
 tails_trap = record {
   some = (tails, (0, omega arith, refl));
@@ -250,8 +250,8 @@ tails_trap = record {
   );
 }
 
--- so no finite map is a solution
-coin_lost : IsSolvable (coin true) → ⊥
+-- if the flip is unfair, no finite map is a solution
+coin_lost : ¬ IsSolvable (coin true)
 coin_lost = refusals_exclude (coin true) (no_heads ∷ []) (record {
   layers_sure = AreSureLayers-push (coin true) [] no_heads (AreSureLayers-none (coin true)) no_heads_sure;
   start = record { layer = no_heads; one = (0, omega arith, refl); cube = Some false ∷ []; has = (0, omega arith, refl); lies = (lies_in-Decides tails (Some false ∷ [])).0 refl };
@@ -285,7 +285,7 @@ in_pit_sure : IsSureLayer pit [] (in_pit ∷ [])
 in_pit_sure = at_each (IsSureCube pit [] (in_pit ∷ [])) (in_pit ∷ []) (
   record {
     no_goal = value-Lit in_pit 0 true;
-    forced = at_each (λ act. (value in_pit act.pre ≡ No → ⊥) → Forces [] (in_pit ∷ []) in_pit act) (jump ∷ []) ((λ may. absurd (may (value-Lit in_pit 1 false))), tt);
+    forced = at_each (λ act. (¬ value in_pit act.pre ≡ No) → Forces [] (in_pit ∷ []) in_pit act) (jump ∷ []) ((λ may. absurd (may (value-Lit in_pit 1 false))), tt);
   },
   tt,
 )
@@ -294,20 +294,20 @@ at_edge_sure : IsSureLayer pit ((in_pit ∷ []) ∷ []) (at_edge ∷ [])
 at_edge_sure = at_each (IsSureCube pit ((in_pit ∷ []) ∷ []) (at_edge ∷ [])) (at_edge ∷ []) (
   record {
     no_goal = value-Lit at_edge 0 true;
-    forced = at_each (λ act. (value at_edge act.pre ≡ No → ⊥) → Forces ((in_pit ∷ []) ∷ []) (at_edge ∷ []) at_edge act) (jump ∷ [])
+    forced = at_each (λ act. (¬ value at_edge act.pre ≡ No) → Forces ((in_pit ∷ []) ∷ []) (at_edge ∷ []) at_edge act) (jump ∷ [])
         ((λ may. inl (in_pit ∷ [], (0, omega arith, refl), (sets 1 true ∷ [], (1, omega arith, refl), leads at_edge in_pit (sets 1 true ∷ []) (in_pit ∷ []) (0, omega arith, refl) (simp value-Truth)))), tt);
   },
   tt,
 )
 
--- both layers are sure, so the certificate with them is right
+-- both layers are sure, and the certificate with them is correct
 pit_refused : IsRightRefusal pit ((in_pit ∷ []) ∷ (at_edge ∷ []) ∷ [])
 pit_refused = record {
   layers_sure = AreSureLayers-push pit ((in_pit ∷ []) ∷ []) (at_edge ∷ []) (AreSureLayers-push pit [] (in_pit ∷ []) (AreSureLayers-none pit) in_pit_sure) at_edge_sure;
   start = record { layer = at_edge ∷ []; one = (1, omega arith, refl); cube = at_edge; has = (0, omega arith, refl); lies = (lies_in-Decides (false ∷ false ∷ []) at_edge).0 refl };
 }
 
--- swap: two actions that each give one atom for the other, where both are wanted
+-- swap: each of two actions trades one atom for the other, and the goal is both
 module _ (alloc : Global) where
   abbrev both : Vec Form Global
   both = record { ptr = null_ptr; len = 2; cap = 2; alloc = alloc; items = Lit 0 true ∷ Lit 1 true ∷ []; ok = (refl, omega arith); small = omega arith }
@@ -346,7 +346,7 @@ module _ (alloc : Global) where
   swapped_sure = at_each (IsSureCube swap [] swapped) swapped (
     record {
       no_goal = simp (value-And, value-Lit);
-      forced = at_each (λ act. (value first act.pre ≡ No → ⊥) → Forces [] swapped first act) (left ∷ right ∷ []) (
+      forced = at_each (λ act. (¬ value first act.pre ≡ No) → Forces [] swapped first act) (left ∷ right ∷ []) (
         λ may. absurd (may (value-Lit first 1 true)),
         ((λ may. inr (inl (refl, at_each (λ outcome. Leads first outcome swapped) right.outcomes (leads first second (sets 1 true ∷ sets 0 false ∷ []) swapped (1, omega arith, refl) (simp value-Truth), tt)))), tt),
       );
@@ -354,7 +354,7 @@ module _ (alloc : Global) where
     (
       record {
         no_goal = simp (value-And, value-Lit);
-        forced = at_each (λ act. (value second act.pre ≡ No → ⊥) → Forces [] swapped second act) (left ∷ right ∷ []) (
+        forced = at_each (λ act. (¬ value second act.pre ≡ No) → Forces [] swapped second act) (left ∷ right ∷ []) (
           (λ may. inr (inl (refl, at_each (λ outcome. Leads second outcome swapped) left.outcomes (leads second first (sets 0 true ∷ sets 1 false ∷ []) swapped (0, omega arith, refl) (simp value-Truth), tt)))),
           (λ may. absurd (may (value-Lit second 0 true)), tt),
         );
@@ -435,7 +435,7 @@ right_rule_sure = record {
   met = (refl, tt, (sets 3 true ∷ [], refl, simp (value-Lit, value-Truth)));
 }
 
--- the opponent's choice of a side is met on both
+-- the rule of the unfair split has a target for each side that the opponent may choose
 split_met : (at : ℕ) (target : Target) (entries : List Entry) → slice_get (ToRule 0 ∷ ToRule 1 ∷ []) at ≡ Some target → slice_get split.outcomes at ≡ Some entries → IsEarlier 2 target × Meets mix mix_rules (image ready entries) target
 split_met zero target entries is_target is_entries =
     subst (λ (t : Target). IsEarlier 2 t × Meets mix mix_rules (image ready entries) t) (same_Some _ _ is_target)
@@ -463,7 +463,7 @@ try_rule_sure = record {
   met = (refl, omega arith, (sets 0 true ∷ [], refl, (split_rule, refl, inside_lies (image anywhere (sets 0 true ∷ [])) ready (simp value-Truth))));
 }
 
--- detour: a jump as in pit, and a walk around it
+-- detour: a jump as in pit, and a walk around the pit
 abbrev walk : Act
 walk = action (Lit 1 false) false ((sets 2 true ∷ []) ∷ [] ∷ [])
 
@@ -491,7 +491,7 @@ fallen_sure : IsSureLayer detour [] (fallen ∷ [])
 fallen_sure = at_each (IsSureCube detour [] (fallen ∷ [])) (fallen ∷ []) (
   record {
     no_goal = value-Lit fallen 0 true;
-    forced = at_each (λ act. (value fallen act.pre ≡ No → ⊥) → Forces [] (fallen ∷ []) fallen act) (jump ∷ walk ∷ enter ∷ [])
+    forced = at_each (λ act. (¬ value fallen act.pre ≡ No) → Forces [] (fallen ∷ []) fallen act) (jump ∷ walk ∷ enter ∷ [])
         (λ may. absurd (may (value-Lit fallen 1 false)), (λ may. absurd (may (value-Lit fallen 1 false)), (λ may. absurd (may (value-Lit fallen 2 true)), tt)));
   },
   tt,
@@ -540,16 +540,16 @@ walk_rule_sure = record {
   met = (refl, omega arith, (sets 2 true ∷ [], refl, (enter_rule, refl, inside_lies (image walk_rule.cond (sets 2 true ∷ [])) enter_rule.cond (simp value-Truth))));
 }
 
--- a jump from where the pit is not near is barred, and a rule for it with no literal is not sure
+-- a forbidden pair bars the jump at the edge, and a rule without literals for the jump is not sure
 abbrev jump_rule : Rule
 jump_rule = record { cond = None ∷ Some false ∷ None ∷ []; act = 0; targets = One 0 Goal }
 
-jump_rule_not_sure : IsSureRule detour (no_jump ∷ []) (jump_rule ∷ []) 0 jump_rule → ⊥
+jump_rule_not_sure : ¬ IsSureRule detour (no_jump ∷ []) (jump_rule ∷ []) 0 jump_rule
 jump_rule_not_sure sure =
     let against = sure.barred no_jump (0, omega arith, refl) refl in
     nowhere against.0 against.1 against.2 against.3
   where
-    nowhere : (atom : ℕ) (sign : Bool) → literal_at jump_rule.cond atom ≡ Some sign → literal_at no_jump.cond atom ≡ Some (not sign) → ⊥
+    nowhere : (atom : ℕ) (sign : Bool) → literal_at jump_rule.cond atom ≡ Some sign → ¬ literal_at no_jump.cond atom ≡ Some (not sign)
     nowhere zero sign is other = none-some sign is
     nowhere (suc zero) sign is other = none-some (not sign) other
     nowhere (suc (suc zero)) sign is other = none-some sign is

@@ -28,7 +28,7 @@ forms-more f g forms next members i member form whole lt at e same before =
 abbrev pub may : Kleene → Bool
 may v = not (is_no v)
 
-pub not-No : (v : Kleene) → (v ≡ No → ⊥) → false ≡ is_no v
+pub not-No : (v : Kleene) → (¬ v ≡ No) → false ≡ is_no v
 not-No No h = absurd (h refl)
 not-No Unknown h = refl
 not-No Yes h = refl

@@ -125,7 +125,7 @@ text-values (item ∷ items) from s t h =
 state-text : (predicates : List LPredicate) (s : State) → state_text predicates (state_of (values_of (length predicates) s)) ≡ state_text predicates s
 state-text predicates s = ap (λ w. codes "state\n" ++ w) (text-values predicates 0 (state_of (values_of (length predicates) s)) s (λ k le lt. values-at (length predicates) s k (omega arith)))
 
--- the values kept of the outcomes are printed as the successors
+-- the values that are kept of the outcomes are printed as the successors
 pub successors-told : (task : LiftedTask) (schema : LSchema) (values : List Bool) (all : List (List Literal)) (keys : List (Vec Bool Global)) → values ≡ values_of (length task.predicates) (initial task) → map change_of all ≡ choices schema.effect
     → map (λ v. v.items) keys ≡ distinct_values (length values) (map (after (state_of values)) (map change_of all))
     → flat_map (λ v. state_text task.predicates (state_of v.items)) keys ≡ successors_text task schema

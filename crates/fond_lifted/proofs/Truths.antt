@@ -94,7 +94,7 @@ pub marked-all : (atoms : List Atom) (values : List Bool) (count : ℕ) → leng
 marked-all atoms values count e none within =
     values_by_all (marked values atoms) count (atoms_of atoms) (marked-length atoms values ∙ e) (λ k lt. marked-at atoms values count k e lt within ∙ ap (λ v. v || atoms_of atoms (atom_of_number k)) (none k lt))
 
-none_at : {atom : Atom} (i : ℕ) → slice_get {X = Atom} [] i ≡ Some atom → ⊥
+none_at : {atom : Atom} (i : ℕ) → ¬ slice_get {X = Atom} [] i ≡ Some atom
 none_at zero h = cc
 none_at (suc i) h = cc
 

@@ -31,7 +31,7 @@ member-passes p (other ∷ states) state (inr m) passes = from (p other) (member
     from false e = e
 
 -- a list of distinct states with a new one appended
-one-more : (states : List State) (state : State) → AreDistinct states → (Member states state → ⊥) → AreDistinct (states ++ state ∷ [])
+one-more : (states : List State) (state : State) → AreDistinct states → (¬ Member states state) → AreDistinct (states ++ state ∷ [])
 one-more [] state distinct new = (λ has. Member-from_Contains [] state has, tt)
 one-more (other ∷ states) state distinct new = (
   λ has. elim (Member-cases states (state ∷ []) other (Member-from_Contains (states ++ state ∷ []) other has)) [

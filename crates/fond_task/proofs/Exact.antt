@@ -1,4 +1,4 @@
--- On the full cube of a state values are truth, and the image is the full cube of the next state.
+-- On the full cube of a state, values are truth, and the image is the full cube of the next state.
 use Rattle.std.proofs.Common.{◌≡◌, ℕ, ◌<◌, List, [], ◌∷◌, Bool, true, false, not, Some, None, length, map, cond, refl, ap, ◌∙◌, subst}
 use Rattle.std.specs.Prelude.{◌&&◌, ◌||◌, ◌==◌, fold, filter, IsTrue, if◌then◌else◌}
 use Rattle.std.specs.List.{list_all, list_any}
@@ -73,7 +73,7 @@ module _ (state : List Bool) where
   IsExactLayer x = within_step (length state) (map-Form Form Bool (is_form_within (length state)) x) ≡ true →
       value_step (full_cube state) (map-Form Form Kleene (value (full_cube state)) x) ≡ known (is_true_step state (map-Form Form Bool (is_true state) x))
 
-  -- on the full cube a value is the truth
+  -- on the full cube, a value is the truth
   pub exact-value : (form : Form) → IsExact form
   exact-value = ind-Form IsExact (λ x y is.
       rw (fold-roll-Form Kleene (value_step (full_cube state)) x, fold-roll-Form Bool (is_true_step state) x, fold-roll-Form Bool (within_step (length state)) x)

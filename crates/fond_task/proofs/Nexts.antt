@@ -35,7 +35,7 @@ module _ (state : List Bool) (cube : List (Option Bool)) (lies : LiesIn state cu
   Tells_among [] a x of_x = Tells_here a x (x || false) (or_none x) of_x
   Tells_among (entry ∷ entries) a x of_x = Tells_one entry entries (passes entry) a x of_x (Tells_among entries)
 
--- an atom that no entry can change is changed by none
+-- an atom that no entry can change stays as it is
 none_changes : (state : List Bool) (passes : Entry → Bool) (atom : ℕ) (entries : List Entry) → ((entry : Entry) → is_entry_within (length state) entry ≡ true → passes entry ≡ false) → list_all (is_entry_within (length state)) entries ≡ true →
     list_any (λ entry. passes entry && is_true state entry.cond) entries ≡ false
 none_changes state passes atom [] misses within = refl
@@ -80,7 +80,7 @@ table Unknown Unknown None adds deletes was sign of_adds of_deletes told is = ab
 table Unknown Unknown (Some true) adds deletes was sign of_adds of_deletes told is = absurd (none-some _ is)
 table Unknown Unknown (Some false) adds deletes was sign of_adds of_deletes told is = absurd (none-some _ is)
 
--- where a state lies in a cube, the next state lies in the image
+-- if a state lies in a cube, the next state lies in the image
 pub image_holds_next : (state : List Bool) (cube : List (Option Bool)) (outcome : List Entry) → IsTrue (list_all (is_entry_within (length state)) outcome) → LiesIn state cube → LiesIn (next_state state outcome) (image cube outcome)
 image_holds_next state cube outcome within lies atom sign is = ⊎_elim
     (λ small.

@@ -1,6 +1,6 @@
--- What a value on a cube tells of the truth in a state of the cube.
+-- A value on a cube and the truth in a state of the cube.
 use Rattle.std.proofs.Common.{◌≡◌, List, [], ◌∷◌, Bool, true, false, Option, Some, None, map, refl, sym, ap, subst}
-use Rattle.std.specs.Prelude.{◌&&◌, ◌||◌, fold, if◌then◌else◌}
+use Rattle.std.specs.Prelude.{◌&&◌, ◌||◌, fold, if◌then◌else◌, ⊤}
 use Rattle.std.specs.List.{list_all, list_any}
 use Rattle.std.proofs.lemmas.Bool.{and_left, and_right, or_left, or_right}
 use Rattle.fond_state.specs.Cubes.{LiesIn, truth_at, literal_at}
@@ -13,16 +13,16 @@ use Rattle.fond_task.specs.Truth.{is_true, is_true_step}
 use Rattle.fond_text.specs.Bools.{is_same}
 use Rattle.fond_task.specs.Values.{lesser, greater, literal_value, value, value_step}
 
--- Yes tells that it is true, No that it is false
+-- a value agrees with a truth: Yes with true, No with false, Unknown with both
 abbrev pub Tells : Kleene → Bool → Type 0
 Tells No truth = truth ≡ false
-Tells Unknown truth = Unit {0}
+Tells Unknown truth = ⊤
 Tells Yes truth = truth ≡ true
 
 pub Tells_here : (a : Kleene) (x y : Bool) → x ≡ y → Tells a x → Tells a y
 Tells_here a x y same tells = let P : Bool → Type 0 = λ v. Tells a v in subst P same tells
 
--- the lesser tells of both, the greater of some
+-- the lesser of two values agrees with the conjunction of their truths, the greater with the disjunction
 pub Tells-lesser : (a b : Kleene) (x y : Bool) → Tells a x → Tells b y → Tells (lesser a b) (x && y)
 Tells-lesser No b x y of_x of_y = and_left x y of_x
 Tells-lesser Unknown No x y of_x of_y = and_right x y of_y
@@ -85,7 +85,7 @@ module _ (state : List Bool) (cube : List (Option Bool)) where
   Tells-layer lies (And parts) = Tells-least parts.items Yes true refl
   Tells-layer lies (Or parts) = Tells-greatest parts.items No false refl
 
-  -- a value on a cube tells of the truth in each state of the cube
+  -- a value on a cube agrees with the truth in each state of the cube
   pub Tells-value : LiesIn state cube → (form : Form) → Tells (value cube form) (is_true state form)
   Tells-value lies = ind-Form TellsForm (λ x y is.
       rw (fold-roll-Form Kleene (value_step cube) x, fold-roll-Form Bool (is_true_step state) x)

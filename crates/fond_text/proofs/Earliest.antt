@@ -88,7 +88,7 @@ first_with R P Q before other first h p e = record {
 }
 
 -- where none are left, it is the first of all
-pub all_found : (R Q : Faulty) (first : Option Found) → IsFirstSoFar R Q first → ((place : Place) (code : ℕ) → Q place code → ⊥) → IsFirst R first
+pub all_found : (R Q : Faulty) (first : Option Found) → IsFirstSoFar R Q first → ((place : Place) (code : ℕ) → ¬ Q place code) → IsFirst R first
 all_found R Q first h empty = record {
   one = h.one;
   covers = λ place code r. elim (h.covers place code r) [ inl c ↦ c | inr q ↦ absurd (empty place code q) ];

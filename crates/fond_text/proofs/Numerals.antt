@@ -15,7 +15,7 @@ module _ (E : Type 0) (bytes text : List ℕ) (r : Result ℕ E) (same : text �
   parsed : result_ok r ≡ Some n
   parsed = ap result_ok (parse-decimal {E = E} 64 n text r small small (same ∙ is) parses)
 
-  pub not_parsed : result_ok r ≡ None → ⊥
+  pub not_parsed : ¬ result_ok r ≡ None
   not_parsed none = let both : None ≡ Some n = sym none ∙ parsed in absurd (cc)
 
   pub own_digits : (number : ℕ) → result_ok r ≡ Some number → bytes ≡ decimal number

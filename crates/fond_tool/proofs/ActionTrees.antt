@@ -123,7 +123,7 @@ pub same_leaves : (tree other : Tree) (pieces : List Token) → pieces ≡ spell
 same_leaves tree other pieces e f = node_of_leaves tree ∙ ap are_node_of_leaves (sym e ∙ f) ∙ sym (node_of_leaves other)
 
 -- a word that is read as a tree that is no node of leaves spells no action
-pub no_action : (word : List ℕ) (tree : Tree) → IsReadAs word tree → is_leaf_node tree ≡ false → IsAction word → ⊥
+pub no_action : (word : List ℕ) (tree : Tree) → IsReadAs word tree → is_leaf_node tree ≡ false → ¬ IsAction word
 no_action word tree read none action =
     let same : is_leaf_node tree ≡ is_leaf_node action.0 = same_leaves tree action.0 (tokens word) read.spelled action.1.spelled in
     let never : true ≡ false = sym action.2 ∙ sym same ∙ none in cc

@@ -23,7 +23,7 @@ pub some_is : {X : Type 0} (x y : X) → Some x ≡ Some y → x ≡ y
 some_is x y e = cc
 
 -- what spells a tree does not begin with a closing parenthesis
-no_closing : (tree : Tree) (more : List Token) → spelling tree ++ more ≡ Closes ∷ [] → ⊥
+no_closing : (tree : Tree) (more : List Token) → ¬ spelling tree ++ more ≡ Closes ∷ []
 no_closing tree more e = from (cases_of tree)
   where
     from : IsLeafTree tree ⊎ IsNodeTree tree → ⊥
@@ -43,7 +43,7 @@ module _ (other : Place) (name : List ℕ) where
       let rest : flat_map spelling trees ++ Closes ∷ [] ≡ Closes ∷ [] = cc in
       ap (λ ts. name_alone (tree ∷ ts)) (no_members trees rest) ∙ leaf.leaf ∙ ap (λ n. Some n) named
 
-  first_node : (tree : Tree) (trees : List Tree) (node : IsNodeTree tree) → flat_map spelling (tree ∷ trees) ++ Closes ∷ [] ≡ Names other name ∷ Closes ∷ [] → ⊥
+  first_node : (tree : Tree) (trees : List Tree) (node : IsNodeTree tree) → ¬ flat_map spelling (tree ∷ trees) ++ Closes ∷ [] ≡ Names other name ∷ Closes ∷ []
   first_node tree trees node e =
       let f : Opens node.place ∷ (((flat_map spelling node.members ++ Closes ∷ []) ++ flat_map spelling trees) ++ Closes ∷ []) ≡ Names other name ∷ Closes ∷ [] = sym (ap (λ ts. (ts ++ flat_map spelling trees) ++ Closes ∷ []) node.spelled) ∙ e in
       cc
@@ -53,7 +53,7 @@ module _ (other : Place) (name : List ℕ) where
   one_name [] e = cc
   one_name (tree ∷ trees) e = elim (cases_of tree) [ inl leaf ↦ first_leaf tree trees leaf e | inr node ↦ absurd (first_node tree trees node e) ]
 
-  no_leaf_node : (place : Place) (tree : Tree) → IsLeafTree tree → spelling tree ≡ Opens place ∷ Names other name ∷ Closes ∷ [] → ⊥
+  no_leaf_node : (place : Place) (tree : Tree) → IsLeafTree tree → ¬ spelling tree ≡ Opens place ∷ Names other name ∷ Closes ∷ []
   no_leaf_node place tree leaf e = let f : Names leaf.place leaf.name ∷ [] ≡ Opens place ∷ Names other name ∷ Closes ∷ [] = sym leaf.spelled ∙ e in cc
 
   node_name : (place : Place) (tree : Tree) (node : IsNodeTree tree) → spelling tree ≡ Opens place ∷ Names other name ∷ Closes ∷ [] → name_alone (members_or_none tree) ≡ Some name

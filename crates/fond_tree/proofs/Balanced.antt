@@ -122,5 +122,5 @@ front_balanced tree front e = same_counts front (spelling tree) e (tree_balanced
 pub fronts_balanced : (trees : List Tree) (front : List Mark) → tokens_of front ≡ flat_map spelling trees → opened front ≡ closed front
 fronts_balanced trees front e = same_counts front (flat_map spelling trees) e (trees_balanced trees)
 
-pub front_some : (tree : Tree) (front : List Mark) → tokens_of front ≡ spelling tree → front ≡ [] → ⊥
+pub front_some : (tree : Tree) (front : List Mark) → tokens_of front ≡ spelling tree → ¬ front ≡ []
 front_some tree front e none = absurd (omega (arith, spelling_some tree, ap length (sym (ap tokens_of none) ∙ e)))

@@ -34,7 +34,7 @@ no_tree_has_a_fault_lem text tree place code read fault = at_fault fault where
   whole : IsWhole (marks text)
   whole = front_whole tree (marks text) spelled
 
-  at_end : IsEndFault (marks text) (place_after text) place code → ⊥
+  at_end : ¬ IsEndFault (marks text) (place_after text) place code
   at_end fault = unfinished fault.unfinished where
     unfinished : ((closed (marks text) < opened (marks text)) × (code ≡ UNCLOSED)) ⊎ ((marks text ≡ []) × (code ≡ NO_TREE)) → ⊥
     unfinished (inl h) = absurd (omega (arith, h.0, whole.1))
@@ -44,7 +44,7 @@ no_tree_has_a_fault_lem text tree place code read fault = at_fault fault where
   in_text (inl f) = front_right tree (marks text) spelled read.deep f.before f.item f.after code f.split f.has.1
   in_text (inr f) = at_end f
 
-  at_fault : IsTextFault text place code → ⊥
+  at_fault : ¬ IsTextFault text place code
   at_fault (inl h) = absurd (omega (arith, h.0, read.long))
   at_fault (inr h) = in_text h.1
 

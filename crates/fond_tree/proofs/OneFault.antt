@@ -10,7 +10,7 @@ use Rattle.fond_tree.specs.Unique.{EachTextHasOneFault}
 use Rattle.fond_tree.proofs.Right.{split}
 
 -- after a whole tree nothing is open, so nothing there is too deep
-whole_shallow : (before : List Mark) → IsWhole before → closed before + DEEPEST ≤ opened before → ⊥
+whole_shallow : (before : List Mark) → IsWhole before → ¬ closed before + DEEPEST ≤ opened before
 whole_shallow before whole deep = absurd (omega (arith, whole.1, deep))
 
 -- a token is faulty in one way
@@ -45,7 +45,7 @@ one_token tokens place other code number f g = at_split (split f.before (f.item 
   at_split (inr h) = at_rest h.0 h.1 h.2
 
 -- without a token nothing is open
-none_open : (tokens : List Mark) → closed tokens < opened tokens → tokens ≡ [] → ⊥
+none_open : (tokens : List Mark) → closed tokens < opened tokens → ¬ tokens ≡ []
 none_open [] h e = absurd (omega (arith, h))
 none_open (mark ∷ tokens) h e = absurd cc
 
@@ -58,7 +58,7 @@ end_code tokens code number (inr f) (inl g) = absurd (none_open tokens g.0 f.0)
 end_code tokens code number (inr f) (inr g) = f.1 ∙ sym g.1
 
 -- a text with a fault at its end has no faulty token
-apart : (tokens : List Mark) (end place other : Place) (code number : ℕ) → IsTokenFault tokens place code → IsEndFault tokens end other number → ⊥
+apart : (tokens : List Mark) (end place other : Place) (code number : ℕ) → IsTokenFault tokens place code → ¬ IsEndFault tokens end other number
 apart tokens end place other code number f g = g.right f.before f.item f.after code f.split f.has.1
 
 -- a text that is not too long has one fault

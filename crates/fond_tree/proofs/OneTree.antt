@@ -31,7 +31,7 @@ leaves place at name other more rest e = ((cc, cc), cc)
 nodes : (place at : Place) (more rest : List Token) → Opens place ∷ more ≡ Opens at ∷ rest → (place ≡ at) × (more ≡ rest)
 nodes place at more rest e = (cc, cc)
 
-apart : (place at : Place) (name : List ℕ) (more rest : List Token) → Names place name ∷ more ≡ Opens at ∷ rest → ⊥
+apart : (place at : Place) (name : List ℕ) (more rest : List Token) → ¬ Names place name ∷ more ≡ Opens at ∷ rest
 apart place at name more rest e = cc
 
 ends : (more rest : List Token) → Closes ∷ more ≡ Closes ∷ rest → more ≡ rest

@@ -206,7 +206,7 @@ not_closing place b before rest split ends other =
     let apart : (b == closing) ≡ false = grind (arith, nat_tests) in
     subst BeginsUnclosed (sym (ap (marks_at Gap place) split ∙ first_begins place b rest (rw split at ends)))
     (at_tests (b == opening) (b == closing) (is_leaf_byte b) (name_at b rest) apart) where
-      at_tests : (o c l : Bool) (name : List ℕ) → c ≡ false → (if o then Opens place else if c then Closes else if l then Names place name else Stray) ≡ Closes → ⊥
+      at_tests : (o c l : Bool) (name : List ℕ) → c ≡ false → ¬ (if o then Opens place else if c then Closes else if l then Names place name else Stray) ≡ Closes
       at_tests true c l name f e = cc
       at_tests false true l name f e = absurd (true≢false f)
       at_tests false false true name f e = cc

@@ -1,5 +1,6 @@
 -- Tokens that are right after others, by the number of open parentheses.
 use Rattle.std.proofs.Common.{◌≡◌, ◌≢◌, ℕ, ◌+◌, ◌-◌, ◌<◌, Bool, true, false, cond, List, [], ◌∷◌, ◌++◌, refl, sym, ◌∙◌, ap, ◌⊎◌, inl, inr, arith, append_assoc, append-nil, subst}
+use Rattle.std.specs.Prelude.{⊤}
 use Rattle.std.proofs.lemmas.List.Sums.{sum_by-append}
 use Rattle.fond_text.specs.declared.code.TheConstants.{DEEPEST}
 use Rattle.fond_tree.specs.Faults.{is_opening, is_closing, opened, closed, IsFaulty, AreRight}
@@ -23,7 +24,7 @@ open_after level Stray = level
 
 -- each of these tokens may follow those before it
 abbrev pub AllMayStand : Bool → ℕ → List Token → Type 0
-AllMayStand begun level [] = Unit {0}
+AllMayStand begun level [] = ⊤
 AllMayStand begun level (token ∷ more) = MayStand begun level token × AllMayStand true (open_after level token) more
 
 -- the tokens before: whether there are any, and how many parentheses they leave open
@@ -44,7 +45,7 @@ pub closed-push : (xs : List Mark) (mark : Mark) → closed (xs ++ mark ∷ []) 
 closed-push xs mark = fold-push (λ (n : ℕ) (m : Mark). n + cond (is_closing m.token) 1 0) 0 xs mark
 
 -- a token that may occur is not faulty
-unfaulty : (before : List Mark) (begun : Bool) (level : ℕ) (token : Token) (code : ℕ) → IsOpen before begun level → MayStand begun level token → IsFaulty before token code → ⊥
+unfaulty : (before : List Mark) (begun : Bool) (level : ℕ) (token : Token) (code : ℕ) → IsOpen before begun level → MayStand begun level token → ¬ IsFaulty before token code
 unfaulty before begun level (Opens at) code o may (inl whole) = absurd (omega (arith, o.counted, whole.0.1, may.0 (o.some whole.0.0)))
 unfaulty before begun level (Opens at) code o may (inr deep) = absurd (omega (arith, o.counted, deep.0, may.1))
 unfaulty before begun level Closes code o may faulty = absurd (omega (arith, o.counted, faulty.0))
@@ -65,7 +66,7 @@ opens_more before begun level mark o may = record {
 
 -- none of the tokens that may follow these is faulty
 none_faulty : (front : List Mark) (before : List Mark) (begun : Bool) (level : ℕ) (mark : Mark) (after : List Mark) (code : ℕ) →
-    IsOpen before begun level → AllMayStand begun level (tokens_of (front ++ mark ∷ after)) → IsFaulty (before ++ front) mark.token code → ⊥
+    IsOpen before begun level → AllMayStand begun level (tokens_of (front ++ mark ∷ after)) → ¬ IsFaulty (before ++ front) mark.token code
 none_faulty [] before begun level mark after code o may faulty =
     unfaulty before begun level mark.token code o may.0 (subst (λ (marks : List Mark). IsFaulty marks mark.token code) (append-nil before) faulty)
 none_faulty (x ∷ front) before begun level mark after code o may faulty =

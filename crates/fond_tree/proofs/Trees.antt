@@ -62,14 +62,14 @@ within_to left most (t ∷ ts) small =
     let rest = within_to left (max most (depth t)) ts small in (omega (arith, rest.0), (omega (arith, rest.0), rest.1))
 
 -- a tree begins with no closing parenthesis
-pub no_closing : (tree : Tree) (more rest : List Token) → spelling tree ++ more ≡ Closes ∷ rest → ⊥
+pub no_closing : (tree : Tree) (more rest : List Token) → ¬ spelling tree ++ more ≡ Closes ∷ rest
 no_closing tree more rest e =
     ⊎_elim (λ (l : IsLeafTree tree). apart_leaf l.place l.name more rest (sym (ap (λ ts. ts ++ more) l.spelled) ∙ e))
     (λ (n : IsNodeTree tree). apart_node n.place (flat_map spelling n.members ++ Closes ∷ []) more rest (sym (ap (λ ts. ts ++ more) n.spelled) ∙ e)) (cases_of tree) where
-      apart_leaf : (place : Place) (name : List ℕ) (more rest : List Token) → Names place name ∷ more ≡ Closes ∷ rest → ⊥
+      apart_leaf : (place : Place) (name : List ℕ) (more rest : List Token) → ¬ Names place name ∷ more ≡ Closes ∷ rest
       apart_leaf place name more rest e = cc
 
-      apart_node : (place : Place) (inner more rest : List Token) → Opens place ∷ (inner ++ more) ≡ Closes ∷ rest → ⊥
+      apart_node : (place : Place) (inner more rest : List Token) → ¬ Opens place ∷ (inner ++ more) ≡ Closes ∷ rest
       apart_node place inner more rest e = cc
 
 pub spelling_some : (tree : Tree) → 0 < length (spelling tree)

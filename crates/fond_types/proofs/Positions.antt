@@ -46,7 +46,7 @@ module _ {X : Type 0} (p : X → Bool) where
       by true e = let low = not_first xs i 0 i e (sym (position_from-zero p xs) ∙ first) in absurd (omega (arith, low))
       by false e = refl
 
-  is_later : (xs : List X) (i : ℕ) (x : X) → slice_get xs i ≡ Some x → p x ≡ true → (position p xs ≡ Some i → ⊥) → list_any p (take i xs) ≡ true
+  is_later : (xs : List X) (i : ℕ) (x : X) → slice_get xs i ≡ Some x → p x ≡ true → (¬ position p xs ≡ Some i) → list_any p (take i xs) ≡ true
   is_later xs i x at pass other = by (list_any p (take i xs)) refl
     where
       by : (b : Bool) → list_any p (take i xs) ≡ b → b ≡ true
