@@ -1,4 +1,4 @@
--- What is read from the parts of a line, and which of its parts is refused.
+-- What is read from the parts of a line and which of its parts is refused, and what a line does to the rules before it.
 use Rattle.std.specs.Prelude.{◌≡◌, ◌≢◌, ◌⊎◌, ℕ, ◌<◌, ◌+◌, ◌^◌, nat_lt, Bool, true, false, List, [], ◌∷◌, ◌++◌, Option, Some, None, All, length, replicate, if◌then◌else◌, codes}
 use Rattle.std.specs.List.{flat_map}
 use Rattle.std.specs.Fmt.{decimal}
@@ -38,7 +38,8 @@ pub record IsTargetRefused (task : Task) (at : ℕ) (text : List ℕ) (refused :
   pub spelled : text ≡ flat_map piece_text (target_pieces written)
   pub wrong : first_refused task at (target_pieces written) ≡ Some refused
 
--- a cube is read from a text of literals that begins at this byte of a line, and none of them is refused
+-- a cube is read from a text of literals that begins at this byte of a line, none of which is refused, together with
+-- whether their atoms strictly increase
 pub record IsCubeAt (task : Task) (at : ℕ) (text : List ℕ) (cube : List (Option Bool)) (is_ordered : Bool) : Type 0 where
   pub literals : List WrittenLiteral
   pub proper : All (λ literal. IsGroup literal.leaves) literals

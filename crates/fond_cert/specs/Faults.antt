@@ -1,4 +1,4 @@
--- The fault of a text that is no policy certificate: its code and its byte.
+-- The fault of a text that is no policy certificate without layers and pairs: its code and its byte.
 use Rattle.std.specs.Prelude.{◌≡◌, ◌≢◌, ◌⊎◌, ℕ, ◌+◌, ◌^◌, nat_lt, if◌then◌else◌, List, [], ◌∷◌, ◌++◌, Option, Some, None, length, codes}
 use Rattle.fond_task.specs.declared.task.Task.{Task}
 use Rattle.fond_cert.specs.Lines.{WrittenLine, PolicyHeader, FairRule, UnfairRule, ReachLine, EndLine, line_text, IsProper}
@@ -38,7 +38,7 @@ abbrev pub HasNoForm : Due → List ℕ → Type 0
 HasNoForm due piece = (line : WrittenLine) (next : Due) → IsProper line → due_after due line ≡ Some next → piece ≢ line_text line
 
 -- a line is refused with a code at one of its bytes: with code 1 at the first if it has no allowed form, or else by
--- its words or their order
+-- its words or the order of its atoms
 abbrev pub IsRefusedLine : Task → Due → List ℕ → ℕ → ℕ → Type 0
 IsRefusedLine task due piece code at =
     (HasNoForm due piece × (code ≡ 1) × (at ≡ 0))

@@ -1,4 +1,5 @@
--- The lines of a policy certificate as they are written, whether or not the task has what their words name.
+-- The lines of a policy certificate without layers and pairs as they are written, whether or not the task has what
+-- their words name.
 use Rattle.std.specs.Prelude.{ℕ, ◌<◌, ◌^◌, ◌&&◌, ◌||◌, ◌==◌, nat_le, Bool, true, false, not, List, [], ◌∷◌, ◌++◌, All, length, IsTrue, codes, ⊤}
 use Rattle.std.specs.Char.{is_ascii_digit}
 use Rattle.std.specs.List.{flat_map, list_all}
@@ -16,7 +17,7 @@ IsPlainLeaf leaf = (0 < length leaf) × IsTrue (list_all is_plain_byte leaf)
 abbrev pub IsGroup : List (List ℕ) → Type 0
 IsGroup leaves = (0 < length leaves) × All IsPlainLeaf leaves
 
--- leaves with a space before each
+-- texts with a space before each
 abbrev pub spaced : List (List ℕ) → List ℕ
 spaced leaves = flat_map (λ leaf. codes " " ++ leaf) leaves
 

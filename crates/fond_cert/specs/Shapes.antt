@@ -28,15 +28,15 @@ shape_text (FairShape action outcome target literals) = codes "rule " ++ (action
 shape_text (UnfairShape action targets literals) = codes "rule " ++ (action ++ (codes " unfair" ++ unfair_text targets literals))
 shape_text (ReachShape count) = codes "reach " ++ count
 
--- the parts of a fair rule are right
+-- the parts of a fair rule have the right form
 abbrev pub AreFair : List ℕ → List ℕ → List ℕ → Type 0
 AreFair outcome target literals = IsTrue (is_number outcome) × IsTrue (is_target target) × AreLiterals literals
 
--- the parts of an unfair rule are right
+-- the parts of an unfair rule have the right form
 abbrev pub AreUnfair : List (List ℕ) → List ℕ → Type 0
 AreUnfair targets literals = (0 < length targets) × AreTargets targets × AreLiterals literals
 
--- the parts of a line are right
+-- the parts of a line have the right form
 abbrev pub IsShape : Shape → Type 0
 IsShape (FairShape action outcome target literals) = IsGroupText action × AreFair outcome target literals
 IsShape (UnfairShape action targets literals) = IsGroupText action × AreUnfair targets literals

@@ -1,4 +1,4 @@
--- The refusal of a line by its words or by their order.
+-- The refusal of a line by its words or by the order of its atoms.
 use Rattle.std.specs.Prelude.{ℕ, ◌+◌, nat_lt, ◌&&◌, Bool, true, false, List, [], ◌∷◌, Option, Some, None, length, if◌then◌else◌}
 use Rattle.std.specs.List.{filter_map}
 use Rattle.std.specs.Str.Parse.{digits_value}

@@ -16,7 +16,7 @@ use fond_task::task::Task;
 use fond_task::task_index::TaskIndex;
 use std::alloc::Global;
 
-/// A policy certificate without layers and pairs: its rules, and the number of states that they reach.
+/// A policy certificate without layers and pairs: its rules, and the number of states that they reach according to it.
 #[derive(Drop)]
 pub struct Policy {
     pub rules: Rules,
@@ -76,9 +76,9 @@ fn read_lines(
     Err(placed(text, rest, FORMLESS))
 }
 
-/// The policy that the text spells over the actions and atoms of the task, or the text's first fault. Takes time in the
-/// length of the text, and in that of the names of all actions and atoms of the task, and memory for the rules and the
-/// names.
+/// The policy that the text spells over the actions and atoms of the task, or the text's first fault. Takes time linear
+/// in the length of the text, in that of the names of all actions and atoms of the task, and in the atoms for each
+/// rule; memory for the rules and the names.
 pub fn read_policy(alloc: Global, task: &Task, text: &[u8]) -> Result<Policy, CertError>
     ensures read { IfOk result (λ policy. IsPolicyText task.now policy.rules policy.reach text.now) }
     ensures belongs { IfOk result (λ policy. BelongTo task.now policy.rules) }

@@ -1,6 +1,5 @@
-//! The outside of the program: a shelf gives the files that words name, and a sink takes what is written.
-//! The crates above learn that what was sent was written, or that a fault rose, and nothing else of the
-//! outside. Which bytes a real file holds is left to the host.
+//! The boundary of the program: a shelf supplies files, and a sink takes output. Callers learn what a shelf or a sink
+//! can tell, and whether a fault occurred. Which bytes a real file holds is left to the host.
 #![tactic(auto)]
 
 mod counter;

@@ -3,7 +3,7 @@
 ghost use Rattle.std.specs.Prelude.{◌≡◌, ℕ, ◌<◌, ◌≤◌, List, Option, length, take, IfOk, OnErr};
 ghost use Rattle.fond_edge.specs.Faults.{Rose};
 
-/// A write failed, and none of its bytes were written.
+/// A write failed. The sink counts none of its bytes as written.
 #[derive(Clone, Copy, Debug, PartialEq, Eq)]
 pub struct Failed;
 

@@ -81,7 +81,7 @@ fn put_taken(
     Ok(())
 }
 
-/// Appends the line after which no outcome is left.
+/// Appends the last line, once no outcome is left.
 fn put_end(is_goal: bool, out: &mut Vec<u8>) -> Result<(), NoMemory>
     ensures ok { OnOk result (out.new.items ≡ out.old.items ++ (if is_goal then goal_line 0 else codes "ended\n")) }
     ensures grew { (more : List ℕ) × (out.new.items ≡ out.old.items ++ more) }

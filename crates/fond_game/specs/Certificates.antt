@@ -13,7 +13,7 @@ use Rattle.fond_game.specs.Rules.{IsSureRule}
 abbrev pub ReachesCount : Task → Policy → ℕ → Type 0
 ReachesCount task = games.ReachesCount (game task)
 
--- a policy certificate is right if its layers, pairs and rules are sure, each reached state that is no goal has a
+-- a policy certificate is correct if its layers, pairs and rules are sure, each reached state that is no goal has a
 -- rule, and its number is that of the reached states
 pub record IsRightPolicy (task : Task) (layers : List (List CubeView)) (pairs : List Pair) (rules : List Rule) (reach : ℕ) : Type 0 where
   pub layers_sure : AreSureLayers task layers
@@ -30,7 +30,7 @@ pub record LiesInLayers (state : List Bool) (layers : List (List CubeView)) : Ty
   pub has : Contains layer cube
   pub lies : LiesIn state cube
 
--- a refusal certificate is right if its layers are sure and the initial state lies in one of them
+-- a refusal certificate is correct if its layers are sure and the initial state lies in one of them
 pub record IsRightRefusal (task : Task) (layers : List (List CubeView)) : Type 0 where
   pub layers_sure : AreSureLayers task layers
   pub start : LiesInLayers task.init layers

@@ -8,7 +8,7 @@ use Rattle.fond_game.specs.Solutions.{IsSolution, IsSolvable}
 use Rattle.fond_game.specs.Layers.{CubeView, AreSureLayers}
 use Rattle.fond_game.specs.Certificates.{IsRightPolicy, LiesInLayers, IsRightRefusal}
 
--- the rules of a right policy certificate are a solution
+-- the rules of a correct policy certificate are a solution
 abbrev pub RanksExcludeTraps : Type 0
 RanksExcludeTraps = (task : Task) (layers : List (List CubeView)) (pairs : List Pair) (rules : List Rule) (reach : ℕ) → IsRightPolicy task layers pairs rules reach → IsSolution task (selected rules)
 
@@ -16,6 +16,6 @@ RanksExcludeTraps = (task : Task) (layers : List (List CubeView)) (pairs : List 
 abbrev pub LayersForce : Type 0
 LayersForce = (task : Task) (layers : List (List CubeView)) (policy : Policy) (state : List Bool) → AreSureLayers task layers → Reach task policy state → LiesInLayers state layers → ¬ IsSolution task policy
 
--- a task with a right refusal certificate is not solvable
+-- a task with a correct refusal certificate is not solvable
 abbrev pub RefusalsHold : Type 0
 RefusalsHold = (task : Task) (layers : List (List CubeView)) → IsRightRefusal task layers → ¬ IsSolvable task

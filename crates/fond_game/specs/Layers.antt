@@ -1,4 +1,4 @@
--- Sure layers, which no solution reaches, and sure pairs, whose action may lead into such a layer.
+-- Layers that are sure above earlier ones, and pairs whose action may lead into such a layer.
 use Rattle.std.specs.Prelude.{◌≡◌, ◌⊎◌, List, ◌∷◌, ◌++◌, Bool, true, false, Option, Some, slice_get, Contains}
 use Rattle.fond_state.specs.Cubes.{CubeLiesIn}
 use Rattle.fond_task.specs.declared.form.Kleene.TheVariants.{No}

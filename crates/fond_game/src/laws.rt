@@ -2,8 +2,9 @@
 
 ghost use Rattle.fond_game.specs.Laws.{RanksExcludeTraps, LayersForce, RefusalsHold};
 
-/// The rules of a right policy certificate are a solution. Otherwise a trap would have a state whose selected rule has
-/// the least number, and the outcome that this rule names would stay in the trap and select a smaller number.
+/// The rules of a correct policy certificate are a solution. Otherwise a trap would have a state whose selected rule
+/// has the least number, and some outcome for which this rule has a target would lead to a state of the trap that
+/// selects a smaller number.
 pub fn ranks_exclude_traps()
     ensures { RanksExcludeTraps }
 {}
@@ -14,7 +15,7 @@ pub fn layers_force()
     ensures { LayersForce }
 {}
 
-/// A task with a right refusal certificate is not solvable.
+/// A task with a correct refusal certificate is not solvable: no finite map is a solution.
 pub fn refusals_hold()
     ensures { RefusalsHold }
 {}

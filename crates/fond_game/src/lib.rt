@@ -1,5 +1,5 @@
 //! The game of a ground task: policies and the states that they reach, traps and solutions, and the two laws on which
-//! every certificate rests. Ranks exclude traps: the rules of a right policy certificate are a solution. Layers
+//! every certificate rests. Ranks exclude traps: the rules of a correct policy certificate are a solution. Layers
 //! force: no solution reaches a state of a sure layer. Finding certificates is left to the crates above.
 //!
 //! Solutions generalise the strong and strong cyclic ones of Cimatti, Pistore, Roveri and Traverso (Weak, strong, and

@@ -1,5 +1,6 @@
--- The faults of a tree that is no domain or no problem, F7 to F12, and F24 for what is not supported yet. The members
--- of a node that is itself refused with F8, F11 or F12 are not checked.
+-- The faults of a tree that is no domain or no problem, F7 to F12, and F24 for what is not supported yet. Members are
+-- checked as far as something is expected of them: not those of a node that is itself refused with F8, F11 or F12 or
+-- that occurs in place of a leaf, nor those beyond the expected ones.
 use Rattle.std.specs.Prelude.{◌≡◌, ◌⊎◌, ℕ, true, List, [], ◌∷◌, ◌++◌, Contains, Option, Some, None, codes, if◌then◌else◌}
 use Rattle.std.specs.List.{filter_map}
 use Rattle.fond_text.specs.Lists.{Somewhere}
@@ -27,8 +28,8 @@ tree_code role None (Some members) = node_code (node_expected role members) memb
 tree_code role None None = None
 
 -- a tree is refused at its place
-abbrev pub Misfits : Part → Place → ℕ → Type 0
-Misfits at place code = (place ≡ place_of at.tree) × (tree_code at.role (leaf_of at.tree) (members_of at.tree) ≡ Some code)
+abbrev pub IsRefusedTree : Part → Place → ℕ → Type 0
+IsRefusedTree at place code = (place ≡ place_of at.tree) × (tree_code at.role (leaf_of at.tree) (members_of at.tree) ≡ Some code)
 
 -- the members of a file after its header, and those of an action after its name
 abbrev pub after_header : List Tree → List Tree
@@ -44,8 +45,8 @@ single_in_domain = codes ":requirements" ∷ codes ":types" ∷ codes ":constant
 abbrev pub single_in_problem : List (List ℕ)
 single_in_problem = codes ":requirements" ∷ codes ":domain" ∷ codes ":objects" ∷ codes ":init" ∷ codes ":goal" ∷ []
 
--- a tree has a head that may occur only once, and so has one of the trees before it; the fault is at its own place
-pub record IsSecond (heads : Tree → Option (List ℕ)) (single : List (List ℕ)) (place : Place) (before : List Tree) (tree : Tree) : Type 0 where
+-- a tree has a head that may occur only once, and some tree before it has the same head; the fault is at its own place
+pub record IsAgain (heads : Tree → Option (List ℕ)) (single : List (List ℕ)) (place : Place) (before : List Tree) (tree : Tree) : Type 0 where
   pub head : List ℕ
   pub headed : heads tree ≡ Some head
   pub counts : is_one_of single head ≡ true
@@ -54,7 +55,7 @@ pub record IsSecond (heads : Tree → Option (List ℕ)) (single : List (List �
 
 -- a head that may occur only once occurs a second time in a list of trees
 abbrev pub Repeats : (Tree → Option (List ℕ)) → List (List ℕ) → List Tree → Place → Type 0
-Repeats heads single trees place = Somewhere (IsSecond heads single place) trees
+Repeats heads single trees place = Somewhere (IsAgain heads single place) trees
 
 -- every second tree of a list, from the first on
 abbrev pub keys : List Tree → List Tree
@@ -87,7 +88,7 @@ IsUnbuilt at place = (members : List Tree) × (members_of at.tree ≡ Some membe
 -- a fault of a part itself, or of its members side by side
 abbrev pub IsOwnFault : Part → Place → ℕ → Type 0
 IsOwnFault at place code =
-    Misfits at place code
+    IsRefusedTree at place code
     ⊎ (IsRepeated at.role at.tree place × (code ≡ REPEATED_SECTION))
     ⊎ (IsIncomplete at.role at.tree place × (code ≡ MISSING_SECTION))
     ⊎ (IsUnbuilt at place × (code ≡ UNSUPPORTED))

@@ -27,7 +27,7 @@ is_dash tree = equals (leaf_of tree)
     equals (Some leaf) = bytes_eq leaf (codes "-")
 
 -- a typed list: leaves, and after one or more of them a `-` and their type. A `-` after a tree that has no type yet
--- gives it the next tree as its type; each other `-` is a leaf that does not fit
+-- gives it the next tree, if there is one, as its type; each other `-` is a leaf that does not fit
 abbrev pub typed : Role → Role → Bool → List Tree → List Part
 typed leaf type untyped [] = []
 typed leaf type untyped (tree ∷ []) = part leaf tree ∷ []
@@ -66,7 +66,7 @@ shape_parts [] rest trees = rest_parts rest trees
 shape_parts (role ∷ roles) rest [] = []
 shape_parts (role ∷ roles) rest (tree ∷ trees) = part role tree ∷ shape_parts roles rest trees
 
--- the parts of members of which this is expected; those of a refused node are not parts
+-- the parts of members of which this is expected; those of a refused node, or of one in place of a leaf, are not parts
 abbrev pub expected_parts : Option Expected → List Tree → List Part
 expected_parts None members = []
 expected_parts (Some (Members shape)) members = shape_parts shape.first shape.rest members

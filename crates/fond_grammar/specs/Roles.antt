@@ -4,8 +4,8 @@ use Rattle.std.specs.Str.{bytes_eq}
 use Rattle.std.specs.List.{list_any}
 use Rattle.fond_text.specs.declared.code.TheConstants.{MISFIT, UNKNOWN_SECTION, MISPLACED_OPERATOR, NO_CHOICE}
 use Rattle.fond_tree.specs.declared.tree.Tree.{Tree}
-use Rattle.fond_grammar.specs.declared.role.Keyword.{Keyword}
-use Rattle.fond_grammar.specs.declared.role.Keyword.TheVariants as keyword
+use Rattle.fond_grammar.specs.declared.role.FixedWord.{FixedWord}
+use Rattle.fond_grammar.specs.declared.role.FixedWord.TheVariants as fixed
 use Rattle.fond_grammar.specs.declared.role.Role.{Role}
 use Rattle.fond_grammar.specs.declared.role.Role.TheVariants.{DomainFile, ProblemFile, Word, Header, Head, Name, Variable, Term, DomainSection, ProblemSection, Predicate, Key, Parameters, Variables, VariableType, Condition, WholeEffect, Effect, Initial, Atom}
 use Rattle.fond_grammar.specs.declared.role.Rest.{Rest}
@@ -30,11 +30,11 @@ pub data Expected : Type 0 where
   Refused : (code : ℕ) → Expected
 
 -- the bytes of a leaf that is required
-abbrev pub word : Keyword → List ℕ
-word keyword.Define = codes "define"
-word keyword.Domain = codes "domain"
-word keyword.Problem = codes "problem"
-word keyword.Either = codes "either"
+abbrev pub word : FixedWord → List ℕ
+word fixed.Define = codes "define"
+word fixed.Domain = codes "domain"
+word fixed.Problem = codes "problem"
+word fixed.Either = codes "either"
 
 -- a section of a domain, by its head
 abbrev pub domain_section : List ℕ → Expected
@@ -66,7 +66,7 @@ abbrev pub atom : Shape
 atom = shape (Name ∷ []) (Each Term)
 
 -- an atom at a place where operators are allowed, by its head, which is no operator there: a reserved word is refused,
--- and so is a name that a node follows
+-- and so is a name with a node among the members after it
 abbrev pub atom_or_refused : List ℕ → List Tree → Expected
 atom_or_refused head after = if is_one_of reserved head || (is_name head && list_any is_node after) then Refused MISPLACED_OPERATOR else Members atom
 
@@ -120,15 +120,15 @@ none = shape [] NoMore
 
 -- what is expected of the node of these members: none if a leaf is expected
 abbrev pub node_expected : Role → List Tree → Option Expected
-node_expected DomainFile members = Some (Members (shape (Word keyword.Define ∷ Header keyword.Domain ∷ []) (Each DomainSection)))
-node_expected ProblemFile members = Some (Members (shape (Word keyword.Define ∷ Header keyword.Problem ∷ []) (Each ProblemSection)))
-node_expected (Header keyword) members = Some (Members (shape (Word keyword ∷ Name ∷ []) NoMore))
+node_expected DomainFile members = Some (Members (shape (Word fixed.Define ∷ Header fixed.Domain ∷ []) (Each DomainSection)))
+node_expected ProblemFile members = Some (Members (shape (Word fixed.Define ∷ Header fixed.Problem ∷ []) (Each ProblemSection)))
+node_expected (Header kind) members = Some (Members (shape (Word kind ∷ Name ∷ []) NoMore))
 node_expected DomainSection members = Some (section domain_section (front members))
 node_expected ProblemSection members = Some (section problem_section (front members))
 node_expected Predicate members = Some (Members (shape (Name ∷ []) (Typed Variable VariableType)))
 node_expected Parameters members = Some (Members (shape [] (Typed Variable VariableType)))
 node_expected Variables members = Some (Members (shape [] (Typed Variable VariableType)))
-node_expected VariableType members = Some (Members (shape (Word keyword.Either ∷ Name ∷ []) (Each Name)))
+node_expected VariableType members = Some (Members (shape (Word fixed.Either ∷ Name ∷ []) (Each Name)))
 node_expected Condition members = Some (form_of none condition members)
 node_expected WholeEffect members = Some (form_of none effect members)
 node_expected Effect members = Some (form_of none effect members)
@@ -144,10 +144,11 @@ action_keys = codes ":parameters" ∷ codes ":precondition" ∷ codes ":effect" 
 abbrev pub is_term : List ℕ → Bool
 is_term leaf = is_name leaf || is_variable leaf
 
--- the code with which a leaf is refused, if it is: an unknown key of an action has a code of its own
+-- the code with which a leaf is refused, if it is: F8 for an unknown key of an action, and F7 for any other leaf that
+-- does not fit
 abbrev pub leaf_code : Role → List ℕ → Option ℕ
 leaf_code Head leaf = None
-leaf_code (Word keyword) leaf = if bytes_eq leaf (word keyword) then None else Some MISFIT
+leaf_code (Word kind) leaf = if bytes_eq leaf (word kind) then None else Some MISFIT
 leaf_code Name leaf = if is_name leaf then None else Some MISFIT
 leaf_code Variable leaf = if is_variable leaf then None else Some MISFIT
 leaf_code Term leaf = if is_term leaf then None else Some MISFIT
@@ -218,14 +219,15 @@ effect_operator is_whole head =
 abbrev pub initial_operator : List ℕ → Option Bool
 initial_operator head = if bytes_eq head (codes "not") then Some false else None
 
--- whether a section has one of these heads
+-- whether there is a leaf, and it is one of these words
 abbrev pub is_headed_by : List (List ℕ) → Option (List ℕ) → Bool
 is_headed_by heads None = false
 is_headed_by heads (Some head) = is_one_of heads head
 
 -- whether the node of these members is of a form that is not supported yet: a section of types, constants or objects
--- with a member; a predicate with a parameter; an action with a parameter; an atom with a term; a condition that is an
--- equality or quantified; an effect that is conditional or quantified, or a choice that is not the whole effect
+-- with a member; a predicate with a parameter; parameters of an action other than `()`; an atom with a term; a
+-- condition that is an equality or quantified; an effect that is conditional or quantified, or a choice that is not the
+-- whole effect
 abbrev pub is_unbuilt : Role → List Tree → Bool
 is_unbuilt DomainSection members = is_headed_by (codes ":types" ∷ codes ":constants" ∷ []) (front members) && has_more members
 is_unbuilt ProblemSection members = is_headed_by (codes ":objects" ∷ []) (front members) && has_more members

@@ -8,7 +8,7 @@ ghost use Rattle.std.specs.List.{list_any};
 ghost use Rattle.std.specs.Prelude.{◌≡◌, ◌∷◌, [], option_map};
 
 use crate::leaves::{is_name, is_passed_over, is_reserved, is_word};
-use crate::role::{Keyword, Rest, Role};
+use crate::role::{FixedWord, Rest, Role};
 use fond_text::code::{MISPLACED_OPERATOR, NO_CHOICE, UNKNOWN_SECTION};
 use fond_tree::tree::{Tree, front};
 
@@ -228,15 +228,15 @@ fn initial_of(trees: &[Tree]) -> Expected
     }
 }
 
-/// The header of a file: its keyword and its name.
-fn header(keyword: Keyword) -> Expected
-    ensures { seen result ≡ Members (shape (Role.Word keyword ∷ Role.Name ∷ []) Rest.NoMore) }
+/// The header of a file: its fixed word and its name.
+fn header(fixed: FixedWord) -> Expected
+    ensures { seen result ≡ Members (shape (Role.Word fixed ∷ Role.Name ∷ []) Rest.NoMore) }
 {
-    match keyword {
-        Keyword::Define => members(&[Role::Word(Keyword::Define), Role::Name], Rest::NoMore),
-        Keyword::Domain => members(&[Role::Word(Keyword::Domain), Role::Name], Rest::NoMore),
-        Keyword::Problem => members(&[Role::Word(Keyword::Problem), Role::Name], Rest::NoMore),
-        Keyword::Either => members(&[Role::Word(Keyword::Either), Role::Name], Rest::NoMore),
+    match fixed {
+        FixedWord::Define => members(&[Role::Word(FixedWord::Define), Role::Name], Rest::NoMore),
+        FixedWord::Domain => members(&[Role::Word(FixedWord::Domain), Role::Name], Rest::NoMore),
+        FixedWord::Problem => members(&[Role::Word(FixedWord::Problem), Role::Name], Rest::NoMore),
+        FixedWord::Either => members(&[Role::Word(FixedWord::Either), Role::Name], Rest::NoMore),
     }
 }
 
@@ -246,14 +246,20 @@ pub fn expected_of(role: Role, trees: &[Tree]) -> Option<Expected>
 {
     match role {
         Role::DomainFile => Some(members(
-            &[Role::Word(Keyword::Define), Role::Header(Keyword::Domain)],
+            &[
+                Role::Word(FixedWord::Define),
+                Role::Header(FixedWord::Domain),
+            ],
             Rest::Each(Role::DomainSection),
         )),
         Role::ProblemFile => Some(members(
-            &[Role::Word(Keyword::Define), Role::Header(Keyword::Problem)],
+            &[
+                Role::Word(FixedWord::Define),
+                Role::Header(FixedWord::Problem),
+            ],
             Rest::Each(Role::ProblemSection),
         )),
-        Role::Header(keyword) => Some(header(keyword)),
+        Role::Header(fixed) => Some(header(fixed)),
         Role::DomainSection => Some(domain_section_of(trees)),
         Role::ProblemSection => Some(problem_section_of(trees)),
         Role::Predicate => Some(members(
@@ -265,7 +271,7 @@ pub fn expected_of(role: Role, trees: &[Tree]) -> Option<Expected>
             Rest::Typed(Role::Variable, Role::VariableType),
         )),
         Role::VariableType => Some(members(
-            &[Role::Word(Keyword::Either), Role::Name],
+            &[Role::Word(FixedWord::Either), Role::Name],
             Rest::Each(Role::Name),
         )),
         Role::Condition => Some(condition_of(trees)),

@@ -1,7 +1,7 @@
 //! The first fault of a tree. The grammar is given by two tables: what is expected of a node, and of its members one
 //! by one. Each part of the tree is checked, and the earliest fault is kept.
 
-ghost use Rattle.fond_grammar.specs.Faults.{Stands, Misfits, IsUnbuilt, IsOwnFault, node_code as node_code_of, tree_code as tree_code_of};
+ghost use Rattle.fond_grammar.specs.Faults.{Stands, IsRefusedTree, IsUnbuilt, IsOwnFault, node_code as node_code_of, tree_code as tree_code_of};
 ghost use Rattle.fond_text.specs.Firsts.{IsFirst};
 ghost use Rattle.fond_text.specs.Faults.{IsLeast, IsClean};
 ghost use Rattle.fond_text.specs.declared.code.TheConstants.{UNSUPPORTED};
@@ -51,7 +51,7 @@ fn tree_code(role: Role, tree: &Tree) -> Option<u8>
 
 /// A tree that is refused.
 fn misfit(role: Role, tree: &Tree) -> Option<Found>
-    ensures { IsFirst (λ place code. Misfits (part role tree.now) place code) result }
+    ensures { IsFirst (λ place code. IsRefusedTree (part role tree.now) place code) result }
 {
     found_at(tree.place(), tree_code(role, tree))
 }

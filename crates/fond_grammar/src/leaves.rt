@@ -7,7 +7,7 @@ ghost use Rattle.fond_tree.specs.Trees.{leaf_of};
 ghost use Rattle.std.specs.Prelude.{◌≡◌, Some, None, if◌then◌else◌};
 ghost use Rattle.std.specs.Str.{bytes_eq};
 
-use crate::role::{Keyword, Role};
+use crate::role::{FixedWord, Role};
 use fond_text::code::{MISFIT, UNKNOWN_SECTION};
 use fond_tree::tree::Tree;
 
@@ -71,15 +71,15 @@ pub fn is_passed_over(head: &[u8]) -> bool
     is_word(head, b":metric") || is_word(head, b":goal-reward") || is_word(head, b":length")
 }
 
-/// Whether a leaf is the word of a keyword.
-fn is_keyword(leaf: &[u8], keyword: Keyword) -> bool
-    ensures { result ≡ bytes_eq leaf.now (word keyword) }
+/// Whether a leaf is this fixed word.
+fn is_fixed_word(leaf: &[u8], fixed: FixedWord) -> bool
+    ensures { result ≡ bytes_eq leaf.now (word fixed) }
 {
-    match keyword {
-        Keyword::Define => is_word(leaf, b"define"),
-        Keyword::Domain => is_word(leaf, b"domain"),
-        Keyword::Problem => is_word(leaf, b"problem"),
-        Keyword::Either => is_word(leaf, b"either"),
+    match fixed {
+        FixedWord::Define => is_word(leaf, b"define"),
+        FixedWord::Domain => is_word(leaf, b"domain"),
+        FixedWord::Problem => is_word(leaf, b"problem"),
+        FixedWord::Either => is_word(leaf, b"either"),
     }
 }
 
@@ -96,7 +96,7 @@ pub fn leaf_code(role: Role, leaf: &[u8]) -> Option<u8>
 {
     match role {
         Role::Head => None,
-        Role::Word(keyword) => code_unless(is_keyword(leaf, keyword), MISFIT),
+        Role::Word(fixed) => code_unless(is_fixed_word(leaf, fixed), MISFIT),
         Role::Name | Role::VariableType => code_unless(is_name(leaf), MISFIT),
         Role::Variable => code_unless(is_variable(leaf), MISFIT),
         Role::Term => code_unless(is_term(leaf), MISFIT),

@@ -2,7 +2,7 @@
 
 /// A leaf that is required at its place.
 #[derive(Clone, Copy, Debug, PartialEq, Eq)]
-pub enum Keyword {
+pub enum FixedWord {
     Define,
     Domain,
     Problem,
@@ -14,8 +14,8 @@ pub enum Keyword {
 pub enum Role {
     DomainFile,
     ProblemFile,
-    Word(Keyword),
-    Header(Keyword),
+    Word(FixedWord),
+    Header(FixedWord),
     Head,
     Name,
     Variable,

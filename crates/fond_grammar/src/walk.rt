@@ -1,5 +1,5 @@
-//! A walk over the members of a node that says what is expected of each of them. It takes no memory: it keeps what is
-//! left to expect, and reads each member once, and whether another one follows it.
+//! A walk over the members of a node that tells what is expected of each. It does not allocate, and looks one member
+//! ahead.
 
 ghost use Rattle.fond_grammar.specs.Parts.{typed, rest_parts, shape_parts, expected_parts, value_role as value_role_of};
 ghost use Rattle.fond_grammar.specs.Walks.{seen, part_if, rest_left, parts_left};

@@ -48,8 +48,8 @@ fn labels_of(alloc: Global, task: &LiftedTask) -> Result<Labels, NoMemory>
     })
 }
 
-/// The ground task of a task. Takes time and memory proportional to the sizes of the task and of the outcomes of its
-/// effects.
+/// The ground task of a task. Takes time and memory in the sizes of the task and of the outcomes of its effects, which
+/// are copied once for each level of nesting.
 pub fn ground(alloc: Global, task: &LiftedTask) -> Result<Task, NoMemory>
     ensures { IfOk result (IsGroundOf task.now) }
 {

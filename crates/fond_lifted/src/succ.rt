@@ -83,8 +83,9 @@ fn put_states(
     Ok(())
 }
 
-/// Appends each distinct state that may come next, in the order of the first outcome that leads to it. Keeps all
-/// outcomes and, for each distinct state, one value for each predicate.
+/// Appends each distinct state to which an outcome of the schema leads, in the order of the first outcome that does. If
+/// the schema is applicable initially, these are the states that may come next. Keeps all outcomes and, for each
+/// distinct state, one value for each predicate.
 pub fn put_successors(
     alloc: Global,
     task: &LiftedTask,

@@ -1,6 +1,5 @@
 //! Games of one player against chance and an opponent, over any states and any actions: policies and what they reach,
-//! traps and solutions. The crate has definitions only. The game of a ground task and that of a task as written are
-//! uses of them, so that both speak of the same policies and solutions.
+//! traps and solutions. The crate has definitions only, and the game of a ground task is a use of them (fond_game).
 //!
 //! A solution is a strong cyclic one where actions are fair (Cimatti, Pistore, Roveri and Traverso 2003) and a strong
 //! one where an opponent picks the outcome; both kinds together are those of Geffner and Geffner 2018.

@@ -7,7 +7,7 @@ use Rattle.fond_tree.specs.declared.tree.Tree.{Tree, out-Tree}
 use Rattle.fond_tree.specs.declared.tree.Tree.TheOpen.{Tree-F, Leaf, Node}
 use Rattle.fond_grammar.specs.declared.role.Role.{Role}
 use Rattle.fond_grammar.specs.declared.role.Role.TheVariants as role
-use Rattle.fond_grammar.specs.declared.role.Keyword.{Keyword}
+use Rattle.fond_grammar.specs.declared.role.FixedWord.{FixedWord}
 use Rattle.fond_grammar.specs.Words.{is_word}
 use Rattle.fond_grammar.specs.Words.{is_name, is_variable, is_one_of}
 use Rattle.fond_tree.specs.Trees.{members_step, leaf_step, members_of, leaf_of, place_of}
@@ -146,10 +146,10 @@ variable_leaf tree clean =
     rw stands.1 (fits_uncoded (is_variable stands.0) stands.2)
 
 -- a word that is clean is that leaf, and a key that is clean one of the keys of an action
-pub word_leaf : (keyword : Keyword) (tree : Tree) → IsCleanAs (role.Word keyword) tree → is_word (word keyword) (leaf_of tree) ≡ true
-word_leaf keyword tree clean =
-    let stands : (leaf : List ℕ) × (leaf_of tree ≡ Some leaf) × (leaf_code (role.Word keyword) leaf ≡ None) = leaf_stands (role.Word keyword) tree clean (λ _. refl) in
-    rw stands.1 (fits_uncoded (bytes_eq stands.0 (word keyword)) stands.2)
+pub word_leaf : (kind : FixedWord) (tree : Tree) → IsCleanAs (role.Word kind) tree → is_word (word kind) (leaf_of tree) ≡ true
+word_leaf kind tree clean =
+    let stands : (leaf : List ℕ) × (leaf_of tree ≡ Some leaf) × (leaf_code (role.Word kind) leaf ≡ None) = leaf_stands (role.Word kind) tree clean (λ _. refl) in
+    rw stands.1 (fits_uncoded (bytes_eq stands.0 (word kind)) stands.2)
 
 pub key_leaf : (tree : Tree) → IsCleanAs role.Key tree → is_headed_by action_keys (leaf_of tree) ≡ true
 key_leaf tree clean =

@@ -8,8 +8,8 @@ use Rattle.fond_text.specs.declared.place.Place.{Place}
 use Rattle.fond_tree.specs.declared.tree.Tree.{Tree}
 use Rattle.fond_grammar.specs.declared.role.Role.{Role}
 use Rattle.fond_grammar.specs.declared.role.Role.TheVariants as role
-use Rattle.fond_grammar.specs.declared.role.Keyword.{Keyword}
-use Rattle.fond_grammar.specs.declared.role.Keyword.TheVariants as keyword
+use Rattle.fond_grammar.specs.declared.role.FixedWord.{FixedWord}
+use Rattle.fond_grammar.specs.declared.role.FixedWord.TheVariants as fixed
 use Rattle.fond_grammar.specs.declared.role.Rest.TheVariants.{NoMore, Each, Typed, Pairs, Unread}
 use Rattle.fond_grammar.specs.Words.{is_name, is_variable, is_one_of}
 use Rattle.fond_tree.specs.Trees.{head_of, front, members_of, leaf_of, place_of}
@@ -51,7 +51,7 @@ clean_predicate tree clean =
       from (head ∷ first ∷ next ∷ rest) fits bare = absurd (with_more head first (next ∷ rest) (fits.inner 0 (part role.Name head) refl) (fits.inner 1 (part role.Variable first) refl) bare)
 
 -- a clean header is the word of the kind of file and a name
-pub clean_header : (kind : Keyword) (tree : Tree) → IsCleanAs (role.Header kind) tree → are_header (word kind) (members_of tree) ≡ true
+pub clean_header : (kind : FixedWord) (tree : Tree) → IsCleanAs (role.Header kind) tree → are_header (word kind) (members_of tree) ≡ true
 clean_header kind tree clean =
     let node : (members : List Tree) × (members_of tree ≡ Some members) = node_stands (role.Header kind) tree clean (λ _. refl) in
     ap (are_header (word kind)) node.1 ∙ from node.0 (fits_as (role.Header kind) tree clean node.0 (Members (shape (role.Word kind ∷ role.Name ∷ []) NoMore)) node.1 refl) where
@@ -67,10 +67,10 @@ pub record CleanFile (kind : List ℕ) (of : Role) (tree : Tree) : Type 0 where
   pub file : IsFile kind tree sections
   pub clean : AreCleanAs of sections
 
-pub clean_file : (kind : Keyword) (of inner : Role) (tree : Tree) → IsCleanAs of tree → ((members : List Tree) → node_expected of members ≡ Some (Members (shape (role.Word keyword.Define ∷ role.Header kind ∷ []) (Each inner)))) →
+pub clean_file : (kind : FixedWord) (of inner : Role) (tree : Tree) → IsCleanAs of tree → ((members : List Tree) → node_expected of members ≡ Some (Members (shape (role.Word fixed.Define ∷ role.Header kind ∷ []) (Each inner)))) →
     (members : List Tree) → members_of tree ≡ Some members → CleanFile (word kind) inner tree
-clean_file kind of inner tree clean expects members is = from members is (fits_as of tree clean members (Members (shape (role.Word keyword.Define ∷ role.Header kind ∷ []) (Each inner))) is (expects members)) where
-  from : (ms : List Tree) → members_of tree ≡ Some ms → FitsAs (Members (shape (role.Word keyword.Define ∷ role.Header kind ∷ []) (Each inner))) ms → CleanFile (word kind) inner tree
+clean_file kind of inner tree clean expects members is = from members is (fits_as of tree clean members (Members (shape (role.Word fixed.Define ∷ role.Header kind ∷ []) (Each inner))) is (expects members)) where
+  from : (ms : List Tree) → members_of tree ≡ Some ms → FitsAs (Members (shape (role.Word fixed.Define ∷ role.Header kind ∷ []) (Each inner))) ms → CleanFile (word kind) inner tree
   from [] is fits = absurd (some_is_none 7 fits.code)
   from (define ∷ []) is fits = absurd (some_is_none 7 fits.code)
   from (define ∷ header ∷ sections) is fits = record {
@@ -79,7 +79,7 @@ clean_file kind of inner tree clean expects members is = from members is (fits_a
       define = define;
       header = header;
       whole = is;
-      defined = word_leaf keyword.Define define (fits.inner 0 (part (role.Word keyword.Define) define) refl);
+      defined = word_leaf fixed.Define define (fits.inner 0 (part (role.Word fixed.Define) define) refl);
       headed = clean_header kind header (fits.inner 1 (part (role.Header kind) header) refl);
     };
     clean = λ number section at. fits.inner (suc (suc number)) (part inner section) (image_at (part inner) sections number section at);
@@ -142,7 +142,7 @@ predicates_pass tree clean has =
 pub clean_domain : (tree : Tree) → IsClean (StandsInDomain tree) → IsCleanDomain tree (sections_of tree)
 clean_domain tree clean =
     let node : (members : List Tree) × (members_of tree ≡ Some members) = node_stands role.DomainFile tree clean (λ _. refl) in
-    let file : CleanFile (codes "domain") role.DomainSection tree = clean_file keyword.Domain role.DomainFile role.DomainSection tree clean (λ _. refl) node.0 node.1 in
+    let file : CleanFile (codes "domain") role.DomainSection tree = clean_file fixed.Domain role.DomainFile role.DomainSection tree clean (λ _. refl) node.0 node.1 in
     let P : List Tree → Type 0 = λ sections. IsCleanDomain tree sections in
     subst P (sym (ap sections_after file.file.whole)) (from file) where
       from : (file : CleanFile (codes "domain") role.DomainSection tree) → IsCleanDomain tree file.sections
@@ -251,7 +251,7 @@ only_contents word test sections stands few each = from (headed word sections) r
 pub clean_problem : (tree : Tree) → IsClean (StandsInProblem tree) → IsCleanProblem tree (sections_of tree)
 clean_problem tree clean =
     let node : (members : List Tree) × (members_of tree ≡ Some members) = node_stands role.ProblemFile tree clean (λ _. refl) in
-    let file : CleanFile (codes "problem") role.ProblemSection tree = clean_file keyword.Problem role.ProblemFile role.ProblemSection tree clean (λ _. refl) node.0 node.1 in
+    let file : CleanFile (codes "problem") role.ProblemSection tree = clean_file fixed.Problem role.ProblemFile role.ProblemSection tree clean (λ _. refl) node.0 node.1 in
     let P : List Tree → Type 0 = λ sections. IsCleanProblem tree sections in
     subst P (sym (ap sections_after file.file.whole)) (from file) where
       from : (file : CleanFile (codes "problem") role.ProblemSection tree) → IsCleanProblem tree file.sections

@@ -11,8 +11,8 @@ use Rattle.fond_ast.specs.declared.files.InitAtom.{InitAtom}
 use Rattle.fond_ast.specs.declared.files.Problem.{Problem}
 use Rattle.fond_ast.specs.declared.files.Schema.{Schema}
 use Rattle.fond_tree.specs.declared.tree.Tree.{Tree}
-use Rattle.fond_grammar.specs.declared.role.Keyword.{Keyword}
-use Rattle.fond_grammar.specs.declared.role.Keyword.TheVariants as keyword
+use Rattle.fond_grammar.specs.declared.role.FixedWord.{FixedWord}
+use Rattle.fond_grammar.specs.declared.role.FixedWord.TheVariants as fixed
 use Rattle.fond_grammar.specs.declared.role.Role.{Role}
 use Rattle.fond_grammar.specs.declared.role.Role.TheVariants as role
 use Rattle.fond_grammar.specs.declared.role.Rest.TheVariants.{NoMore, Each as EachOf, Typed}
@@ -161,13 +161,13 @@ module _ (tree : Tree) (domain : Domain) (d : IsDomainOf tree domain) where
   actions_read : Each (λ t. has_head (codes ":action") t ≡ true → (schema : Schema) × IsSchemaOf t schema) d.sections
   actions_read = each_headed (codes ":action") (λ t. (schema : Schema) × IsSchemaOf t schema) d.sections (each_schema (headed (codes ":action") d.sections) domain.schemas d.schemas)
 
-  domain_shape : IsOfShape (λ _. Members (shape (role.Word keyword.Define ∷ role.Header keyword.Domain ∷ []) (EachOf role.DomainSection))) (λ _. false) tree
+  domain_shape : IsOfShape (λ _. Members (shape (role.Word fixed.Define ∷ role.Header fixed.Domain ∷ []) (EachOf role.DomainSection))) (λ _. false) tree
   domain_shape =
       let each : Each IsReadInDomain d.sections = domain_sections d.sections d.known types_read constants_read predicates_read actions_read in
       record {
         members = d.file.define ∷ d.file.header ∷ d.sections;
         whole = d.file.whole;
-        form = shape (role.Word keyword.Define ∷ role.Header keyword.Domain ∷ []) (EachOf role.DomainSection);
+        form = shape (role.Word fixed.Define ∷ role.Header fixed.Domain ∷ []) (EachOf role.DomainSection);
         expects = refl;
         counted = refl;
         built = refl;
@@ -176,7 +176,7 @@ module _ (tree : Tree) (domain : Domain) (d : IsDomainOf tree domain) where
 
   domain_fine : IsFine role.DomainFile tree
   domain_fine =
-      node_fine role.DomainFile (λ _. Members (shape (role.Word keyword.Define ∷ role.Header keyword.Domain ∷ []) (EachOf role.DomainSection))) (λ _. false) (λ _. refl) (λ _. refl) tree domain_shape
+      node_fine role.DomainFile (λ _. Members (shape (role.Word fixed.Define ∷ role.Header fixed.Domain ∷ []) (EachOf role.DomainSection))) (λ _. false) (λ _. refl) (λ _. refl) tree domain_shape
       (λ place repeated. file_single tree (codes "domain") d.sections d.file single_in_domain d.single place repeated.0 repeated.1 repeated.2, λ _ none. none)
 
 -- a problem that is read has its one domain and its one goal, and is fine
@@ -222,13 +222,13 @@ module _ (tree : Tree) (problem : Problem) (p : IsProblemOf tree problem) where
       each_headed (codes ":goal") (λ t. IsOne IsSomeCondition (content t)) p.sections
       (one_content IsSomeCondition goal_is.0 (problem.goal, goal_is.2) (headed (codes ":goal") p.sections) few goal_is.1)
 
-  problem_shape : IsOfShape (λ _. Members (shape (role.Word keyword.Define ∷ role.Header keyword.Problem ∷ []) (EachOf role.ProblemSection))) (λ _. false) tree
+  problem_shape : IsOfShape (λ _. Members (shape (role.Word fixed.Define ∷ role.Header fixed.Problem ∷ []) (EachOf role.ProblemSection))) (λ _. false) tree
   problem_shape =
       let each : Each IsReadInProblem p.sections = problem_sections p.sections p.known domains_read objects_read initials_read goals_read in
       record {
         members = p.file.define ∷ p.file.header ∷ p.sections;
         whole = p.file.whole;
-        form = shape (role.Word keyword.Define ∷ role.Header keyword.Problem ∷ []) (EachOf role.ProblemSection);
+        form = shape (role.Word fixed.Define ∷ role.Header fixed.Problem ∷ []) (EachOf role.ProblemSection);
         expects = refl;
         counted = refl;
         built = refl;
@@ -237,7 +237,7 @@ module _ (tree : Tree) (problem : Problem) (p : IsProblemOf tree problem) where
 
   problem_fine : IsFine role.ProblemFile tree
   problem_fine =
-      node_fine role.ProblemFile (λ _. Members (shape (role.Word keyword.Define ∷ role.Header keyword.Problem ∷ []) (EachOf role.ProblemSection))) (λ _. false) (λ _. refl) (λ _. refl) tree problem_shape
+      node_fine role.ProblemFile (λ _. Members (shape (role.Word fixed.Define ∷ role.Header fixed.Problem ∷ []) (EachOf role.ProblemSection))) (λ _. false) (λ _. refl) (λ _. refl) tree problem_shape
       (λ place repeated. file_single tree (codes "problem") p.sections p.file single_in_problem p.single place repeated.0 repeated.1 repeated.2, complete)
 
 -- a key of an action that is read is no unknown one
@@ -251,7 +251,7 @@ key_fine tree is = elim (leaf_or_node tree) [
   | inr h ↦ absurd (true_is_false (sym (sym (ap (is_headed_by action_keys) h.2) ∙ is)))
 ]
 
-word_fine : (kind : Keyword) (tree : Tree) → is_word (word kind) (leaf_of tree) ≡ true → IsFine (role.Word kind) tree
+word_fine : (kind : FixedWord) (tree : Tree) → is_word (word kind) (leaf_of tree) ≡ true → IsFine (role.Word kind) tree
 word_fine kind tree is =
     leaf_fine (role.Word kind) tree (word kind) (word_there (word kind) (leaf_of tree) is) (ap code_unless ((bytes_eq-Decides (word kind) (word kind)).1 refl)) (λ _ none. none, λ _ none. none)
 

@@ -63,8 +63,8 @@ pub record IsReadInProblem (tree : Tree) : Type 0 where
 abbrev pub IsRead : Role → Tree → Type 0
 IsRead role.DomainFile tree = (domain : Domain) × IsDomainOf tree domain
 IsRead role.ProblemFile tree = (problem : Problem) × IsProblemOf tree problem
-IsRead (role.Word keyword) tree = is_word (word keyword) (leaf_of tree) ≡ true
-IsRead (role.Header keyword) tree = are_header (word keyword) (members_of tree) ≡ true
+IsRead (role.Word kind) tree = is_word (word kind) (leaf_of tree) ≡ true
+IsRead (role.Header kind) tree = are_header (word kind) (members_of tree) ≡ true
 IsRead role.Head tree = (leaf : List ℕ) × (leaf_of tree ≡ Some leaf)
 IsRead role.Name tree = is_name_leaf tree ≡ true
 IsRead role.Variable tree = ⊥

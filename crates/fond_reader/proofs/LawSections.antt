@@ -4,7 +4,7 @@ use Rattle.std.proofs.lemmas.Slice.Eq.{bytes_eq-Decides}
 use Rattle.fond_text.specs.declared.place.Place.{Place}
 use Rattle.fond_ast.specs.declared.files.Schema.{Schema}
 use Rattle.fond_tree.specs.declared.tree.Tree.{Tree}
-use Rattle.fond_grammar.specs.declared.role.Keyword.{Keyword}
+use Rattle.fond_grammar.specs.declared.role.FixedWord.{FixedWord}
 use Rattle.fond_grammar.specs.declared.role.Role.{Role}
 use Rattle.fond_grammar.specs.declared.role.Role.TheVariants as role
 use Rattle.fond_grammar.specs.declared.role.Rest.TheVariants.{NoMore, Each as EachOf, Typed, Pairs, Unread}
@@ -43,7 +43,7 @@ predicate_shape tree fits =
       inner = (o.passes, tt);
     }
 
-pub header_shape : (kind : Keyword) (tree : Tree) → are_header (word kind) (members_of tree) ≡ true → IsOfShape (λ _. Members (shape (role.Word kind ∷ role.Name ∷ []) NoMore)) (λ _. false) tree
+pub header_shape : (kind : FixedWord) (tree : Tree) → are_header (word kind) (members_of tree) ≡ true → IsOfShape (λ _. Members (shape (role.Word kind ∷ role.Name ∷ []) NoMore)) (λ _. false) tree
 header_shape kind tree is = from (members_of tree) refl is where
   from : (members : Option (List Tree)) → members_of tree ≡ members → are_header (word kind) members ≡ true → IsOfShape (λ _. Members (shape (role.Word kind ∷ role.Name ∷ []) NoMore)) (λ _. false) tree
   from None at read = absurd (true_is_false (sym read))

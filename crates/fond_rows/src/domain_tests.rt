@@ -131,7 +131,7 @@ const REFUSED: [(&str, &str); 78] = [
         "(define (domain x) (:action a :effect () and (p)))",
         "refused domain 1 42 F8\n",
     ),
-    // A section or a key that stands a second time.
+    // A section or a key that occurs a second time.
     (
         "(define (domain x) (:predicates) (:predicates))",
         "refused domain 1 34 F9\n",

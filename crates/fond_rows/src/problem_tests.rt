@@ -69,7 +69,7 @@ const REFUSED: [(&str, &str); 38] = [
         "(define (problem y) (:domain x) (:goal ()) (:predicates))",
         "refused problem 1 44 F8\n",
     ),
-    // A section or a key that stands a second time.
+    // A section or a key that occurs a second time.
     (
         "(define (problem y) (:domain x) (:goal ()) (:goal ()))",
         "refused problem 1 44 F9\n",

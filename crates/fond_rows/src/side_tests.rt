@@ -22,7 +22,7 @@ const REFUSED: [(&str, &str); 17] = [
     ("; (\nflip\n(", "refused side 3 1 F7\n"),
     ("()", "refused side 1 1 F7\n"),
     ("spin (", "refused side 1 6 F7\n"),
-    // A byte that may stand only in comments.
+    // A byte that may occur only in comments.
     ("\u{7f}", "refused side 1 1 F2\n"),
     ("flip \u{1}", "refused side 1 6 F2\n"),
     ("( \u{7f}", "refused side 1 3 F2\n"),
@@ -85,7 +85,7 @@ const FIRST: [(&str, [&str; 3], &str); 9] = [
         "refused problem 1 41 F15\n",
     ),
     (
-        "one of form that stands later comes before one that stands early in a later file",
+        "one of form later in a file comes before one early in a later file",
         ["(define (domain x)\n\n (:predicates (p ?x)))", "x", ")"],
         "refused domain 3 15 F24\n",
     ),

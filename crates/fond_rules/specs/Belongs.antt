@@ -15,7 +15,7 @@ abbrev pub HasTarget : Targets → Type 0
 HasTarget (One outcome target) = ⊤
 HasTarget (Each targets) = 0 < length targets
 
--- rules belong to a task: their conditions are over its atoms, and it has their actions
+-- rules belong to a task, whatever their targets are: their conditions are over its atoms, and it has their actions
 pub record BelongTo (task : Task) (rules : List Rule) : Type 0 where
   pub over : AreOver (length task.atoms) rules
   pub there : AreActsThere task rules

@@ -42,7 +42,7 @@ impl Cube {
         })
     }
 
-    /// The cube with a literal of each atom, of which the state is the only one.
+    /// The full cube of a state: it has a literal for each atom, and only that state lies in it.
     pub fn full(alloc: Global, s: &State) -> Result<Cube, NoMemory>
         ensures { IfOk result (λ c. c ≡ full_cube s.now) }
     {

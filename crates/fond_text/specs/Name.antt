@@ -1,4 +1,4 @@
--- Leaves, and names, which are leaves with their letters lowered.
+-- Leaves, and lowered leaves, which are called names here, whether or not the grammar reads them as names.
 use Rattle.std.specs.Prelude.{◌≡◌, ℕ, ◌<◌, List, length, All, IsTrue}
 use Rattle.fond_text.specs.Bytes.{is_leaf_byte, lower}
 

@@ -27,7 +27,7 @@ pub const NO_TREE: u8 = 6;
 /// A tree does not have the form that is expected at its place.
 pub const MISFIT: u8 = 7;
 
-/// A section, or a key of an action, has an unknown head.
+/// A section has an unknown head, or an action an unknown key.
 pub const UNKNOWN_SECTION: u8 = 8;
 
 /// A section, or a key of an action, occurs a second time.
@@ -36,7 +36,8 @@ pub const REPEATED_SECTION: u8 = 9;
 /// A problem has no domain or no goal.
 pub const MISSING_SECTION: u8 = 10;
 
-/// The head of a condition, an effect or an initial atom is no operator there, or an atom has a node among its terms.
+/// The head of a condition, an effect or an initial atom is a reserved word that is not an operator there, or an atom
+/// has a node among its terms.
 pub const MISPLACED_OPERATOR: u8 = 11;
 
 /// A `oneof` has no choices.
@@ -45,7 +46,7 @@ pub const NO_CHOICE: u8 = 12;
 /// The predicate of an atom is not declared.
 pub const UNKNOWN_PREDICATE: u8 = 15;
 
-/// A name is declared a second time.
+/// A schema has the name of an earlier one.
 pub const REPEATED_NAME: u8 = 19;
 
 /// A leaf of the side list is not the name of a schema.

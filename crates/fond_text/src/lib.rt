@@ -1,4 +1,4 @@
-//! What every other crate speaks of: names, words, places, numbers, lists, and faults with their order. A `Name` is
+//! The types that all crates share: names, words, places, numbers, lists, and faults with their order. A `Name` is
 //! a lowered leaf by its type, a `Word` the bytes of a command line as given, and a `Place` a line and a column.
 //! Reading a text is left to the crates above.
 #![tactic(auto)]

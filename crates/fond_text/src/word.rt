@@ -6,7 +6,7 @@ use crate::fault::NoMemory;
 use std::alloc::Global;
 use std::marker::Model;
 
-/// Bytes as they were given: a command, the name of a file, a number or an action.
+/// Bytes as they were given: a command, the name of a file or an action.
 #[derive(Drop)]
 pub struct Word {
     bytes: Vec<u8>,

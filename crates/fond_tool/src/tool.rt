@@ -72,7 +72,7 @@ pub fn run_tool<S: Shelf, K: Sink>(
         (record { old = K.written sink.old; new = K.written sink.new; before = K.faults sink.old; after = K.faults sink.new })
         result }
 
-    // Nothing is fetched for words that fit no command, and nothing is written if memory ran out.
+    // The shelf stays as it is if the words fit no command, and the sink if memory ran out.
     ensures unfetched { FitsNone words.now → shelf.new ≡ shelf.old }
     ensures unwritten { result ≡ Status.NoMemory → sink.new ≡ sink.old }
 

@@ -1,4 +1,4 @@
-//! Trees, and what is seen of one: its place, the leaf that it is, or its members and its head.
+//! Trees and their accessors: place, leaf, members, head.
 
 ghost use Rattle.fond_tree.specs.Trees.{front as front_of};
 ghost use Rattle.std.specs.Option.{option_copied};

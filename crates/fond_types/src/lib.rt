@@ -1,4 +1,4 @@
-//! From declarations to the task over numbers that they stand for, or the first fault of their names. The crates above
+//! Resolves names: turns declarations into a task over numbers, or reports their first fault. The crates above
 //! learn that each name was replaced by its number, or which fault of names comes first. Types and objects are not
 //! supported yet: names are those of predicates and schemas.
 #![tactic(auto)]
