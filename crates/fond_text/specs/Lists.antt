@@ -1,5 +1,7 @@
 -- Lists: tests place by place, some item with those before it, and lists without repetition.
-use Rattle.std.specs.Prelude.{◌≡◌, ◌&&◌, Bool, true, false, List, [], ◌∷◌, ◌++◌, Contains, ⊤}
+use Rattle.std.specs.Prelude.{◌≡◌, ℕ, ◌&&◌, Bool, true, false, not, List, [], ◌∷◌, ◌++◌, Contains, ⊤}
+use Rattle.std.specs.List.{list_any}
+use Rattle.std.specs.Str.{bytes_eq}
 
 -- whether each test passes on the item at its place, and there are as many tests as items
 abbrev pub each_passes : {A : Type 0} → List (A → Bool) → List A → Bool
@@ -19,3 +21,8 @@ pub record Somewhere {A : Type 0} (holds : List A → A → Type 0) (items : Lis
 abbrev pub AreDistinct : {A : Type 0} → List A → Type 0
 AreDistinct [] = ⊤
 AreDistinct (item ∷ items) = (¬ Contains items item) × AreDistinct items
+
+-- whether no text occurs twice in a list
+abbrev pub are_distinct_texts : List (List ℕ) → Bool
+are_distinct_texts [] = true
+are_distinct_texts (text ∷ texts) = not (list_any (bytes_eq text) texts) && are_distinct_texts texts

@@ -43,10 +43,26 @@ pub const MISPLACED_OPERATOR: u8 = 11;
 /// A `oneof` has no choices.
 pub const NO_CHOICE: u8 = 12;
 
+/// The type of a constant, an object or a variable is not declared.
+pub const UNKNOWN_TYPE: u8 = 13;
+
+/// A type is its own ancestor, or `object` is declared with another parent than itself.
+pub const TYPE_CYCLE: u8 = 14;
+
 /// The predicate of an atom is not declared.
 pub const UNKNOWN_PREDICATE: u8 = 15;
 
-/// A schema has the name of an earlier one.
+/// An atom has another number of terms than its predicate has parameters.
+pub const WRONG_ARITY: u8 = 16;
+
+/// An argument does not fit the parameter at its position.
+pub const TYPE_MISMATCH: u8 = 17;
+
+/// A term is not a declared object, or a variable that no list around it declares.
+pub const UNKNOWN_TERM: u8 = 18;
+
+/// A name is declared again with other types, or a schema has the name of an earlier one, or a variable occurs twice in
+/// one list.
 pub const REPEATED_NAME: u8 = 19;
 
 /// A leaf of the side list is not the name of a schema.

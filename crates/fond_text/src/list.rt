@@ -33,6 +33,13 @@ impl<T> List<T> {
         }
     }
 
+    /// The list of the items of a vector.
+    pub fn of(items: Vec<T>) -> List<T>
+        ensures { result ≡ items.items }
+    {
+        List { items }
+    }
+
     /// The number of items.
     pub fn len(&self) -> usize
         ensures { result ≡ length self.now }
