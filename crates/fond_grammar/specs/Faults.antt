@@ -1,17 +1,17 @@
--- The faults of a tree that is no domain or no problem, F7 to F12, and F24 for what is not supported yet. Members are
--- checked as far as something is expected of them: not those of a node that is itself refused with F8, F11 or F12 or
--- that occurs in place of a leaf, nor those beyond the expected ones.
+-- The faults of a tree that is no domain or no problem, F7 to F12. Members are checked as far as something is expected
+-- of them: not those of a node that is itself refused with F8, F11 or F12 or that occurs in place of a leaf, nor those
+-- beyond the expected ones.
 use Rattle.std.specs.Prelude.{◌≡◌, ◌⊎◌, ℕ, true, List, [], ◌∷◌, ◌++◌, Contains, Option, Some, None, codes, if◌then◌else◌}
 use Rattle.std.specs.List.{filter_map}
 use Rattle.fond_text.specs.Lists.{Somewhere}
-use Rattle.fond_text.specs.declared.code.TheConstants.{MISFIT, REPEATED_SECTION, MISSING_SECTION, UNSUPPORTED}
+use Rattle.fond_text.specs.declared.code.TheConstants.{MISFIT, REPEATED_SECTION, MISSING_SECTION}
 use Rattle.fond_text.specs.declared.place.Place.{Place}
 use Rattle.fond_tree.specs.declared.tree.Tree.{Tree}
 use Rattle.fond_grammar.specs.Words.{is_one_of}
 use Rattle.fond_tree.specs.Trees.{head_of, members_of, leaf_of, place_of}
 use Rattle.fond_grammar.specs.declared.role.Role.{Role}
 use Rattle.fond_grammar.specs.declared.role.Role.TheVariants.{DomainFile, ProblemFile, DomainSection}
-use Rattle.fond_grammar.specs.Roles.{Expected, Members, Refused, node_expected, leaf_code, action_keys, is_unbuilt}
+use Rattle.fond_grammar.specs.Roles.{Expected, Members, Refused, node_expected, leaf_code, action_keys}
 use Rattle.fond_grammar.specs.Parts.{Part, part, part_at, is_counted}
 
 -- the code with which a node is refused, if it is: it is a misfit if a leaf is expected, or if it has too few or too
@@ -81,17 +81,12 @@ IsIncomplete ProblemFile tree place =
     (members : List Tree) × (members_of tree ≡ Some members) × (place ≡ place_of tree) × (Lacks (codes ":domain") (after_header members) ⊎ Lacks (codes ":goal") (after_header members))
 IsIncomplete role tree place = ⊥
 
--- a node is of a form that is not supported yet
-abbrev pub IsUnbuilt : Part → Place → Type 0
-IsUnbuilt at place = (members : List Tree) × (members_of at.tree ≡ Some members) × (is_unbuilt at.role members ≡ true) × (place ≡ place_of at.tree)
-
 -- a fault of a part itself, or of its members side by side
 abbrev pub IsOwnFault : Part → Place → ℕ → Type 0
 IsOwnFault at place code =
     IsRefusedTree at place code
     ⊎ (IsRepeated at.role at.tree place × (code ≡ REPEATED_SECTION))
     ⊎ (IsIncomplete at.role at.tree place × (code ≡ MISSING_SECTION))
-    ⊎ (IsUnbuilt at place × (code ≡ UNSUPPORTED))
 
 -- a fault occurs in a tree of a role: some part of the tree has that fault
 pub record Stands (role : Role) (tree : Tree) (place : Place) (code : ℕ) : Type 0 where

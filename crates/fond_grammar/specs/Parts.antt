@@ -4,7 +4,7 @@ use Rattle.std.specs.Str.{bytes_eq}
 use Rattle.fond_tree.specs.declared.tree.Tree.{Tree}
 use Rattle.fond_tree.specs.Trees.{members_of, leaf_of}
 use Rattle.fond_grammar.specs.declared.role.Role.{Role}
-use Rattle.fond_grammar.specs.declared.role.Role.TheVariants.{Key, Parameters, Condition, WholeEffect}
+use Rattle.fond_grammar.specs.declared.role.Role.TheVariants.{Key, Variables, Condition, Effect}
 use Rattle.fond_grammar.specs.declared.role.Rest.{Rest}
 use Rattle.fond_grammar.specs.declared.role.Rest.TheVariants.{NoMore, Each, Typed, Pairs, Unread}
 use Rattle.fond_grammar.specs.Roles.{Expected, Members, Refused, node_expected}
@@ -37,9 +37,9 @@ typed leaf type untyped (tree ∷ next ∷ trees) =
 -- what is expected of the value of a key; the value after another leaf is not read
 abbrev pub value_role : List ℕ → Option Role
 value_role key =
-    if bytes_eq key (codes ":parameters") then Some Parameters
+    if bytes_eq key (codes ":parameters") then Some Variables
     else if bytes_eq key (codes ":precondition") then Some Condition
-    else if bytes_eq key (codes ":effect") then Some WholeEffect
+    else if bytes_eq key (codes ":effect") then Some Effect
     else None
 
 -- the value of a key as a part, if it is read

@@ -7,11 +7,9 @@ use Rattle.fond_tree.specs.declared.tree.Tree.{Tree}
 use Rattle.fond_grammar.specs.declared.role.FixedWord.{FixedWord}
 use Rattle.fond_grammar.specs.declared.role.FixedWord.TheVariants as fixed
 use Rattle.fond_grammar.specs.declared.role.Role.{Role}
-use Rattle.fond_grammar.specs.declared.role.Role.TheVariants.{DomainFile, ProblemFile, Word, Header, Head, Name, Variable, Term, DomainSection, ProblemSection, Predicate, Key, Parameters, Variables, VariableType, Condition, WholeEffect, Effect, Initial, Atom}
+use Rattle.fond_grammar.specs.declared.role.Role.TheVariants.{DomainFile, ProblemFile, Word, Header, Head, Name, Variable, Term, DomainSection, ProblemSection, Predicate, Key, Variables, VariableType, Condition, Effect, Initial, Atom}
 use Rattle.fond_grammar.specs.declared.role.Rest.{Rest}
 use Rattle.fond_grammar.specs.declared.role.Rest.TheVariants.{NoMore, Each, Typed, Pairs, Unread}
-use Rattle.fond_grammar.specs.declared.unbuilt.Sort.{Sort}
-use Rattle.fond_grammar.specs.declared.unbuilt.Sort.TheVariants as sort
 use Rattle.fond_grammar.specs.Words.{reserved, is_one_of, is_name, is_variable}
 use Rattle.fond_tree.specs.Trees.{is_node, front, leaf_of}
 
@@ -126,11 +124,9 @@ node_expected (Header kind) members = Some (Members (shape (Word kind ∷ Name �
 node_expected DomainSection members = Some (section domain_section (front members))
 node_expected ProblemSection members = Some (section problem_section (front members))
 node_expected Predicate members = Some (Members (shape (Name ∷ []) (Typed Variable VariableType)))
-node_expected Parameters members = Some (Members (shape [] (Typed Variable VariableType)))
 node_expected Variables members = Some (Members (shape [] (Typed Variable VariableType)))
 node_expected VariableType members = Some (Members (shape (Word fixed.Either ∷ Name ∷ []) (Each Name)))
 node_expected Condition members = Some (form_of none condition members)
-node_expected WholeEffect members = Some (form_of none effect members)
 node_expected Effect members = Some (form_of none effect members)
 node_expected Initial members = Some (form_of atom initial members)
 node_expected Atom members = Some (Members atom)
@@ -156,86 +152,7 @@ leaf_code VariableType leaf = if is_name leaf then None else Some MISFIT
 leaf_code Key leaf = if is_one_of action_keys leaf then None else Some UNKNOWN_SECTION
 leaf_code node leaf = Some MISFIT
 
--- whether a node has more members than one
-abbrev pub has_more : List Tree → Bool
-has_more members = nat_lt 1 (length members)
-
--- whether a tree is a leaf of this sort
-abbrev pub is_leaf_of : (List ℕ → Bool) → Tree → Bool
-is_leaf_of sort tree = from (leaf_of tree)
-  where
-    from : Option (List ℕ) → Bool
-    from None = false
-    from (Some leaf) = sort leaf
-
--- whether members are a name and, after it, some leaf of this sort
-abbrev pub names_with : (List ℕ → Bool) → List Tree → Bool
-names_with sort [] = false
-names_with sort (head ∷ after) = is_leaf_of is_name head && list_any (is_leaf_of sort) after
-
--- the test of a sort of leaves
-abbrev pub test_of : Sort → List ℕ → Bool
-test_of sort.Name = is_name
-test_of sort.Variable = is_variable
-test_of sort.Term = is_term
-
--- whether the node of these members is an atom with a term
-abbrev pub has_term : List Tree → Bool
-has_term members = names_with is_term members
-
--- whether the node of these members is a predicate with a parameter
-abbrev pub has_parameter : List Tree → Bool
-has_parameter members = names_with is_variable members
-
--- whether the node of these members, at a place where operators are allowed, is of a form that is not supported yet:
--- an operator that is not supported, or an atom with a term
-abbrev pub is_unbuilt_form : (List ℕ → Option Bool) → List Tree → Bool
-is_unbuilt_form operator members = decide (front members)
-  where
-    known : Option Bool → Bool
-    known None = has_term members
-    known (Some unbuilt) = unbuilt
-
-    decide : Option (List ℕ) → Bool
-    decide None = false
-    decide (Some head) = known (operator head)
-
--- whether an operator of a condition is not supported yet, if it is one
-abbrev pub condition_operator : List ℕ → Option Bool
-condition_operator head =
-    if is_one_of (codes "and" ∷ codes "or" ∷ codes "not" ∷ codes "imply" ∷ []) head then Some false
-    else if is_one_of (codes "forall" ∷ codes "exists" ∷ codes "=" ∷ []) head then Some true
-    else None
-
--- whether an operator of an effect is not supported yet, if it is one; a choice is supported as a whole effect only
-abbrev pub effect_operator : Bool → List ℕ → Option Bool
-effect_operator is_whole head =
-    if is_one_of (codes "and" ∷ codes "not" ∷ []) head then Some false
-    else if is_one_of (codes "forall" ∷ codes "when" ∷ []) head then Some true
-    else if bytes_eq head (codes "oneof") then Some (not is_whole)
-    else None
-
--- the only operator of an initial atom is supported
-abbrev pub initial_operator : List ℕ → Option Bool
-initial_operator head = if bytes_eq head (codes "not") then Some false else None
-
 -- whether there is a leaf, and it is one of these words
 abbrev pub is_headed_by : List (List ℕ) → Option (List ℕ) → Bool
 is_headed_by heads None = false
 is_headed_by heads (Some head) = is_one_of heads head
-
--- whether the node of these members is of a form that is not supported yet: a section of types, constants or objects
--- with a member; a predicate with a parameter; parameters of an action other than `()`; an atom with a term; a
--- condition that is an equality or quantified; an effect that is conditional or quantified, or a choice that is not the
--- whole effect
-abbrev pub is_unbuilt : Role → List Tree → Bool
-is_unbuilt DomainSection members = is_headed_by (codes ":types" ∷ codes ":constants" ∷ []) (front members) && has_more members
-is_unbuilt ProblemSection members = is_headed_by (codes ":objects" ∷ []) (front members) && has_more members
-is_unbuilt Predicate members = has_parameter members
-is_unbuilt Parameters members = nat_lt 0 (length members)
-is_unbuilt Condition members = is_unbuilt_form condition_operator members
-is_unbuilt WholeEffect members = is_unbuilt_form (effect_operator true) members
-is_unbuilt Effect members = is_unbuilt_form (effect_operator false) members
-is_unbuilt Initial members = is_unbuilt_form initial_operator members
-is_unbuilt Atom members = has_term members
-is_unbuilt role members = false

@@ -266,16 +266,13 @@ pub fn expected_of(role: Role, trees: &[Tree]) -> Option<Expected>
             &[Role::Name],
             Rest::Typed(Role::Variable, Role::VariableType),
         )),
-        Role::Parameters | Role::Variables => Some(members(
-            &[],
-            Rest::Typed(Role::Variable, Role::VariableType),
-        )),
+        Role::Variables => Some(members(&[], Rest::Typed(Role::Variable, Role::VariableType))),
         Role::VariableType => Some(members(
             &[Role::Word(FixedWord::Either), Role::Name],
             Rest::Each(Role::Name),
         )),
         Role::Condition => Some(condition_of(trees)),
-        Role::WholeEffect | Role::Effect => Some(effect_of(trees)),
+        Role::Effect => Some(effect_of(trees)),
         Role::Initial => Some(initial_of(trees)),
         Role::Atom => Some(atom()),
         _ => None,

@@ -1,10 +1,9 @@
 //! The first fault of a tree. The grammar is given by two tables: what is expected of a node, and of its members one
 //! by one. Each part of the tree is checked, and the earliest fault is kept.
 
-ghost use Rattle.fond_grammar.specs.Faults.{Stands, IsRefusedTree, IsUnbuilt, IsOwnFault, node_code as node_code_of, tree_code as tree_code_of};
+ghost use Rattle.fond_grammar.specs.Faults.{Stands, IsRefusedTree, IsOwnFault, node_code as node_code_of, tree_code as tree_code_of};
 ghost use Rattle.fond_text.specs.Firsts.{IsFirst};
 ghost use Rattle.fond_text.specs.Faults.{IsLeast, IsClean};
-ghost use Rattle.fond_text.specs.declared.code.TheConstants.{UNSUPPORTED};
 ghost use Rattle.fond_grammar.specs.Parts.{part};
 ghost use Rattle.fond_grammar.specs.Walks.{seen};
 ghost use Rattle.fond_tree.specs.Trees.{members_of as members_of_tree, leaf_of as leaf_of_tree};
@@ -14,10 +13,9 @@ use crate::expected::{Expected, expected_of, is_counted};
 use crate::leaves::leaf_code;
 use crate::repeats::{incomplete, repeated};
 use crate::role::Role;
-use crate::unbuilt::is_unbuilt;
 use crate::walk::Walk;
-use fond_text::code::{MISFIT, UNSUPPORTED};
-use fond_text::first::{Found, earlier, found_at, found_if};
+use fond_text::code::MISFIT;
+use fond_text::first::{Found, earlier, found_at};
 use fond_tree::tree::Tree;
 
 /// The code with which a node of these members is refused, if it is.
@@ -56,26 +54,11 @@ fn misfit(role: Role, tree: &Tree) -> Option<Found>
     found_at(tree.place(), tree_code(role, tree))
 }
 
-/// A node of a form that is not supported yet.
-fn unbuilt(role: Role, tree: &Tree) -> Option<Found>
-    ensures { IsFirst (λ place code. IsUnbuilt (part role tree.now) place × (code ≡ UNSUPPORTED)) result }
-{
-    match tree {
-        Tree::Leaf(_, _) => None,
-        Tree::Node(place, members) => found_if(
-            is_unbuilt(role, members.as_slice()),
-            *place,
-            UNSUPPORTED,
-        ),
-    }
-}
-
 /// The first fault of a tree itself, or of its members side by side.
 fn own_fault(role: Role, tree: &Tree) -> Option<Found>
     ensures { IsFirst (λ place code. IsOwnFault (part role tree.now) place code) result }
 {
-    let incomplete = earlier(incomplete(role, tree), unbuilt(role, tree));
-    let repeated = earlier(repeated(role, tree), incomplete);
+    let repeated = earlier(repeated(role, tree), incomplete(role, tree));
     earlier(misfit(role, tree), repeated)
 }
 

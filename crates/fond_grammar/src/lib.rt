@@ -8,5 +8,4 @@ pub mod fault;
 pub mod leaves;
 mod repeats;
 pub mod role;
-mod unbuilt;
 mod walk;

@@ -40,11 +40,11 @@ fn value_role(key: &[u8]) -> Option<Role>
     ensures { result ≡ value_role_of key.now }
 {
     if is_word(key, b":parameters") {
-        Some(Role::Parameters)
+        Some(Role::Variables)
     } else if is_word(key, b":precondition") {
         Some(Role::Condition)
     } else if is_word(key, b":effect") {
-        Some(Role::WholeEffect)
+        Some(Role::Effect)
     } else {
         None
     }
