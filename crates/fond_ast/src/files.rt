@@ -1,8 +1,9 @@
 //! Domains, problems and side lists as they are read.
 
-ghost use Rattle.fond_ast.specs.Read.{has_one_kind, is_schema_with_choices};
+ghost use Rattle.fond_ast.specs.Read.{has_one_kind, is_schema_with_choices, has_few_variables, condition_variables};
+ghost use Rattle.fond_text.specs.declared.code.TheConstants.{LONGEST_TEXT};
 ghost use Rattle.std.specs.List.{list_all};
-ghost use Rattle.std.specs.Prelude.{IsTrue};
+ghost use Rattle.std.specs.Prelude.{◌≤◌, IsTrue, length};
 
 use crate::names::{Kinds, ReadAtom, TypedNames};
 use crate::syntax::{Cond, Effect};
@@ -35,7 +36,8 @@ pub struct Declared {
 pub type DeclaredList = List<Declared>;
 
 /// A domain: its types, constants, predicates and schemas, each in the order of the text. By its facts, each type and
-/// each constant has exactly one type, and each `oneof` has a member.
+/// each constant has exactly one type, each `oneof` has a member, and it declares no more names of each sort than a text
+/// may have bytes.
 #[derive(Drop)]
 pub struct Domain {
     pub place: Place,
@@ -46,6 +48,11 @@ pub struct Domain {
     pub ghost one_parent: { IsTrue (list_all has_one_kind kinds) },
     pub ghost one_kind: { IsTrue (list_all has_one_kind constants) },
     pub ghost choices: { IsTrue (list_all is_schema_with_choices schemas) },
+    pub ghost few_kinds: { length kinds ≤ LONGEST_TEXT },
+    pub ghost few_constants: { length constants ≤ LONGEST_TEXT },
+    pub ghost few_predicates: { length predicates ≤ LONGEST_TEXT },
+    pub ghost few_schemas: { length schemas ≤ LONGEST_TEXT },
+    pub ghost few_variables: { IsTrue (list_all has_few_variables schemas) },
 }
 
 /// An atom of `:init`, which may be negated.
@@ -58,7 +65,8 @@ pub struct InitAtom {
 /// The atoms of `:init`, in order.
 pub type InitAtoms = List<InitAtom>;
 
-/// A problem: its objects, each of exactly one type, its initial atoms and its goal.
+/// A problem: its objects, each of exactly one type, its initial atoms and its goal. By its facts, it declares no more
+/// objects, and no more variables in its goal, than a text may have bytes.
 #[derive(Drop)]
 pub struct Problem {
     pub place: Place,
@@ -66,6 +74,8 @@ pub struct Problem {
     pub init: InitAtoms,
     pub goal: Cond,
     pub ghost one_kind: { IsTrue (list_all has_one_kind objects) },
+    pub ghost few_objects: { length objects ≤ LONGEST_TEXT },
+    pub ghost few_variables: { condition_variables goal ≤ LONGEST_TEXT },
 }
 
 /// A side list: its leaves, which should be the names of the unfair schemas.

@@ -3,6 +3,7 @@
 -- beyond the expected ones.
 use Rattle.std.specs.Prelude.{◌≡◌, ◌⊎◌, ℕ, true, List, [], ◌∷◌, ◌++◌, Contains, Option, Some, None, codes, if◌then◌else◌}
 use Rattle.std.specs.List.{filter_map}
+use Rattle.fond_text.specs.Faults.{IsClean}
 use Rattle.fond_text.specs.Lists.{Somewhere}
 use Rattle.fond_text.specs.declared.code.TheConstants.{MISFIT, REPEATED_SECTION, MISSING_SECTION}
 use Rattle.fond_text.specs.declared.place.Place.{Place}
@@ -94,6 +95,10 @@ pub record Stands (role : Role) (tree : Tree) (place : Place) (code : ℕ) : Typ
   pub at : Part
   pub reached : part_at (part role tree) path ≡ Some at
   pub own : IsOwnFault at place code
+
+-- no fault occurs in a tree of a role
+abbrev pub Fits : Role → Tree → Type 0
+Fits role tree = IsClean (λ place code. Stands role tree place code)
 
 -- a fault occurs in a domain
 abbrev pub StandsInDomain : Tree → Place → ℕ → Type 0

@@ -7,6 +7,7 @@ use Rattle.fond_ast.specs.declared.files.Declared.{Declared}
 use Rattle.fond_ast.specs.declared.files.Domain.{Domain}
 use Rattle.fond_ast.specs.declared.files.Problem.{Problem}
 use Rattle.fond_ast.specs.declared.files.Schema.{Schema}
+use Rattle.fond_ast.specs.declared.names.TypedName.{TypedName}
 use Rattle.fond_ast.specs.declared.syntax.Cond.{Cond, Truth}
 use Rattle.fond_ast.specs.declared.syntax.Effect.{Effect, Nothing}
 use Rattle.fond_grammar.specs.Words.{is_name, is_word, has_head}
@@ -14,7 +15,9 @@ use Rattle.fond_tree.specs.Trees.{head_of, members_of, leaf_of, place_of}
 use Rattle.fond_grammar.specs.Roles.{passed_over, action_keys, is_headed_by}
 use Rattle.fond_grammar.specs.Parts.{are_pairs}
 use Rattle.fond_grammar.specs.Faults.{keys, single_in_domain, single_in_problem}
-use Rattle.fond_reader.specs.Forms.{is_named, is_only, is_unit, is_condition, is_effect, is_initial}
+use Rattle.fond_reader.specs.Forms.{is_named, is_only}
+use Rattle.fond_reader.specs.Typed.{are_names, are_variables, is_variable_list}
+use Rattle.fond_reader.specs.Bodies.{is_condition, is_effect, is_initial}
 
 -- whether a tree is a leaf that is a name
 abbrev pub is_name_leaf : Tree → Bool
@@ -70,9 +73,15 @@ abbrev pub is_problem_section : Tree → Bool
 is_problem_section tree =
     is_headed_by (codes ":requirements" ∷ codes ":domain" ∷ codes ":objects" ∷ codes ":init" ∷ codes ":goal" ∷ passed_over) (head_of tree)
 
--- whether a tree is read as a declared predicate: a node of its name alone
+-- whether members are those of a declared predicate: its name and a typed list of variables
+abbrev pub are_of_declared : Declared → Option (List Tree) → Bool
+are_of_declared declared None = false
+are_of_declared declared (Some []) = false
+are_of_declared declared (Some (name ∷ after)) = is_named declared.place declared.name name && are_variables declared.parameters after
+
+-- whether a tree is read as a declared predicate
 abbrev pub is_declared : Declared → Tree → Bool
-is_declared declared tree = is_only (is_named declared.place declared.name) (members_of tree) && length declared.parameters == 0
+is_declared declared tree = are_of_declared declared (members_of tree)
 
 -- the values of this key, among pairs of a key and a value
 abbrev pub values : List ℕ → List Tree → List Tree
@@ -80,20 +89,20 @@ values word [] = []
 values word (key ∷ []) = []
 values word (key ∷ value ∷ pairs) = if is_word word (leaf_of key) then value ∷ values word pairs else values word pairs
 
+-- the value of `:parameters` is read as variables; without one there are none
+abbrev pub AreParameters : List Tree → List TypedName → Type 0
+AreParameters [] names = names ≡ []
+AreParameters (tree ∷ trees) names = (is_variable_list names tree ≡ true) × (trees ≡ [])
+
 -- the value of a precondition is read as a condition; without one it is the true condition
 abbrev pub IsPrecondition : List Tree → Cond → Type 0
 IsPrecondition [] pre = pre ≡ Truth
 IsPrecondition (tree ∷ trees) pre = (is_condition pre tree ≡ true) × (trees ≡ [])
 
--- the value of an effect is read as a whole effect; without one it is the empty effect
-abbrev pub IsWholeEffect : List Tree → Effect → Type 0
-IsWholeEffect [] effect = effect ≡ Nothing
-IsWholeEffect (tree ∷ trees) effect = (is_effect effect true tree ≡ true) × (trees ≡ [])
-
--- whether there is no value, or one that is `()`
-abbrev pub are_no_parameters : List Tree → Bool
-are_no_parameters [] = true
-are_no_parameters (tree ∷ trees) = is_unit tree && length trees == 0
+-- the value of `:effect` is read as an effect; without one it is the empty effect
+abbrev pub IsKeyedEffect : List Tree → Effect → Type 0
+IsKeyedEffect [] effect = effect ≡ Nothing
+IsKeyedEffect (tree ∷ trees) effect = (is_effect effect tree ≡ true) × (trees ≡ [])
 
 -- a node is read as a schema: after its head come its name, and pairs of a key and a value, each key at most once
 pub record IsSchemaOf (tree : Tree) (schema : Schema) : Type 0 where
@@ -104,30 +113,27 @@ pub record IsSchemaOf (tree : Tree) (schema : Schema) : Type 0 where
   pub named : is_named schema.place schema.name name ≡ true
   pub paired : are_pairs pairs ≡ true
   pub known : list_all (λ key. is_headed_by action_keys (leaf_of key)) (keys pairs) ≡ true
-  pub parameters : are_no_parameters (values (codes ":parameters") pairs) ≡ true
-  pub no_parameters : schema.parameters ≡ []
+  pub parameters : AreParameters (values (codes ":parameters") pairs) schema.parameters
   pub pre : IsPrecondition (values (codes ":precondition") pairs) schema.pre
-  pub effect : IsWholeEffect (values (codes ":effect") pairs) schema.effect
+  pub effect : IsKeyedEffect (values (codes ":effect") pairs) schema.effect
 
 -- trees are read as schemas, one by one
 abbrev pub AreSchemasOf : List Tree → List Schema → Type 0
 AreSchemasOf = AllZip IsSchemaOf
 
--- a tree is read as a domain. Types and constants are not supported yet
+-- a tree is read as a domain
 pub record IsDomainOf (tree : Tree) (domain : Domain) : Type 0 where
   pub sections : List Tree
   pub file : IsFile (codes "domain") tree sections
   pub place : domain.place ≡ place_of tree
   pub known : list_all is_domain_section sections ≡ true
   pub single : AreSingle single_in_domain sections
-  pub types : contents (codes ":types") sections ≡ []
-  pub no_types : domain.kinds ≡ []
-  pub constants : contents (codes ":constants") sections ≡ []
-  pub no_constants : domain.constants ≡ []
+  pub types : are_names domain.kinds (contents (codes ":types") sections) ≡ true
+  pub constants : are_names domain.constants (contents (codes ":constants") sections) ≡ true
   pub predicates : each_passes (map is_declared domain.predicates) (contents (codes ":predicates") sections) ≡ true
   pub schemas : AreSchemasOf (headed (codes ":action") sections) domain.schemas
 
--- a tree is read as a problem. Objects are not supported yet
+-- a tree is read as a problem
 pub record IsProblemOf (tree : Tree) (problem : Problem) : Type 0 where
   pub sections : List Tree
   pub file : IsFile (codes "problem") tree sections
@@ -135,7 +141,6 @@ pub record IsProblemOf (tree : Tree) (problem : Problem) : Type 0 where
   pub known : list_all is_problem_section sections ≡ true
   pub single : AreSingle single_in_problem sections
   pub domain : is_only is_name_leaf (Some (contents (codes ":domain") sections)) ≡ true
-  pub objects : contents (codes ":objects") sections ≡ []
-  pub no_objects : problem.objects ≡ []
+  pub objects : are_names problem.objects (contents (codes ":objects") sections) ≡ true
   pub init : each_passes (map is_initial problem.init) (contents (codes ":init") sections) ≡ true
   pub goal : each_passes (is_condition problem.goal ∷ []) (contents (codes ":goal") sections) ≡ true

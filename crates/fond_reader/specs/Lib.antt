@@ -1,5 +1,5 @@
 pub mod Forms
+pub mod Typed
+pub mod Bodies
 pub mod Files
 pub mod Laws
-pub mod CleanForms
-pub mod CleanFiles
