@@ -1,20 +1,44 @@
-//! Conditions and effects over the numbers of predicates.
+//! Conditions and effects over the numbers of predicates, objects and variables.
 
-/// An atom by the number of its predicate.
+use fond_text::atom::Objects;
+use fond_text::list::List;
+use std::rc::Rc;
+
+/// An object, or a variable by its position among the variables around it, the outermost first.
 #[derive(Clone, Copy, Debug, PartialEq, Eq)]
-pub struct LAtom {
-    pub predicate: u32,
+pub enum LTerm {
+    Object(u32),
+    Variable(u32),
 }
 
-/// A condition.
+/// The terms of an atom, in order.
+pub type LTerms = List<LTerm>;
+
+/// An atom by the numbers of its predicate and its terms.
+#[derive(Drop)]
+pub struct LAtom {
+    pub predicate: u32,
+    pub terms: LTerms,
+}
+
+/// The objects over which a variable ranges, in order. Variables of the same types share one list.
+pub type Range = Rc<Objects>;
+
+/// The ranges of some variables, in order.
+pub type Ranges = List<Range>;
+
+/// A condition. A quantifier declares a variable for each of its ranges.
 #[derive(Drop)]
 pub enum LCond {
     Truth,
     Holds(LAtom),
+    Equal(LTerm, LTerm),
     And(Vec<LCond>),
     Or(Vec<LCond>),
     Not(Box<LCond>),
     Imply(Box<LCond>, Box<LCond>),
+    Forall(Ranges, Box<LCond>),
+    Exists(Ranges, Box<LCond>),
 }
 
 /// An effect. Exactly one member of a `OneOf` takes place; it has at least one.
@@ -24,5 +48,7 @@ pub enum LEffect {
     Add(LAtom),
     Delete(LAtom),
     And(Vec<LEffect>),
+    Forall(Ranges, Box<LEffect>),
+    When(LCond, Box<LEffect>),
     OneOf(Vec<LEffect>),
 }

@@ -1,28 +1,33 @@
 //! Tasks whose names are resolved to numbers.
 
-ghost use Rattle.fond_ast.specs.Within.{is_condition_within, is_schema_fluent, is_schema_within, is_atom_within};
+ghost use Rattle.fond_ast.specs.Within.{are_ranges_within, is_condition_within, is_initial_within, is_schema_fluent, is_schema_within};
+ghost use Rattle.fond_text.specs.Lists.{are_distinct_texts};
 ghost use Rattle.std.specs.List.{list_all};
-ghost use Rattle.std.specs.Prelude.{◌<◌, ◌^◌, IsTrue, length};
+ghost use Rattle.std.specs.Prelude.{◌<◌, ◌^◌, [], IsTrue, length, map};
 
-use crate::form::{LCond, LEffect};
+use crate::form::{LCond, LEffect, Ranges};
 use fond_text::atom::Atoms;
 use fond_text::list::List;
-use fond_text::name::Name;
+use fond_text::name::{Name, Names};
+use fond_text::place::Place;
 
-/// A predicate, which is fluent if an effect of some schema has a literal of it.
+/// A predicate with the ranges of its arguments. It is fluent if an effect of some schema has a literal of it.
 #[derive(Drop)]
 pub struct LPredicate {
     pub name: Name,
+    pub ranges: Ranges,
     pub fluent: bool,
 }
 
 /// Predicates, in the order of their first declarations.
 pub type LPredicates = List<LPredicate>;
 
-/// An action schema, which is unfair if the side list names it.
+/// An action schema at the place of its name, with the ranges of its parameters. It is unfair if the side list names it.
 #[derive(Drop)]
 pub struct LSchema {
+    pub place: Place,
     pub name: Name,
+    pub ranges: Ranges,
     pub pre: LCond,
     pub effect: LEffect,
     pub unfair: bool,
@@ -31,19 +36,29 @@ pub struct LSchema {
 /// Action schemas, in the order of their declarations.
 pub type LSchemas = List<LSchema>;
 
-/// A task: its predicates and schemas, the initial atoms, and the goal. By its facts, every number in it is that of a
-/// predicate, every literal of an effect has a fluent predicate, every `OneOf` has a member, and there are fewer than
-/// 2^32 predicates and schemas.
+/// A task at the place of its domain: objects, predicates and schemas, the initial atoms, and the goal.
+///
+/// By its facts, there are fewer than 2^32 objects, predicates and schemas, and no two of one sort have the same name.
+/// Every number names something, every range lists objects in rising order, every argument lies in the range of its
+/// parameter, every literal of an effect has a fluent predicate, and every `OneOf` has a member. Around each term are
+/// fewer than 2^32 variables.
 #[derive(Drop)]
 pub struct LiftedTask {
+    pub place: Place,
+    pub objects: Names,
     pub predicates: LPredicates,
     pub schemas: LSchemas,
     pub init: Atoms,
     pub goal: LCond,
+    pub ghost few_objects: { length objects < 2 ^ 32 },
     pub ghost few_predicates: { length predicates < 2 ^ 32 },
     pub ghost few_schemas: { length schemas < 2 ^ 32 },
+    pub ghost distinct_objects: { IsTrue (are_distinct_texts objects) },
+    pub ghost distinct_predicates: { IsTrue (are_distinct_texts (map (λ predicate. predicate.name) predicates)) },
+    pub ghost distinct_schemas: { IsTrue (are_distinct_texts (map (λ schema. schema.name) schemas)) },
+    pub ghost predicates_within: { IsTrue (list_all (λ predicate. are_ranges_within (length objects) predicate.ranges) predicates) },
     pub ghost effects_fluent: { IsTrue (list_all (is_schema_fluent predicates) schemas) },
-    pub ghost schemas_within: { IsTrue (list_all (is_schema_within (length predicates)) schemas) },
-    pub ghost init_within: { IsTrue (list_all (is_atom_within (length predicates)) init) },
-    pub ghost goal_within: { IsTrue (is_condition_within (length predicates) goal) },
+    pub ghost schemas_within: { IsTrue (list_all (is_schema_within (length objects) predicates) schemas) },
+    pub ghost init_within: { IsTrue (list_all (is_initial_within predicates) init) },
+    pub ghost goal_within: { IsTrue (is_condition_within (length objects) predicates goal []) },
 }

@@ -1,5 +1,4 @@
 pub mod Names
-pub mod Atoms
+pub mod Sites
 pub mod Faults
 pub mod Resolves
-pub mod Indexes

