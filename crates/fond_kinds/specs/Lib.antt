@@ -1,3 +1,5 @@
 pub mod Parents
+pub mod Forests
+pub mod Growth
 pub mod Kinds
 pub mod Faults
