@@ -1,7 +1,8 @@
 -- The tables of types: the numbers of names, first declarations and parents.
-use Rattle.std.proofs.Common.{◌≡◌, ◌≢◌, ◌⊎◌, ℕ, zero, suc, ◌+◌, ◌*◌, ◌<◌, ◌≤◌, ◌||◌, ◌&&◌, not, nat_lt, Bool, true, false, List, [], ◌∷◌, ◌++◌, Option, Some, None, is_some, length, get_or, slice_get, drop, replicate, cond, map, refl, sym, ap, ◌∙◌, subst, inl, inr, arith}
-use Rattle.std.specs.Prelude.{option_and_then, option_map, slice_index_or, slice_set, find, is_none, if◌then◌else◌}
-use Rattle.std.specs.List.{list_any, list_all, flat_map}
+use Rattle.std.proofs.Common.{◌≡◌, ◌≢◌, ◌⊎◌, ℕ, zero, suc, ◌+◌, ◌*◌, ◌<◌, ◌≤◌, ◌||◌, ◌&&◌, not, nat_lt, Bool, true, false, List, [], ◌∷◌, ◌++◌, Option, Some, None, is_some, length, get_or, slice_get, drop, replicate, cond, map, refl, sym, ap, ◌∙◌, subst, zero-add, inl, inr, arith}
+use Rattle.std.specs.Prelude.{option_and_then, option_map, slice_index_or, slice_set, find, position, is_none, if◌then◌else◌}
+use Rattle.std.specs.List.{list_any, list_all, flat_map, position_from}
+use Rattle.std.proofs.lemmas.Iterator.Adapters.{position_from-zero}
 use Rattle.std.specs.Option.{option_or, option_map_or}
 use Rattle.std.specs.Str.{bytes_eq}
 use Rattle.std.specs.Cmp.Lexicographic.{bytes_decides}
@@ -15,7 +16,7 @@ use Rattle.std.proofs.lemmas.List.{at_drop_more}
 use Rattle.std.proofs.lemmas.Option.{slice_get_within, get_or_from_slice_get, slice_get-get_or}
 use Rattle.fond_ast.specs.declared.names.TypedName.{TypedName}
 use Rattle.fond_lookup.specs.Texts.{number_beside}
-use Rattle.fond_kinds.specs.Kinds.{root, only_kind, is_passed_over, type_of, parent_of}
+use Rattle.fond_kinds.specs.Kinds.{root, only_kind, is_passed_over, declares, type_of, parent_of}
 use Rattle.fond_kinds.specs.Parents.{are_within}
 use Rattle.fond_kinds.specs.Tables.{type_names, number_of, put_first, firsts_with}
 use Rattle.fond_kinds.proofs.Types.{named, number_within, same_name, known, some_is, or-true}
@@ -41,19 +42,14 @@ pub names_long : (types : List TypedName) → length (type_names types) ≡ 2 * 
 names_long [] = refl
 names_long (one ∷ types) = let later : length (type_names types) ≡ 2 * length types + 1 = names_long types in omega (arith, later)
 
--- the first declaration of a number
-abbrev pub first_at : List TypedName → List (Option ℕ) → ℕ → Option TypedName
-first_at types firsts number = option_and_then (λ at. slice_get types at) (slice_index_or firsts number None)
+-- the first index of a declaration of a type, among those from an index on
+abbrev pub first_from : List TypedName → ℕ → List ℕ → Option ℕ
+first_from types i name = position_from (declares name) i (drop i types)
 
--- the test of the first declarations of a type
-abbrev pub declares : List ℕ → TypedName → Bool
-declares name declared = bytes_eq declared.name name && not (is_passed_over declared)
-
--- the first declarations before an index, together with the rest, give the first declaration of each type
+-- the indexes of the first declarations before an index, together with the rest, are those of all
 pub record AreFirsts (types : List TypedName) (firsts : List (Option ℕ)) (i : ℕ) : Type 0 where
   pub over : length firsts ≡ length (type_names types)
-  pub within : (number at : ℕ) → slice_index_or firsts number None ≡ Some at → at < length types
-  pub whole : (name : List ℕ) (number : ℕ) → number_of types name ≡ Some number → option_or (first_at types firsts number) (find (declares name) (drop i types)) ≡ type_of types name
+  pub whole : (name : List ℕ) (number : ℕ) → number_of types name ≡ Some number → option_or (slice_index_or firsts number None) (first_from types i name) ≡ first_from types 0 name
 
 drop_at : {X : Type 0} (xs : List X) (i : ℕ) (x : X) → slice_get xs i ≡ Some x → drop i xs ≡ x ∷ drop (i + 1) xs
 drop_at xs i x at = at_drop_more (λ rest. rest) xs i x (slice_get_within xs i x at) ∙ ap (λ y. y ∷ drop (i + 1) xs) (get_or_from_slice_get xs i x x at)
@@ -67,13 +63,6 @@ none_or_some None = inl refl
 none_or_some (Some x) = inr (x, refl)
 
 module _ (types : List TypedName) (numbers : List (List ℕ × ℕ)) (numbered : (name : List ℕ) → number_beside numbers name ≡ number_of types name) where
-  -- a declaration that declares nothing changes no first declaration
-  passes : (name : List ℕ) (declared : TypedName) (rest : List TypedName) → declares name declared ≡ false → find (declares name) (declared ∷ rest) ≡ find (declares name) rest
-  passes name declared rest off = ap (λ b. cond b (Some declared) (find (declares name) rest)) off
-
-  takes : (name : List ℕ) (declared : TypedName) (rest : List TypedName) → declares name declared ≡ true → find (declares name) (declared ∷ rest) ≡ Some declared
-  takes name declared rest on = ap (λ b. cond b (Some declared) (find (declares name) rest)) on
-
   and-false : (b : Bool) → (b && false) ≡ false
   and-false true = refl
   and-false false = refl
@@ -83,16 +72,21 @@ module _ (types : List TypedName) (numbers : List (List ℕ × ℕ)) (numbered :
   and-true false = refl
 
   module _ (firsts : List (Option ℕ)) (i : ℕ) (declared : TypedName) (is : slice_get types i ≡ Some declared) (are : AreFirsts types firsts i) where
-    rest_is : (name : List ℕ) → find (declares name) (drop i types) ≡ find (declares name) (declared ∷ drop (i + 1) types)
-    rest_is name = ap (find (declares name)) (drop_at types i declared is)
+    rest_is : (name : List ℕ) → first_from types i name ≡ cond (declares name declared) (Some i) (first_from types (i + 1) name)
+    rest_is name = ap (position_from (declares name) i) (drop_at types i declared is)
+
+    passes : (name : List ℕ) → declares name declared ≡ false → first_from types i name ≡ first_from types (i + 1) name
+    passes name off = rest_is name ∙ ap (λ b. cond b (Some i) (first_from types (i + 1) name)) off
+
+    takes : (name : List ℕ) → declares name declared ≡ true → first_from types i name ≡ Some i
+    takes name on = rest_is name ∙ ap (λ b. cond b (Some i) (first_from types (i + 1) name)) on
 
     passed : is_passed_over declared ≡ true → AreFirsts types firsts (i + 1)
     passed over = record {
       over = are.over;
-      within = are.within;
       whole = λ name number known.
         let off : declares name declared ≡ false = ap (λ b. bytes_eq declared.name name && not b) over ∙ and-false (bytes_eq declared.name name) in
-        ap (λ o. option_or (first_at types firsts number) o) (sym (rest_is name ∙ passes name declared (drop (i + 1) types) off)) ∙ are.whole name number known;
+        ap (λ o. option_or (slice_index_or firsts number None) o) (sym (passes name off)) ∙ are.whole name number known;
     }
 
     module _ (on : is_passed_over declared ≡ false) (number : ℕ) (known : number_of types declared.name ≡ Some number) where
@@ -112,13 +106,11 @@ module _ (types : List TypedName) (numbers : List (List ℕ × ℕ)) (numbered :
       kept : (at : ℕ) → slice_index_or firsts number None ≡ Some at → AreFirsts types firsts (i + 1)
       kept at there = record {
         over = are.over;
-        within = are.within;
         whole = λ name other other_known. elim (cases_eq other number) [
           | inl same ↦
-              let first : first_at types firsts other ≡ slice_get types at = ap (λ n. first_at types firsts n) same ∙ ap (λ o. option_and_then (λ k. slice_get types k) o) there in
-              let found : slice_get types at ≡ Some (get_or types at declared) = slice_get-get_or types at declared (are.within number at there) in
-              ap (λ o. option_or o (find (declares name) (drop (i + 1) types))) (first ∙ found) ∙ sym (ap (λ o. option_or o (find (declares name) (drop i types))) (first ∙ found)) ∙ are.whole name other other_known
-          | inr differ ↦ ap (λ o. option_or (first_at types firsts other) o) (sym (rest_is name ∙ passes name declared (drop (i + 1) types) (others name other other_known differ))) ∙ are.whole name other other_known
+              let first : slice_index_or firsts other None ≡ Some at = ap (λ n. slice_index_or firsts n None) same ∙ there in
+              ap (λ o. option_or o (first_from types (i + 1) name)) first ∙ sym (ap (λ o. option_or o (first_from types i name)) first) ∙ are.whole name other other_known
+          | inr differ ↦ ap (λ o. option_or (slice_index_or firsts other None) o) (sym (passes name (others name other other_known differ))) ∙ are.whole name other other_known
         ];
       }
 
@@ -126,24 +118,16 @@ module _ (types : List TypedName) (numbers : List (List ℕ × ℕ)) (numbered :
       put : slice_index_or firsts number None ≡ None → AreFirsts types (slice_set firsts number (Some i)) (i + 1)
       put none = record {
         over = length-set firsts number (Some i) ∙ are.over;
-        within = λ other at there. elim (cases_eq other number) [
-          | inl same ↦
-              let new : Some i ≡ Some at = sym (get_or-set_same firsts number (Some i) None inside) ∙ ap (λ n. slice_index_or (slice_set firsts number (Some i)) n None) (sym same) ∙ there in
-              let equal : i ≡ at = cc in subst (λ z. z < length types) equal (slice_get_within types i declared is)
-          | inr differ ↦ are.within other at (sym (get_or-set_other firsts number other (Some i) None differ) ∙ there)
-        ];
         whole = λ name other other_known. elim (cases_eq other number) [
           | inl same ↦
-              let first : first_at types (slice_set firsts number (Some i)) other ≡ Some declared =
-                ap (λ n. first_at types (slice_set firsts number (Some i)) n) same ∙ ap (λ o. option_and_then (λ k. slice_get types k) o) (get_or-set_same firsts number (Some i) None inside) ∙ is in
+              let first : slice_index_or (slice_set firsts number (Some i)) other None ≡ Some i = ap (λ n. slice_index_or (slice_set firsts number (Some i)) n None) same ∙ get_or-set_same firsts number (Some i) None inside in
               let equal : name ≡ declared.name = same_name types name declared.name number (other_known ∙ ap (λ n. Some n) same) known in
-              let before : find (declares name) (drop i types) ≡ Some declared = rest_is name ∙ takes name declared (drop (i + 1) types) (subst (λ z. declares z declared ≡ true) (sym equal) its) in
-              let empty : first_at types firsts other ≡ None = ap (λ n. first_at types firsts n) same ∙ ap (λ o. option_and_then (λ k. slice_get types k) o) none in
-              ap (λ o. option_or o (find (declares name) (drop (i + 1) types))) first ∙ sym before ∙ sym (ap (λ o. option_or o (find (declares name) (drop i types))) empty) ∙ are.whole name other other_known
+              let before : first_from types i name ≡ Some i = takes name (subst (λ z. declares z declared ≡ true) (sym equal) its) in
+              let empty : slice_index_or firsts other None ≡ None = ap (λ n. slice_index_or firsts n None) same ∙ none in
+              ap (λ o. option_or o (first_from types (i + 1) name)) first ∙ sym before ∙ sym (ap (λ o. option_or o (first_from types i name)) empty) ∙ are.whole name other other_known
           | inr differ ↦
-              let first : first_at types (slice_set firsts number (Some i)) other ≡ first_at types firsts other = ap (λ o. option_and_then (λ k. slice_get types k) o) (get_or-set_other firsts number other (Some i) None differ) in
-              ap (λ o. option_or o (find (declares name) (drop (i + 1) types))) first
-              ∙ ap (λ o. option_or (first_at types firsts other) o) (sym (rest_is name ∙ passes name declared (drop (i + 1) types) (others name other other_known differ))) ∙ are.whole name other other_known
+              ap (λ o. option_or o (first_from types (i + 1) name)) (get_or-set_other firsts number other (Some i) None differ)
+              ∙ ap (λ o. option_or (slice_index_or firsts other None) o) (sym (passes name (others name other other_known differ))) ∙ are.whole name other other_known
         ];
       }
         where
@@ -201,19 +185,35 @@ nothing n number = elim (cases_order number n) [
 pub firsts_none : (types : List TypedName) (firsts : List (Option ℕ)) → firsts ≡ replicate (2 * length types + 1) None → AreFirsts types firsts 0
 firsts_none types firsts empty = record {
   over = ap length empty ∙ length-replicate (2 * length types + 1) None ∙ sym (names_long types);
-  within = λ number at there. let clash : None ≡ Some at = sym (ap (λ z. slice_index_or z number None) empty ∙ nothing (2 * length types + 1) number) ∙ there in cc;
-  whole = λ name number known. ap (λ o. option_or (option_and_then (λ k. slice_get types k) o) (find (declares name) types)) (ap (λ z. slice_index_or z number None) empty ∙ nothing (2 * length types + 1) number);
+  whole = λ name number known. ap (λ o. option_or o (first_from types 0 name)) (ap (λ z. slice_index_or z number None) empty ∙ nothing (2 * length types + 1) number);
 }
 
 -- after the last declaration each type has its first one
-pub firsts_all : (types : List TypedName) (firsts : List (Option ℕ)) (i : ℕ) → length types ≤ i → AreFirsts types firsts i → (name : List ℕ) (number : ℕ) → number_of types name ≡ Some number → first_at types firsts number ≡ type_of types name
+pub firsts_all : (types : List TypedName) (firsts : List (Option ℕ)) (i : ℕ) → length types ≤ i → AreFirsts types firsts i → (name : List ℕ) (number : ℕ) → number_of types name ≡ Some number → slice_index_or firsts number None ≡ position (declares name) types
 firsts_all types firsts i end are name number known =
     let none : drop i types ≡ [] = grind (arith, common_steps) in
-    sym (or_none (first_at types firsts number)) ∙ sym (ap (λ rest. option_or (first_at types firsts number) (find (declares name) rest)) none) ∙ are.whole name number known
+    sym (or_nothing (slice_index_or firsts number None)) ∙ sym (ap (λ rest. option_or (slice_index_or firsts number None) (position_from (declares name) i rest)) none) ∙ are.whole name number known
+    ∙ sym (position_from-zero (declares name) types)
   where
-    or_none : (first : Option TypedName) → option_or first None ≡ first
-    or_none None = refl
-    or_none (Some declared) = refl
+    or_nothing : (first : Option ℕ) → option_or first None ≡ first
+    or_nothing None = refl
+    or_nothing (Some declared) = refl
+
+-- what is found is at the first index
+module _ {X : Type 0} (p : X → Bool) (all : List X) where
+  found_from : (xs : List X) (i : ℕ) → ((k : ℕ) → slice_get all (i + k) ≡ slice_get xs k) → option_and_then (λ k. slice_get all k) (position_from p i xs) ≡ find p xs
+  found_from [] i at = refl
+  found_from (x ∷ xs) i at =
+      let first : slice_get all i ≡ Some x = ap (slice_get all) (omega arith) ∙ at zero in
+      by x xs i first (p x) (found_from xs (i + 1) (λ k. ap (slice_get all) (omega arith) ∙ at (suc k)))
+    where
+      by : (x : X) (xs : List X) (i : ℕ) → slice_get all i ≡ Some x → (b : Bool) → option_and_then (λ k. slice_get all k) (position_from p (i + 1) xs) ≡ find p xs
+          → option_and_then (λ k. slice_get all k) (cond b (Some i) (position_from p (i + 1) xs)) ≡ cond b (Some x) (find p xs)
+      by x xs i first true later = first
+      by x xs i first false later = later
+
+  pub find_at : option_and_then (λ k. slice_get all k) (position p all) ≡ find p all
+  find_at = ap (λ o. option_and_then (λ k. slice_get all k) o) (position_from-zero p all) ∙ found_from all 0 (λ k. ap (slice_get all) (zero-add k))
 
 -- the number of the parent in a first declaration
 abbrev pub parent_number : List TypedName → List (List ℕ × ℕ) → Option ℕ → Option ℕ
@@ -221,10 +221,10 @@ parent_number types numbers first = option_and_then (λ declared. number_beside 
 
 -- the parents by number are the numbers of the parents
 pub parents_ascend : (types : List TypedName) (numbers : List (List ℕ × ℕ)) (firsts : List (Option ℕ)) → ((name : List ℕ) → number_beside numbers name ≡ number_of types name)
-    → ((name : List ℕ) (number : ℕ) → number_of types name ≡ Some number → first_at types firsts number ≡ type_of types name)
+    → ((name : List ℕ) (number : ℕ) → number_of types name ≡ Some number → slice_index_or firsts number None ≡ position (declares name) types)
     → (name : List ℕ) (number : ℕ) → number_of types name ≡ Some number → parent_number types numbers (slice_index_or firsts number None) ≡ option_and_then (number_of types) (parent_of types name)
 parents_ascend types numbers firsts numbered declared name number known =
-    ap (λ o. option_and_then (λ one. number_beside numbers (only_kind one)) o) (declared name number known) ∙ by (type_of types name)
+    ap (λ o. option_and_then (λ one. number_beside numbers (only_kind one)) o) (ap (λ o. option_and_then (λ at. slice_get types at) o) (declared name number known) ∙ find_at (declares name) types) ∙ by (type_of types name)
   where
     by : (o : Option TypedName) → option_and_then (λ one. number_beside numbers (only_kind one)) o ≡ option_and_then (number_of types) (option_map only_kind o)
     by None = refl

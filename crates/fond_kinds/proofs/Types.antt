@@ -8,7 +8,7 @@ use Rattle.std.specs.Cmp.Lexicographic.{nat_list_eq_equiv, bytes_decides}
 use Rattle.std.proofs.lemmas.Iterator.Adapters.{position_from-zero}
 use Rattle.std.proofs.lemmas.List.Quantifiers.{position-Some}
 use Rattle.fond_ast.specs.declared.names.TypedName.{TypedName}
-use Rattle.fond_kinds.specs.Kinds.{root, only_kind, is_passed_over, type_of, parent_of, is_type, IsAncestor, parent, onward, IsSubtype}
+use Rattle.fond_kinds.specs.Kinds.{root, only_kind, is_passed_over, declares, type_of, parent_of, is_type, IsAncestor, parent, onward, IsSubtype}
 use Rattle.fond_kinds.specs.Parents as numbers
 use Rattle.fond_kinds.specs.Parents.{IsBelow, here, up}
 use Rattle.fond_kinds.specs.Tables.{type_names, number_of}
@@ -92,7 +92,7 @@ parent_numbered types name above is = by (type_of types name) refl
         let same : only_kind declared ≡ above = cc in
         let itself : bytes_eq (only_kind declared) above ≡ true = (bytes_decides (only_kind declared) above).1 same in
         let either : (bytes_eq declared.name above || bytes_eq (only_kind declared) above) ≡ true = ap (λ b. bytes_eq declared.name above || b) itself ∙ or-true (bytes_eq declared.name above) in
-        let any = found_any (λ one. bytes_eq one.name name && not (is_passed_over one)) (λ one. bytes_eq one.name above || bytes_eq (only_kind one) above) types declared found either in
+        let any = found_any (declares name) (λ one. bytes_eq one.name above || bytes_eq (only_kind one) above) types declared found either in
         let type : is_type types above ≡ true = ap (λ b. bytes_eq above root || b) any ∙ or-true (bytes_eq above root) in
         some_is (number_of types above) (known types above ∙ type)
 

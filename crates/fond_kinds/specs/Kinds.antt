@@ -28,9 +28,13 @@ begins_at place (kind ∷ kinds) = kind.place.line == place.line && kind.place.c
 abbrev pub is_passed_over : TypedName → Bool
 is_passed_over declared = bytes_eq declared.name root && begins_at declared.place declared.kinds
 
+-- whether a type is declared with this name
+abbrev pub declares : List ℕ → TypedName → Bool
+declares name declared = bytes_eq declared.name name && not (is_passed_over declared)
+
 -- the first declaration of a type
 abbrev pub type_of : List TypedName → List ℕ → Option TypedName
-type_of types name = find (λ declared. bytes_eq declared.name name && not (is_passed_over declared)) types
+type_of types name = find (declares name) types
 
 -- the parent with which a type is first declared
 abbrev pub parent_of : List TypedName → List ℕ → Option (List ℕ)

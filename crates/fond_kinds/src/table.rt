@@ -1,6 +1,6 @@
 //! Declared types by their numbers.
 
-ghost use Rattle.fond_kinds.specs.Kinds.{is_passed_over, is_type, only_kind as only_kind_of, parent_of as parent_of_type, type_of, IsSubtype};
+ghost use Rattle.fond_kinds.specs.Kinds.{declares, is_passed_over, is_type, only_kind as only_kind_of, parent_of as parent_of_type, IsSubtype};
 ghost use Rattle.fond_kinds.specs.Parents.{are_within, parent_of};
 ghost use Rattle.fond_kinds.specs.Tables.{IsNumber, firsts_with, number_of, type_names};
 ghost use Rattle.fond_lookup.specs.Texts.{number_beside, with_text};
@@ -8,7 +8,7 @@ ghost use Rattle.fond_text.specs.declared.code.TheConstants.{LONGEST_TEXT};
 ghost use Rattle.std.specs.Bool.{Decides};
 ghost use Rattle.std.specs.List.{list_all};
 ghost use Rattle.std.specs.Option.{is_some};
-ghost use Rattle.std.specs.Prelude.{◌≡◌, ◌<◌, ◌≤◌, ◌^◌, ℕ, List, IsTrue, Some, None, true, length, option_and_then, replicate, slice_get, slice_index_or, vec_len, IfOk, OnOk};
+ghost use Rattle.std.specs.Prelude.{◌≡◌, ◌<◌, ◌≤◌, ◌^◌, ℕ, List, IsTrue, Some, None, true, length, option_and_then, position, replicate, slice_get, slice_index_or, vec_len, IfOk, OnOk};
 
 use crate::ancestry::Ancestry;
 use fond_ast::names::{TypedName, TypedNames};
@@ -25,7 +25,7 @@ pub struct TypeTable<'a> {
     ancestry: Ancestry,
     ghost numbered: { (name : List ℕ) → number_beside numbers name ≡ number_of types.now name },
     pub(crate) ghost declared: { (name : List ℕ) (number : ℕ) → number_of types.now name ≡ Some number
-        → option_and_then (λ at. slice_get types.now at) (slice_index_or firsts.items number None) ≡ type_of types.now name },
+        → slice_index_or firsts.items number None ≡ position (declares name) types.now },
     ghost ascends: { (name : List ℕ) (number : ℕ) → number_of types.now name ≡ Some number
         → parent_of ancestry number ≡ option_and_then (number_of types.now) (parent_of_type types.now name) },
     ghost over: { length ancestry ≡ length (type_names types.now) },
@@ -118,7 +118,7 @@ fn firsts_of(
     requires few { length types.now ≤ LONGEST_TEXT }
     requires numbered { (name : List ℕ) → number_beside numbers.now name ≡ number_of types.now name }
     ensures declared { IfOk result (λ firsts. (name : List ℕ) (number : ℕ) → number_of types.now name ≡ Some number
-        → option_and_then (λ at. slice_get types.now at) (slice_index_or firsts.items number None) ≡ type_of types.now name) }
+        → slice_index_or firsts.items number None ≡ position (declares name) types.now) }
     ensures over { IfOk result (λ firsts. length firsts.items ≡ length (type_names types.now)) }
 {
     let mut firsts = nothing(alloc, 2 * types.len() + 1)?;
@@ -137,7 +137,7 @@ fn parents_of(
 ) -> Result<Vec<Option<u32>>, NoMemory>
     requires numbered { (name : List ℕ) → number_beside numbers.now name ≡ number_of types.now name }
     requires declared { (name : List ℕ) (number : ℕ) → number_of types.now name ≡ Some number
-        → option_and_then (λ at. slice_get types.now at) (slice_index_or firsts.now number None) ≡ type_of types.now name }
+        → slice_index_or firsts.now number None ≡ position (declares name) types.now }
     ensures ascends { IfOk result (λ parents. (name : List ℕ) (number : ℕ) → number_of types.now name ≡ Some number
         → parent_of parents.items number ≡ option_and_then (number_of types.now) (parent_of_type types.now name)) }
     ensures over { IfOk result (λ parents. length parents.items ≡ length firsts.now) }
