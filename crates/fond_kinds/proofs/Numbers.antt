@@ -51,7 +51,7 @@ pub record AreFirsts (types : List TypedName) (firsts : List (Option ℕ)) (i : 
   pub over : length firsts ≡ length (type_names types)
   pub whole : (name : List ℕ) (number : ℕ) → number_of types name ≡ Some number → option_or (slice_index_or firsts number None) (first_from types i name) ≡ first_from types 0 name
 
-drop_at : {X : Type 0} (xs : List X) (i : ℕ) (x : X) → slice_get xs i ≡ Some x → drop i xs ≡ x ∷ drop (i + 1) xs
+pub drop_at : {X : Type 0} (xs : List X) (i : ℕ) (x : X) → slice_get xs i ≡ Some x → drop i xs ≡ x ∷ drop (i + 1) xs
 drop_at xs i x at = at_drop_more (λ rest. rest) xs i x (slice_get_within xs i x at) ∙ ap (λ y. y ∷ drop (i + 1) xs) (get_or_from_slice_get xs i x x at)
 
 bool_cases : (b : Bool) → (b ≡ true) ⊎ (b ≡ false)
@@ -85,8 +85,8 @@ module _ (types : List TypedName) (numbers : List (List ℕ × ℕ)) (numbered :
     passed over = record {
       over = are.over;
       whole = λ name number known.
-        let off : declares name declared ≡ false = ap (λ b. bytes_eq declared.name name && not b) over ∙ and-false (bytes_eq declared.name name) in
-        ap (λ o. option_or (slice_index_or firsts number None) o) (sym (passes name off)) ∙ are.whole name number known;
+          let off : declares name declared ≡ false = ap (λ b. bytes_eq declared.name name && not b) over ∙ and-false (bytes_eq declared.name name) in
+          ap (λ o. option_or (slice_index_or firsts number None) o) (sym (passes name off)) ∙ are.whole name number known;
     }
 
     module _ (on : is_passed_over declared ≡ false) (number : ℕ) (known : number_of types declared.name ≡ Some number) where
@@ -95,12 +95,12 @@ module _ (types : List TypedName) (numbers : List (List ℕ × ℕ)) (numbered :
 
       others : (name : List ℕ) (other : ℕ) → number_of types name ≡ Some other → other ≢ number → declares name declared ≡ false
       others name other other_known differ = elim (bool_cases (bytes_eq declared.name name)) [
-          | inl same ↦
-              let equal : declared.name ≡ name = (bytes_decides declared.name name).0 same in
-              let clash : Some other ≡ Some number = sym other_known ∙ ap (number_of types) (sym equal) ∙ known in
-              let is_same : other ≡ number = cc in absurd (differ is_same)
-          | inr off ↦ ap (λ b. b && not (is_passed_over declared)) off
-        ]
+        | inl same ↦
+            let equal : declared.name ≡ name = (bytes_decides declared.name name).0 same in
+            let clash : Some other ≡ Some number = sym other_known ∙ ap (number_of types) (sym equal) ∙ known in
+            let is_same : other ≡ number = cc in absurd (differ is_same)
+        | inr off ↦ ap (λ b. b && not (is_passed_over declared)) off
+      ]
 
       -- an earlier declaration stays the first
       kept : (at : ℕ) → slice_index_or firsts number None ≡ Some at → AreFirsts types firsts (i + 1)
@@ -135,7 +135,7 @@ module _ (types : List TypedName) (numbers : List (List ℕ × ℕ)) (numbered :
           inside = let low : number < length (type_names types) = number_within types declared.name number known in let same : length firsts ≡ length (type_names types) = are.over in omega arith
 
 -- some item passes a test that an item passes
-any_at : {X : Type 0} (p : X → Bool) (xs : List X) (i : ℕ) (x : X) → slice_get xs i ≡ Some x → p x ≡ true → list_any p xs ≡ true
+pub any_at : {X : Type 0} (p : X → Bool) (xs : List X) (i : ℕ) (x : X) → slice_get xs i ≡ Some x → p x ≡ true → list_any p xs ≡ true
 any_at p [] i x is pass = cc
 any_at p (y ∷ ys) zero x is pass = let same : y ≡ x = cc in ap (λ b. b || list_any p ys) (ap p same ∙ pass)
 any_at p (y ∷ ys) (suc i) x is pass = ap (λ b. p y || b) (any_at p ys i x is pass) ∙ or-true (p y)
@@ -175,9 +175,9 @@ no_index = None
 -- before any declaration there is none
 nothing : (n number : ℕ) → slice_index_or (replicate n (no_index)) number None ≡ no_index
 nothing n number = elim (cases_order number n) [
-    | inl same ↦ past (omega arith)
-    | inr rest ↦ elim rest [ inl low ↦ get_or-replicate n number no_index None low | inr late ↦ past (omega arith) ]
-  ]
+  | inl same ↦ past (omega arith)
+  | inr rest ↦ elim rest [ inl low ↦ get_or-replicate n number no_index None low | inr late ↦ past (omega arith) ]
+]
   where
     past : n ≤ number → slice_index_or (replicate n no_index) number None ≡ no_index
     past late = let long : length (replicate n no_index) ≤ number = rw length-replicate late in get_or_past (replicate n no_index) number None long

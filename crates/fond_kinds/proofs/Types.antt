@@ -137,3 +137,28 @@ module _ (types : List TypedName) (parents : List (Option ℕ)) (ascends : (name
 
   pub below_subtype : (name above : List ℕ) (n m : ℕ) → number_of types name ≡ Some n → number_of types above ≡ Some m → IsBelow parents n m → IsSubtype types name above
   below_subtype name above n m one two below = elim (above_ancestor n m below name above one two) [ inl same ↦ inl same | inr more ↦ inr (inl more) ]
+
+  -- a type is its own ancestor if and only if it is above its parent by number
+  pub own_ancestor : (name : List ℕ) (n p : ℕ) → number_of types name ≡ Some n → numbers.parent_of parents n ≡ Some p → IsBelow parents p n → IsAncestor types name name
+  own_ancestor name n p one next below = by (parent_of types name) refl
+    where
+      by : (o : Option (List ℕ)) → parent_of types name ≡ o → IsAncestor types name name
+      by None none = let clash : Some p ≡ None = sym next ∙ ascends name n one ∙ ap (λ o. option_and_then (number_of types) o) none in cc
+      by (Some middle) is =
+          let number : number_of types middle ≡ Some p = sym (ascends name n one ∙ ap (λ o. option_and_then (number_of types) o) is) ∙ next in
+          elim (above_ancestor p n below middle name number one) [
+            | inl same ↦ parent name name (is ∙ ap (λ z. Some z) same)
+            | inr more ↦ onward name middle name is more
+          ]
+
+  pub own_ancestor_below : (name : List ℕ) (n p : ℕ) → number_of types name ≡ Some n → numbers.parent_of parents n ≡ Some p → IsAncestor types name name → IsBelow parents p n
+  own_ancestor_below name n p one next own =
+      let (q, its, below) = ancestor_above name name n n one one own in
+      let both : Some q ≡ Some p = sym its ∙ next in
+      let same : q ≡ p = cc in
+      subst (λ z. IsBelow parents z n) same below
+
+  pub not_own_ancestor : (name : List ℕ) (n : ℕ) → number_of types name ≡ Some n → numbers.parent_of parents n ≡ None → IsAncestor types name name → ⊥
+  not_own_ancestor name n one none own =
+      let (q, its, below) = ancestor_above name name n n one one own in
+      let clash : Some q ≡ None = sym its ∙ none in cc

@@ -1,6 +1,6 @@
 //! Declared types by their numbers.
 
-ghost use Rattle.fond_kinds.specs.Kinds.{declares, is_passed_over, is_type, only_kind as only_kind_of, parent_of as parent_of_type, IsSubtype};
+ghost use Rattle.fond_kinds.specs.Kinds.{declares, IsAncestor, is_passed_over, is_type, only_kind as only_kind_of, parent_of as parent_of_type, IsSubtype};
 ghost use Rattle.fond_kinds.specs.Parents.{are_within, parent_of};
 ghost use Rattle.fond_kinds.specs.Tables.{IsNumber, firsts_with, number_of, type_names};
 ghost use Rattle.fond_lookup.specs.Texts.{number_beside, with_text};
@@ -11,6 +11,7 @@ ghost use Rattle.std.specs.Option.{is_some};
 ghost use Rattle.std.specs.Prelude.{◌≡◌, ◌<◌, ◌≤◌, ◌^◌, ℕ, List, IsTrue, Some, None, true, length, option_and_then, position, replicate, slice_get, slice_index_or, vec_len, IfOk, OnOk};
 
 use crate::ancestry::Ancestry;
+use crate::links::parent_at;
 use fond_ast::names::{TypedName, TypedNames};
 use fond_lookup::text_index::TextIndex;
 use fond_text::fault::NoMemory;
@@ -185,5 +186,30 @@ impl<'a> TypeTable<'a> {
             → Decides result (IsSubtype self.now.types.now name above) }
     {
         other == 0 || self.ancestry.is_below(number, other)
+    }
+
+    /// The index of the first declaration of a type.
+    pub(crate) fn first(&self, name: &[u8]) -> Option<u32>
+        requires { (number : ℕ) × (number_of self.now.types.now name.now ≡ Some number) }
+        ensures { result ≡ position (declares name.now) self.now.types.now }
+    {
+        match self.numbers.find(name) {
+            Some(number) => parent_at(&self.firsts, number),
+            None => unreachable!(),
+        }
+    }
+
+    /// Whether a type is its own ancestor.
+    pub(crate) fn is_own_ancestor(&self, name: &[u8]) -> bool
+        requires { (number : ℕ) × (number_of self.now.types.now name.now ≡ Some number) }
+        ensures { Decides result (IsAncestor self.now.types.now name.now name.now) }
+    {
+        match self.numbers.find(name) {
+            Some(number) => match self.ancestry.parent(number) {
+                Some(parent) => self.ancestry.is_below(parent, number),
+                None => false,
+            },
+            None => unreachable!(),
+        }
     }
 }
