@@ -1,0 +1,6 @@
+pub mod States
+pub mod Conditions
+pub mod Effects
+pub mod Choices
+pub mod Successors
+pub mod Laws
