@@ -66,9 +66,20 @@ fn put_all(entries: &Outcome, cube: &Cube, adds: bool, out: &mut Cube)
     }
 }
 
-/// Makes `out` the image of the cube under this outcome of the action. Deletes come first, so that an add wins, and
-/// each condition has its value on `cube`. Takes time in the number of atoms and the size of the outcome, and no
-/// memory.
+/// Makes `out` the image of the cube under these entries. Deletes come first, so that an add wins, and each condition
+/// has its value on `cube`. Takes time in the number of atoms and the size of the entries, and no memory.
+pub fn image_of(cube: &Cube, entries: &Outcome, out: &mut Cube)
+    requires within { IsTrue (list_all (is_entry_within (length cube.now)) entries.now) }
+    requires long { length out.old ≡ length cube.now }
+    ensures same_length { length out.new ≡ length cube.now }
+    ensures image { out.new ≡ image cube.now entries.now }
+{
+    out.copy_from(cube);
+    put_all(entries, cube, false, out);
+    put_all(entries, cube, true, out);
+}
+
+/// Makes `out` the image of the cube under this outcome of the action, as `image_of` does.
 pub fn image_into(task: &Task, cube: &Cube, act: u32, outcome: u32, out: &mut Cube)
     requires long { length cube.now ≡ length task.now.atoms }
     requires out_long { length out.old ≡ length task.now.atoms }
@@ -78,7 +89,5 @@ pub fn image_into(task: &Task, cube: &Cube, act: u32, outcome: u32, out: &mut Cu
     ensures next { (a : Act) (entries : List Entry) → slice_get task.now.acts act ≡ Some a → slice_get a.outcomes outcome ≡ Some entries → out.new ≡ image cube.now entries }
 {
     let entries = task.acts.get(act as usize).outcomes.get(outcome as usize);
-    out.copy_from(cube);
-    put_all(entries, cube, false, out);
-    put_all(entries, cube, true, out);
+    image_of(cube, entries, out);
 }
