@@ -4,4 +4,9 @@
 #![tactic(auto)]
 
 pub mod laws;
+pub mod pad;
+pub mod pairs;
 pub mod rules;
+mod setting;
+pub mod sure_pairs;
+pub mod sure_rules;
