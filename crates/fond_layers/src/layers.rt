@@ -6,7 +6,7 @@ ghost use Rattle.fond_layers.specs.Deads.{IsFirstCube, IsFirstDead};
 ghost use Rattle.fond_layers.specs.Faults.{IsSpot, IsLayerFault};
 ghost use Rattle.fond_layers.specs.Over.{IsOver, AreOver};
 ghost use Rattle.fond_state.specs.Cubes.{LiesIn};
-ghost use Rattle.std.specs.Prelude.{◌≡◌, ◌<◌, ◌-◌, ◌^◌, List, [], ◌∷◌, ◌++◌, length, take, slice_get, Some, Contains, MatchOption, IfErr, OnOk, OnErr};
+ghost use Rattle.std.specs.Prelude.{◌≡◌, ◌<◌, ◌-◌, ◌^◌, List, [], ◌∷◌, ◌++◌, length, take, slice_get, Some, Contains, Decides, MatchOption, IfErr, OnOk, OnErr};
 
 use crate::fault::{LayerFault, Spot};
 use crate::sure::spot;
@@ -37,6 +37,18 @@ impl Model for Layers {
     ghost view = { λ l. l.items.items };
 
     ghost invariant = { λ l. (length l.items.items < 2 ^ 32) × All (λ layer. length layer < 2 ^ 32) l.items.items };
+}
+
+/// Whether the cubes of the layer are over this many atoms. Takes time in their number.
+pub fn is_over(layer: &Layer, atoms: usize) -> bool
+    ensures { Decides result (IsOver atoms layer.now) }
+{
+    for cube in layer.as_slice() {
+        if cube.len() != atoms {
+            return false;
+        }
+    }
+    true
 }
 
 /// The number of the layer's first cube in which the state lies, if there is one.
@@ -88,6 +100,18 @@ impl Layers {
     {
         self.items.push(l)?;
         Ok(())
+    }
+
+    /// Whether the cubes of all layers are over this many atoms. Takes time in their number.
+    pub fn are_over(&self, atoms: usize) -> bool
+        ensures { Decides result (AreOver atoms self.now) }
+    {
+        for layer in self.items.as_slice() {
+            if !is_over(layer, atoms) {
+                return false;
+            }
+        }
+        true
     }
 
     /// The numbers of the first layer with a cube in which the state lies, and of the first such cube of it. Takes time

@@ -76,6 +76,18 @@ impl Pairs {
         &self.items[i as usize].pair
     }
 
+    /// Whether the conditions of all pairs are over this many atoms. Takes time in the number of pairs.
+    pub fn are_over(&self, atoms: usize) -> bool
+        ensures { Decides result (ArePairsOver atoms self.now) }
+    {
+        for linked in self.items.as_slice() {
+            if linked.pair.cond.len() != atoms {
+                return false;
+            }
+        }
+        true
+    }
+
     /// Whether the cube contradicts the condition of each pair of the action. Takes time in the number of these pairs
     /// times that of the atoms, however many other pairs there are.
     pub fn all_contradict(&self, act: u32, cond: &Cube) -> bool
