@@ -19,7 +19,8 @@ struct Linked {
     before: Option<usize>,
 }
 
-/// Forbidden pairs, in order. The pairs of one action are found without the others.
+/// Forbidden pairs, in order. The pairs of one action are found without the others: a hash gives the last of them, and
+/// each is linked to the one before it.
 #[derive(Drop)]
 pub struct Pairs {
     items: Vec<Linked>,
@@ -55,6 +56,7 @@ impl Pairs {
         ensures ok { OnOk result (self.new ≡ self.old ++ p ∷ []) }
         ensures err { OnErr result (self.new ≡ self.old) }
     {
+        // with room for the pair, the last step cannot fail, and a failure before it changes nothing
         self.items.reserve(1)?;
         let before = self.last.insert(p.act, self.items.len())?;
         self.items.push(Linked { pair: p, before })?;
