@@ -5,31 +5,31 @@ use Rattle.std.specs.Str.{bytes_eq}
 use Rattle.std.specs.List.{list_all}
 use Rattle.std.proofs.lemmas.Bool.Decides.{nat_tests}
 use Rattle.fond_text.specs.declared.atom.Atom.{Atom}
-use Rattle.fond_ast.specs.Within.{is_effect_within, effect_within_step, is_atom_within}
-use Rattle.fond_ast.specs.declared.form.LAtom.{LAtom}
-use Rattle.fond_ast.specs.declared.form.LEffect.{LEffect, Nothing, Add, Delete, And', OneOf', Row_of-LEffect, end_of-LEffect, more_of-LEffect}
-use Rattle.fond_ast.specs.declared.form.LEffect.TheBlock.{items-the_row-LEffect, items_shown-the_row-LEffect-0}
-use Rattle.fond_ast.specs.declared.form.LEffect.TheOpen as open_effect
-use Rattle.fond_ast.specs.declared.form.LEffect.TheViews.{rolls-Add, rolls-Delete, outs-And', outs-OneOf'}
-use Rattle.fond_ast.specs.declared.form.LEffect.TheFolds.{fold-roll-LEffect, fold_out-LEffect, map-LEffect}
-use Rattle.fond_meaning.specs.Effects.{Change, no_change, both, Gives, GivesEach, GivesSome}
+use Rattle.fond_plain.specs.Within.{is_effect_within, effect_within_step, is_atom_within}
+use Rattle.fond_plain.specs.declared.form.PlainAtom.{PlainAtom}
+use Rattle.fond_plain.specs.declared.form.PlainEffect.{PlainEffect, Nothing, Add, Delete, And', OneOf', Row_of-PlainEffect, end_of-PlainEffect, more_of-PlainEffect}
+use Rattle.fond_plain.specs.declared.form.PlainEffect.TheBlock.{items-the_row-PlainEffect, items_shown-the_row-PlainEffect-0}
+use Rattle.fond_plain.specs.declared.form.PlainEffect.TheOpen as open_effect
+use Rattle.fond_plain.specs.declared.form.PlainEffect.TheViews.{rolls-Add, rolls-Delete, outs-And', outs-OneOf'}
+use Rattle.fond_plain.specs.declared.form.PlainEffect.TheFolds.{fold-roll-PlainEffect, fold_out-PlainEffect, map-PlainEffect}
+use Rattle.fond_plain.specs.Effects.{Change, no_change, both, Gives, GivesEach, GivesSome}
 
 -- the equations of the test
-within-Add : (count : ℕ) (atom : LAtom) → is_effect_within count (Add atom) ≡ nat_lt atom.predicate count
-within-Add count atom = ap (is_effect_within count) (sym (rolls-Add atom)) ∙ fold-roll-LEffect Bool (effect_within_step count) (open_effect.Add atom)
+within-Add : (count : ℕ) (atom : PlainAtom) → is_effect_within count (Add atom) ≡ nat_lt atom.predicate count
+within-Add count atom = ap (is_effect_within count) (sym (rolls-Add atom)) ∙ fold-roll-PlainEffect Bool (effect_within_step count) (open_effect.Add atom)
 
-within-Delete : (count : ℕ) (atom : LAtom) → is_effect_within count (Delete atom) ≡ nat_lt atom.predicate count
-within-Delete count atom = ap (is_effect_within count) (sym (rolls-Delete atom)) ∙ fold-roll-LEffect Bool (effect_within_step count) (open_effect.Delete atom)
+within-Delete : (count : ℕ) (atom : PlainAtom) → is_effect_within count (Delete atom) ≡ nat_lt atom.predicate count
+within-Delete count atom = ap (is_effect_within count) (sym (rolls-Delete atom)) ∙ fold-roll-PlainEffect Bool (effect_within_step count) (open_effect.Delete atom)
 
-within-And' : (count : ℕ) (shape : _) (row : Row_of-LEffect _) → is_effect_within count (And' shape row) ≡ list_all (λ part. part) (map (is_effect_within count) (items-the_row-LEffect _ row))
+within-And' : (count : ℕ) (shape : _) (row : Row_of-PlainEffect _) → is_effect_within count (And' shape row) ≡ list_all (λ part. part) (map (is_effect_within count) (items-the_row-PlainEffect _ row))
 within-And' count shape row =
-    fold_out-LEffect Bool (effect_within_step count) (And' shape row) ∙ ap (λ layer. effect_within_step count (map-LEffect LEffect Bool (is_effect_within count) layer)) (outs-And' shape row)
-    ∙ ap (λ parts. list_all (λ part. part) (map (is_effect_within count) parts)) (items_shown-the_row-LEffect-0 shape row)
+    fold_out-PlainEffect Bool (effect_within_step count) (And' shape row) ∙ ap (λ layer. effect_within_step count (map-PlainEffect PlainEffect Bool (is_effect_within count) layer)) (outs-And' shape row)
+    ∙ ap (λ parts. list_all (λ part. part) (map (is_effect_within count) parts)) (items_shown-the_row-PlainEffect-0 shape row)
 
-within-OneOf' : (count : ℕ) (shape : _) (row : Row_of-LEffect _) → is_effect_within count (OneOf' shape row) ≡ (not (length (map (is_effect_within count) (items-the_row-LEffect _ row)) == 0) && list_all (λ part. part) (map (is_effect_within count) (items-the_row-LEffect _ row)))
+within-OneOf' : (count : ℕ) (shape : _) (row : Row_of-PlainEffect _) → is_effect_within count (OneOf' shape row) ≡ (not (length (map (is_effect_within count) (items-the_row-PlainEffect _ row)) == 0) && list_all (λ part. part) (map (is_effect_within count) (items-the_row-PlainEffect _ row)))
 within-OneOf' count shape row =
-    fold_out-LEffect Bool (effect_within_step count) (OneOf' shape row) ∙ ap (λ layer. effect_within_step count (map-LEffect LEffect Bool (is_effect_within count) layer)) (outs-OneOf' shape row)
-    ∙ ap (λ parts. not (length (map (is_effect_within count) parts) == 0) && list_all (λ part. part) (map (is_effect_within count) parts)) (items_shown-the_row-LEffect-0 shape row)
+    fold_out-PlainEffect Bool (effect_within_step count) (OneOf' shape row) ∙ ap (λ layer. effect_within_step count (map-PlainEffect PlainEffect Bool (is_effect_within count) layer)) (outs-OneOf' shape row)
+    ∙ ap (λ parts. not (length (map (is_effect_within count) parts) == 0) && list_all (λ part. part) (map (is_effect_within count) parts)) (items_shown-the_row-PlainEffect-0 shape row)
 
 pub and_true : (a b : Bool) → (a && b) ≡ true → (a ≡ true) × (b ≡ true)
 and_true true b h = (refl, h)
@@ -63,7 +63,7 @@ quiet-both a b atom p q = record { kept = (λ i. p.kept i || b.del atom) ∙ q.k
 
 module _ (count : ℕ) (atom : Atom) (out : is_atom_within count atom ≡ false) where
   mutual
-    pub quiet : (effect : LEffect) (change : Change) → is_effect_within count effect ≡ true → Gives effect change → IsQuiet change atom
+    pub quiet : (effect : PlainEffect) (change : Change) → is_effect_within count effect ≡ true → Gives effect change → IsQuiet change atom
     quiet Nothing change within g = quiet-along no_change change atom g (record { kept = refl; left = refl })
     quiet (Add literal) change within g =
         quiet-along _ change atom g (record { kept = refl; left = apart atom.predicate literal.predicate count atom.objects (sym (within-Add count literal) ∙ within) out })
@@ -72,13 +72,13 @@ module _ (count : ℕ) (atom : Atom) (out : is_atom_within count atom ≡ false)
     quiet (And' shape row) change within g = quiet-each row change (sym (within-And' count shape row) ∙ within) g
     quiet (OneOf' shape row) change within g = quiet-some row change (and_true _ _ (sym (within-OneOf' count shape row) ∙ within)).1 g
 
-    quiet-each : {m : _} (row : Row_of-LEffect m) (change : Change) → list_all (λ part. part) (map (is_effect_within count) (items-the_row-LEffect m row)) ≡ true → GivesEach row change → IsQuiet change atom
-    quiet-each end_of-LEffect change within g = quiet-along no_change change atom g (record { kept = refl; left = refl })
-    quiet-each (more_of-LEffect part rest) change within (a, b, first, others, e) =
-        let w = and_true (is_effect_within count part) (list_all (λ p. p) (map (is_effect_within count) (items-the_row-LEffect _ rest))) within in
+    quiet-each : {m : _} (row : Row_of-PlainEffect m) (change : Change) → list_all (λ part. part) (map (is_effect_within count) (items-the_row-PlainEffect m row)) ≡ true → GivesEach row change → IsQuiet change atom
+    quiet-each end_of-PlainEffect change within g = quiet-along no_change change atom g (record { kept = refl; left = refl })
+    quiet-each (more_of-PlainEffect part rest) change within (a, b, first, others, e) =
+        let w = and_true (is_effect_within count part) (list_all (λ p. p) (map (is_effect_within count) (items-the_row-PlainEffect _ rest))) within in
         quiet-along (both a b) change atom e (quiet-both a b atom (quiet part a w.0 first) (quiet-each rest b w.1 others))
 
-    quiet-some : {m : _} (row : Row_of-LEffect m) (change : Change) → list_all (λ part. part) (map (is_effect_within count) (items-the_row-LEffect m row)) ≡ true → GivesSome row change → IsQuiet change atom
-    quiet-some end_of-LEffect change within g = absurd g
-    quiet-some (more_of-LEffect part rest) change within (inl g) = quiet part change (and_true (is_effect_within count part) (list_all (λ p. p) (map (is_effect_within count) (items-the_row-LEffect _ rest))) within).0 g
-    quiet-some (more_of-LEffect part rest) change within (inr g) = quiet-some rest change (and_true (is_effect_within count part) (list_all (λ p. p) (map (is_effect_within count) (items-the_row-LEffect _ rest))) within).1 g
+    quiet-some : {m : _} (row : Row_of-PlainEffect m) (change : Change) → list_all (λ part. part) (map (is_effect_within count) (items-the_row-PlainEffect m row)) ≡ true → GivesSome row change → IsQuiet change atom
+    quiet-some end_of-PlainEffect change within g = absurd g
+    quiet-some (more_of-PlainEffect part rest) change within (inl g) = quiet part change (and_true (is_effect_within count part) (list_all (λ p. p) (map (is_effect_within count) (items-the_row-PlainEffect _ rest))) within).0 g
+    quiet-some (more_of-PlainEffect part rest) change within (inr g) = quiet-some rest change (and_true (is_effect_within count part) (list_all (λ p. p) (map (is_effect_within count) (items-the_row-PlainEffect _ rest))) within).1 g

@@ -2,26 +2,26 @@
 use Rattle.std.proofs.Common.{◌≡◌, ◌∙◌, ◌++◌, Bool, true, false, List, [], ◌∷◌, Vec, Global, map, refl, sym, ap}
 use Rattle.std.specs.Prelude.{codes}
 use Rattle.std.specs.List.{flat_map}
-use Rattle.fond_ast.specs.declared.form.LAtom.{LAtom}
-use Rattle.fond_ast.specs.declared.form.LCond.{Holds}
-use Rattle.fond_ast.specs.declared.form.LCond.TheOpen as open_condition
-use Rattle.fond_ast.specs.declared.form.LCond.TheViews.{rolls-Holds}
-use Rattle.fond_ast.specs.declared.form.LCond.TheFolds.{fold-roll-LCond}
-use Rattle.fond_ast.specs.declared.form.LEffect.{LEffect, Add, Delete, And, OneOf}
-use Rattle.fond_ast.specs.declared.task.LPredicate.{LPredicate}
-use Rattle.fond_ast.specs.declared.task.LSchema.{LSchema}
-use Rattle.fond_ast.specs.declared.task.LiftedTask.{LiftedTask}
-use Rattle.fond_meaning.specs.States.{State, no_atoms, only, atoms_of}
-use Rattle.fond_meaning.specs.Conditions.{ground_atom, holds, holds_step}
-use Rattle.fond_meaning.specs.Effects.{Change, no_change, after, IsApplicable}
-use Rattle.fond_meaning.specs.Choices.{choices, joined}
-use Rattle.fond_meaning.specs.Successors.{initial, atom_of_number, once, successors}
-use Rattle.fond_meaning.proofs.Choices.{choices-Add, choices-Delete, choices-And, choices-OneOf}
+use Rattle.fond_plain.specs.declared.form.PlainAtom.{PlainAtom}
+use Rattle.fond_plain.specs.declared.form.PlainCond.{Holds}
+use Rattle.fond_plain.specs.declared.form.PlainCond.TheOpen as open_condition
+use Rattle.fond_plain.specs.declared.form.PlainCond.TheViews.{rolls-Holds}
+use Rattle.fond_plain.specs.declared.form.PlainCond.TheFolds.{fold-roll-PlainCond}
+use Rattle.fond_plain.specs.declared.form.PlainEffect.{PlainEffect, Add, Delete, And, OneOf}
+use Rattle.fond_plain.specs.declared.task.PlainPredicate.{PlainPredicate}
+use Rattle.fond_plain.specs.declared.task.PlainSchema.{PlainSchema}
+use Rattle.fond_plain.specs.declared.task.PlainTask.{PlainTask}
+use Rattle.fond_plain.specs.States.{State, no_atoms, only, atoms_of}
+use Rattle.fond_plain.specs.Conditions.{ground_atom, holds, holds_step}
+use Rattle.fond_plain.specs.Effects.{Change, no_change, after, IsApplicable}
+use Rattle.fond_plain.specs.Choices.{choices, joined}
+use Rattle.fond_plain.specs.Successors.{initial, atom_of_number, once, successors}
+use Rattle.fond_plain.proofs.Choices.{choices-Add, choices-Delete, choices-And, choices-OneOf}
 
-abbrev heads : LAtom
+abbrev heads : PlainAtom
 heads = record { predicate = 0 }
 
-abbrev predicates : List LPredicate
+abbrev predicates : List PlainPredicate
 predicates = record { name = codes "heads"; fluent = true } ∷ []
 
 -- the change that makes the coin show heads
@@ -29,13 +29,13 @@ abbrev to_heads : Change
 to_heads = record { del = no_atoms; add = only (atom_of_number 0) }
 
 -- a flip, the choice of heads and nothing, has two choices
-module _ (parts none : Vec LEffect Global) (two : parts.items ≡ Add heads ∷ And none ∷ []) (empty : none.items ≡ []) where
+module _ (parts none : Vec PlainEffect Global) (two : parts.items ≡ Add heads ∷ And none ∷ []) (empty : none.items ≡ []) where
   pub flip-choices : choices (OneOf parts) ≡ to_heads ∷ no_change ∷ []
   flip-choices =
       choices-OneOf parts ∙ ap (λ ps. flat_map (λ part. part) (map choices ps)) two
       ∙ (λ i. choices-Add heads i ++ ((choices-And none ∙ ap (λ ps. joined (map choices ps)) empty) i ++ []))
 
-  module _ (task : LiftedTask) (one : task.predicates ≡ predicates) (schema : LSchema) (flips : schema.effect ≡ OneOf parts) where
+  module _ (task : PlainTask) (one : task.predicates ≡ predicates) (schema : PlainSchema) (flips : schema.effect ≡ OneOf parts) where
     flips-choices : choices schema.effect ≡ to_heads ∷ no_change ∷ []
     flips-choices = ap choices flips ∙ flip-choices
 
@@ -57,17 +57,17 @@ pub still_heads : after (atoms_of (atom_of_number 0 ∷ [])) to_heads (atom_of_n
 still_heads = refl
 
 -- an effect that adds an atom and deletes it has one choice, after which the atom is true
-module _ (parts : Vec LEffect Global) (two : parts.items ≡ Add heads ∷ Delete heads ∷ []) where
+module _ (parts : Vec PlainEffect Global) (two : parts.items ≡ Add heads ∷ Delete heads ∷ []) where
   pub both-choices : (state : State) → map (λ change. after state change (atom_of_number 0)) (choices (And parts)) ≡ true ∷ []
   both-choices state =
       ap (map (λ change. after state change (atom_of_number 0))) (choices-And parts ∙ ap (λ ps. joined (map choices ps)) two ∙ (λ i. joined (choices-Add heads i ∷ choices-Delete heads i ∷ [])))
 
 -- an atom holds if it is in the state
-pub holds-Holds : (state : State) (atom : LAtom) → holds state (Holds atom) ≡ state (ground_atom atom)
-holds-Holds state atom = ap (holds state) (sym (rolls-Holds atom)) ∙ fold-roll-LCond Bool (holds_step state) (open_condition.Holds atom)
+pub holds-Holds : (state : State) (atom : PlainAtom) → holds state (Holds atom) ≡ state (ground_atom atom)
+holds-Holds state atom = ap (holds state) (sym (rolls-Holds atom)) ∙ fold-roll-PlainCond Bool (holds_step state) (open_condition.Holds atom)
 
 -- an action whose precondition is an atom that is false is not applicable
-pub not_applicable : (state : State) (schema : LSchema) → schema.pre ≡ Holds heads → state (atom_of_number 0) ≡ false → ¬ IsApplicable state schema
+pub not_applicable : (state : State) (schema : PlainSchema) → schema.pre ≡ Holds heads → state (atom_of_number 0) ≡ false → ¬ IsApplicable state schema
 not_applicable state schema wants none applicable =
     let e : true ≡ false = sym applicable ∙ ap (holds state) wants ∙ holds-Holds state heads ∙ none in
     cc

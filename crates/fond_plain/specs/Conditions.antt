@@ -2,17 +2,17 @@
 use Rattle.std.specs.Prelude.{◌||◌, Bool, true, not, []}
 use Rattle.std.specs.List.{list_all, list_any}
 use Rattle.fond_text.specs.declared.atom.Atom.{Atom}
-use Rattle.fond_ast.specs.declared.form.LAtom.{LAtom}
-use Rattle.fond_ast.specs.declared.form.LCond.{LCond}
-use Rattle.fond_ast.specs.declared.form.LCond.TheOpen.{LCond-F, Truth, Holds, And, Or, Not, Imply}
-use Rattle.fond_ast.specs.declared.form.LCond.TheFolds.{fold-LCond}
-use Rattle.fond_meaning.specs.States.{State}
+use Rattle.fond_plain.specs.declared.form.PlainAtom.{PlainAtom}
+use Rattle.fond_plain.specs.declared.form.PlainCond.{PlainCond}
+use Rattle.fond_plain.specs.declared.form.PlainCond.TheOpen.{PlainCond-F, Truth, Holds, And, Or, Not, Imply}
+use Rattle.fond_plain.specs.declared.form.PlainCond.TheFolds.{fold-PlainCond}
+use Rattle.fond_plain.specs.States.{State}
 
 -- the ground atom of an atom without terms
-abbrev pub ground_atom : LAtom → Atom
+abbrev pub ground_atom : PlainAtom → Atom
 ground_atom atom = record { predicate = atom.predicate; objects = [] }
 
-abbrev pub holds_step : State → LCond-F Bool → Bool
+abbrev pub holds_step : State → PlainCond-F Bool → Bool
 holds_step state Truth = true
 holds_step state (Holds atom) = state (ground_atom atom)
 holds_step state (And parts) = list_all (λ part. part) parts.items
@@ -23,5 +23,5 @@ holds_step state (Imply part other) = not part.value || other.value
 -- whether a condition holds in a state: an atom holds if it is in the state, a conjunction if each part holds, a
 -- disjunction if some part holds, a negation if its part does not, and an implication if its first part does not hold
 -- or its second part does
-abbrev pub holds : State → LCond → Bool
-holds state = fold-LCond Bool (holds_step state)
+abbrev pub holds : State → PlainCond → Bool
+holds state = fold-PlainCond Bool (holds_step state)

@@ -1,3 +1,5 @@
+pub mod Within
+pub mod Plain
 pub mod States
 pub mod Conditions
 pub mod Effects

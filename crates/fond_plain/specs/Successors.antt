@@ -3,15 +3,15 @@ use Rattle.std.specs.Prelude.{ℕ, Bool, true, false, not, List, [], ◌∷◌, 
 use Rattle.std.specs.List.{list_all, list_any, enumerate_from}
 use Rattle.fond_text.specs.Bools.{is_same}
 use Rattle.fond_text.specs.declared.atom.Atom.{Atom}
-use Rattle.fond_ast.specs.declared.task.LPredicate.{LPredicate}
-use Rattle.fond_ast.specs.declared.task.LSchema.{LSchema}
-use Rattle.fond_ast.specs.declared.task.LiftedTask.{LiftedTask}
-use Rattle.fond_meaning.specs.States.{State, atoms_of}
-use Rattle.fond_meaning.specs.Effects.{after}
-use Rattle.fond_meaning.specs.Choices.{choices}
+use Rattle.fond_plain.specs.declared.task.PlainPredicate.{PlainPredicate}
+use Rattle.fond_plain.specs.declared.task.PlainSchema.{PlainSchema}
+use Rattle.fond_plain.specs.declared.task.PlainTask.{PlainTask}
+use Rattle.fond_plain.specs.States.{State, atoms_of}
+use Rattle.fond_plain.specs.Effects.{after}
+use Rattle.fond_plain.specs.Choices.{choices}
 
 -- the state in which the initial atoms are true
-abbrev pub initial : LiftedTask → State
+abbrev pub initial : PlainTask → State
 initial task = atoms_of task.init
 
 -- the ground atom of the predicate of this number
@@ -19,13 +19,13 @@ abbrev pub atom_of_number : ℕ → Atom
 atom_of_number number = record { predicate = number; objects = [] }
 
 -- whether two states agree on the atom of each predicate
-abbrev pub is_same_state : List LPredicate → State → State → Bool
+abbrev pub is_same_state : List PlainPredicate → State → State → Bool
 is_same_state predicates state other = list_all (λ item. is_same (state (atom_of_number item.0)) (other (atom_of_number item.0))) (enumerate_from 0 predicates)
 
 -- the states of a list without repetition, each at its first occurrence
-abbrev pub once : List LPredicate → List State → List State
+abbrev pub once : List PlainPredicate → List State → List State
 once predicates states = fold (λ before state. if list_any (is_same_state predicates state) before then before else before ++ state ∷ []) [] states
 
 -- the states to which the choices of a schema's effect lead, without repetition, in the order of the first choice
-abbrev pub successors : LiftedTask → LSchema → State → List State
+abbrev pub successors : PlainTask → PlainSchema → State → List State
 successors task schema state = once task.predicates (map (λ change. after state change) (choices schema.effect))

@@ -1,6 +1,6 @@
 //! The laws of the meaning of tasks, each as the contract of a function that does nothing.
 
-ghost use Rattle.fond_meaning.specs.Laws.{ChoicesAreGiven, SuccessorsComeNext, SuccessorsAreDistinct};
+ghost use Rattle.fond_plain.specs.Laws.{ChoicesAreGiven, SuccessorsComeNext, SuccessorsAreDistinct};
 
 /// The choices of an effect are exactly the changes that it may give.
 pub fn choices_are_given()

@@ -1,7 +1,7 @@
 -- What `run` replies to the texts of its files.
 use Rattle.std.specs.Prelude.{ℕ, List, Bool}
 use Rattle.fond_text.specs.declared.fault.Fault.{Fault}
-use Rattle.fond_ast.specs.declared.task.LiftedTask.{LiftedTask}
+use Rattle.fond_plain.specs.declared.task.PlainTask.{PlainTask}
 use Rattle.fond_task.specs.declared.task.Task.{Task}
 use Rattle.fond_game.specs.declared.rule.Rule.{Rule}
 use Rattle.fond_exec.specs.Traces.{Trace}
@@ -15,7 +15,7 @@ use Rattle.fond_tool.specs.Replies.{Reply, fault_reply, cert_reply, script_reply
 
 -- the ground task of the task that three texts are read as
 abbrev pub IsGroundTaskOf : TaskTexts → Task → Type 0
-IsGroundTaskOf texts task = (lifted : LiftedTask) × IsTaskOf texts lifted × IsGroundOf lifted task
+IsGroundTaskOf texts task = (lifted : PlainTask) × IsTaskOf texts lifted × IsGroundOf lifted task
 
 -- what `run` replies: a refusal of its files, a rejection of its certificate or of its script, or the trace
 pub data RunReply (texts : TaskTexts) (cert script : List ℕ) : Reply → Type 0 where
