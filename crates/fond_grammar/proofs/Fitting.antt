@@ -7,9 +7,9 @@ use Rattle.fond_tree.specs.declared.tree.Tree.TheOpen.{Tree-F, Leaf, Node}
 use Rattle.fond_tree.specs.Trees.{leaf_step, members_step, members_of, leaf_of, place_of}
 use Rattle.fond_grammar.specs.declared.role.Role.{Role}
 use Rattle.fond_grammar.specs.declared.role.Rest.TheVariants.{NoMore}
-use Rattle.fond_grammar.specs.Roles.{Shape, Expected, Members, Refused, node_expected, leaf_code}
+use Rattle.fond_grammar.specs.Roles.{Shape, Members, Refused, node_expected, leaf_code}
 use Rattle.fond_grammar.specs.Parts.{Part, part, parts, is_counted, expected_parts, shape_parts}
-use Rattle.fond_grammar.specs.Faults.{node_code, tree_code, IsOwnFault, IsRepeated, IsIncomplete, Stands, Fits}
+use Rattle.fond_grammar.specs.Faults.{node_code, tree_code, IsOwnFault, IsRepeated, IsIncomplete, Fits}
 use Rattle.fond_grammar.proofs.Among.{Among, stands_down, stands_up}
 
 -- a part fits its role

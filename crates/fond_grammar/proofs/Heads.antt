@@ -1,5 +1,5 @@
 -- The members of a fitting condition, effect or initial atom, by its head.
-use Rattle.std.proofs.Common.{◌≡◌, ◌||◌, ◌&&◌, Bool, true, false, ℕ, List, [], ◌∷◌, Option, Some, None, codes, refl, sym, ap, subst, ◌∙◌, if◌then◌else◌}
+use Rattle.std.proofs.Common.{◌≡◌, ◌||◌, ◌&&◌, Bool, true, false, ℕ, List, [], ◌∷◌, Some, codes, refl, sym, ap, subst, ◌∙◌, if◌then◌else◌}
 use Rattle.std.specs.List.{AllByRecursion, AllZip, list_any}
 use Rattle.std.specs.Str.{bytes_eq}
 use Rattle.std.proofs.lemmas.Slice.Eq.{bytes_eq-Decides}
@@ -7,7 +7,6 @@ use Rattle.fond_tree.specs.declared.tree.Tree.{Tree}
 use Rattle.fond_tree.specs.Trees.{members_of, leaf_of, is_node}
 use Rattle.fond_grammar.specs.declared.role.Role.{Role}
 use Rattle.fond_grammar.specs.declared.role.Role.TheVariants as role
-use Rattle.fond_grammar.specs.declared.role.Rest.{Rest}
 use Rattle.fond_grammar.specs.declared.role.Rest.TheVariants.{NoMore, Each}
 use Rattle.fond_grammar.specs.Words.{reserved, is_one_of, is_name}
 use Rattle.fond_grammar.specs.Roles.{Shape, shape, Expected, Members, Refused, node_expected, form, form_of, none, atom, atom_or_refused, condition, effect, initial, choice}

@@ -3,6 +3,10 @@ pub mod Among
 pub mod Fitting
 pub mod Heads
 pub mod Incomplete
+pub mod FittingLeaves
 pub mod Members
+pub mod Once
 pub mod Pairs
+pub mod Sections
 pub mod Steps
+pub mod TypedLists
