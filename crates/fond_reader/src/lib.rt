@@ -2,12 +2,6 @@
 //! above learn what was read, or the first fault. What names mean is left to them.
 #![tactic(auto)]
 
-mod action;
 mod atom;
-mod condition;
-pub mod domain;
-mod effect;
-mod initial;
-pub mod laws;
-pub mod problem;
-mod section;
+mod node;
+mod typed;
