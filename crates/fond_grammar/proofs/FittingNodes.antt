@@ -72,6 +72,13 @@ either_there tree fits node = elim (leaf_or_node tree) [
   from (head ∷ []) is s = let counted = s.counted in absurd (cc)
   from (head ∷ first ∷ names) is s = record { head = head; first = first; names = names; whole = is; head_fits = s.inner.0; names_fit = (s.inner.1.0, each_fits role.Name names s.inner.1.1) }
 
+-- an initial atom has a head
+pub initial_there : (tree : Tree) → Fits role.Initial tree → (head : Tree) × (after : List Tree) × (members_of tree ≡ Some (head ∷ after))
+initial_there tree fits = let node = node_there role.Initial tree fits (λ _. refl) in from node.0 node.1 where
+  from : (members : List Tree) → members_of tree ≡ Some members → (head : Tree) × (after : List Tree) × (members_of tree ≡ Some (head ∷ after))
+  from [] is = let s = shaped role.Initial tree fits [] atom is refl in let counted = s.counted in absurd (cc)
+  from (head ∷ after) is = (head, after, is)
+
 -- the members of a header
 pub header_there : (kind : FixedWord) (tree : Tree) → Fits (role.Header kind) tree → (first : Tree) × (name : Tree) × (members_of tree ≡ Some (first ∷ name ∷ [])) × Fits (role.Word kind) first × Fits role.Name name
 header_there kind tree fits =

@@ -1,5 +1,5 @@
 -- The members of a fitting condition, effect or initial atom, by its head.
-use Rattle.std.proofs.Common.{◌≡◌, ◌||◌, ◌&&◌, Bool, true, false, ℕ, List, [], ◌∷◌, Some, codes, refl, sym, ap, subst, ◌∙◌, if◌then◌else◌}
+use Rattle.std.proofs.Common.{inl, inr, ◌≡◌, ◌||◌, ◌&&◌, Bool, true, false, ℕ, List, [], ◌∷◌, Some, codes, refl, sym, ap, subst, ◌∙◌, if◌then◌else◌}
 use Rattle.std.specs.List.{AllByRecursion, AllZip, list_any}
 use Rattle.std.specs.Str.{bytes_eq}
 use Rattle.std.proofs.lemmas.Slice.Eq.{bytes_eq-Decides}
@@ -11,7 +11,8 @@ use Rattle.fond_grammar.specs.declared.role.Rest.TheVariants.{NoMore, Each}
 use Rattle.fond_grammar.specs.Words.{reserved, is_one_of, is_name}
 use Rattle.fond_grammar.specs.Roles.{Shape, shape, Expected, Members, Refused, node_expected, form, form_of, none, atom, atom_or_refused, condition, effect, initial, choice}
 use Rattle.fond_grammar.specs.Faults.{Fits}
-use Rattle.fond_grammar.proofs.Fitting.{IsShaped, shaped, not_refused, node_fits, each_fits, zip_fits}
+use Rattle.fond_grammar.proofs.FittingLeaves.{name_fits}
+use Rattle.fond_grammar.proofs.Fitting.{leaf_or_node, IsShaped, shaped, not_refused, node_fits, each_fits, zip_fits}
 
 -- a node of this head and these members after it
 pub record HasHead (tree : Tree) (word : List ℕ) (after : List Tree) : Type 0 where
@@ -50,6 +51,17 @@ module _ (of : Role) (empty : Shape) (by_head : List ℕ → List Tree → Expec
     from false is =
         node_fits role.Atom tree (λ place again. again) (λ place lacks. lacks) (has.head ∷ after) atom has.whole refl
         (shaped_by_head atom (asks ∙ ap (λ b. if b then Refused 11 else Members atom) is))
+
+-- the head of a node that has members is a leaf
+pub head_there : (of : Role) (empty : Shape) (by_head : List ℕ → List Tree → Expected) → ((members : List Tree) → node_expected of members ≡ Some (form_of empty by_head members)) →
+    (tree head : Tree) (after : List Tree) → Fits of tree → members_of tree ≡ Some (head ∷ after) → (word : List ℕ) × (leaf_of head ≡ Some word)
+head_there of empty by_head expects tree head after fits whole = elim (leaf_or_node head) [
+  | inl leaf ↦ (leaf.0, leaf.1)
+  | inr node ↦
+      let s = shaped of tree fits (head ∷ after) atom whole (expects (head ∷ after) ∙ ap (λ leaf. Some (form by_head leaf after)) node.2) in
+      let named = name_fits head s.inner.0 in
+      (named.leaf, named.is)
+]
 
 -- ---- conditions
 
@@ -116,6 +128,9 @@ condition_else word after n =
 pub condition_atom : (tree : Tree) (word : List ℕ) (after : List Tree) → Fits role.Condition tree → HasHead tree word after → NoConditionOperator word → Fits role.Atom tree
 condition_atom tree word after fits has n = atom_by_head role.Condition none condition (λ _. refl) tree word after fits has (condition_else word after n)
 
+pub condition_head : (tree head : Tree) (after : List Tree) → Fits role.Condition tree → members_of tree ≡ Some (head ∷ after) → (word : List ℕ) × (leaf_of head ≡ Some word)
+condition_head = head_there role.Condition none condition (λ _. refl)
+
 -- ---- effects
 
 module _ (tree : Tree) (word : List ℕ) (after : List Tree) (fits : Fits role.Effect tree) (has : HasHead tree word after) where
@@ -176,7 +191,13 @@ effect_else word after n = effect_otherwise word after _ _ _ _ _ n.conjunction n
 pub effect_atom : (tree : Tree) (word : List ℕ) (after : List Tree) → Fits role.Effect tree → HasHead tree word after → NoEffectOperator word → Fits role.Atom tree
 effect_atom tree word after fits has n = atom_by_head role.Effect none effect (λ _. refl) tree word after fits has (effect_else word after n)
 
+pub effect_head : (tree head : Tree) (after : List Tree) → Fits role.Effect tree → members_of tree ≡ Some (head ∷ after) → (word : List ℕ) × (leaf_of head ≡ Some word)
+effect_head = head_there role.Effect none effect (λ _. refl)
+
 -- ---- initial atoms
+
+pub initial_head : (tree head : Tree) (after : List Tree) → Fits role.Initial tree → members_of tree ≡ Some (head ∷ after) → (word : List ℕ) × (leaf_of head ≡ Some word)
+initial_head = head_there role.Initial atom initial (λ _. refl)
 
 pub initial_else : (word : List ℕ) (after : List Tree) → bytes_eq word (codes "not") ≡ false → initial word after ≡ atom_or_refused word after
 initial_else word after n = from (bytes_eq word (codes "not")) n where

@@ -1,6 +1,7 @@
 pub mod Again
 pub mod Among
 pub mod Fitting
+pub mod FittingActions
 pub mod FittingNodes
 pub mod Heads
 pub mod Incomplete

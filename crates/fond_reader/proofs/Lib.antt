@@ -1,7 +1,9 @@
 pub mod Groups
 pub mod Lengths
 pub mod Named
+pub mod Operators
 pub mod Pushed
 pub mod Through
 pub mod TypeNames
 pub mod Variables
+pub mod Weights

@@ -3,5 +3,7 @@
 #![tactic(auto)]
 
 mod atom;
+mod condition;
+mod effect;
 mod node;
 mod typed;
