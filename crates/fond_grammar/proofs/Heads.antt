@@ -7,12 +7,13 @@ use Rattle.fond_tree.specs.declared.tree.Tree.{Tree}
 use Rattle.fond_tree.specs.Trees.{members_of, leaf_of, is_node}
 use Rattle.fond_grammar.specs.declared.role.Role.{Role}
 use Rattle.fond_grammar.specs.declared.role.Role.TheVariants as role
-use Rattle.fond_grammar.specs.declared.role.Rest.TheVariants.{NoMore, Each}
+use Rattle.fond_grammar.specs.declared.role.Rest.TheVariants.{NoMore, Each, Typed}
 use Rattle.fond_grammar.specs.Words.{reserved, is_one_of, is_name}
 use Rattle.fond_grammar.specs.Roles.{Shape, shape, Expected, Members, Refused, node_expected, form, form_of, none, atom, atom_or_refused, condition, effect, initial, choice}
+use Rattle.fond_grammar.specs.Parts.{typed}
 use Rattle.fond_grammar.specs.Faults.{Fits}
 use Rattle.fond_grammar.proofs.FittingLeaves.{name_fits}
-use Rattle.fond_grammar.proofs.Fitting.{leaf_or_node, IsShaped, shaped, not_refused, node_fits, each_fits, zip_fits}
+use Rattle.fond_grammar.proofs.Fitting.{AllFit, leaf_or_node, IsShaped, shaped, not_refused, node_fits, each_fits, zip_fits}
 
 -- a node of this head and these members after it
 pub record HasHead (tree : Tree) (word : List ℕ) (after : List Tree) : Type 0 where
@@ -219,3 +220,9 @@ pub atom_fits : (tree head : Tree) (after : List Tree) → Fits role.Atom tree �
 atom_fits tree head after fits whole =
     let s = shaped role.Atom tree fits (head ∷ after) atom whole refl in
     (s.inner.0, each_fits role.Term after s.inner.1)
+
+-- the members of a predicate are a name and a typed list of variables
+pub predicate_fits : (tree head : Tree) (after : List Tree) → Fits role.Predicate tree → members_of tree ≡ Some (head ∷ after) → Fits role.Name head × AllFit (typed role.Variable role.VariableType false after)
+predicate_fits tree head after fits whole =
+    let s = shaped role.Predicate tree fits (head ∷ after) (shape (role.Name ∷ []) (Typed role.Variable role.VariableType)) whole refl in
+    (s.inner.0, s.inner.1)

@@ -7,3 +7,5 @@ pub mod Through
 pub mod TypeNames
 pub mod Variables
 pub mod Weights
+pub mod Values
+pub mod Actions

@@ -1,7 +1,7 @@
 pub mod Forms
 pub mod Typed
 pub mod Sorts
-pub mod Nodes
 pub mod Bodies
 pub mod Files
+pub mod Nodes
 pub mod Laws

@@ -4,8 +4,8 @@ ghost use Rattle.fond_grammar.specs.Faults.{Fits};
 ghost use Rattle.fond_grammar.specs.declared.role.Role.TheVariants.{Term as TermRole, Atom as AtomRole};
 ghost use Rattle.fond_reader.specs.Bodies.{is_atom, is_term};
 ghost use Rattle.fond_text.specs.Lists.{each_passes};
-ghost use Rattle.std.specs.List.{AllByRecursion};
-ghost use Rattle.std.specs.Prelude.{◌≡◌, true, map, IfOk};
+ghost use Rattle.std.specs.List.{AllByRecursion, AllZip};
+ghost use Rattle.std.specs.Prelude.{◌≡◌, ◌∷◌, [], true, map, IfOk};
 
 use crate::node::{head_and_rest, read_leaf};
 use fond_ast::names::{ReadAtom, Term, Terms};
@@ -53,4 +53,15 @@ pub(crate) fn read_atom(alloc: Global, tree: &Tree) -> Result<ReadAtom, NoMemory
         name,
         terms: read_terms(alloc, terms)?,
     })
+}
+
+/// The atom that the only one of these trees is read as.
+pub(crate) fn read_only_atom(alloc: Global, trees: &[Tree]) -> Result<ReadAtom, NoMemory>
+    requires fit { AllZip Fits (AtomRole ∷ []) trees.now }
+    ensures { IfOk result (λ atom. each_passes (is_atom atom ∷ []) trees.now ≡ true) }
+{
+    match trees {
+        [tree] => read_atom(alloc, tree),
+        _ => unreachable!(),
+    }
 }

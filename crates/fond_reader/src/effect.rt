@@ -1,18 +1,18 @@
 //! Reading effects that have no fault.
 
 ghost use Rattle.fond_grammar.specs.Faults.{Fits};
-ghost use Rattle.fond_grammar.specs.declared.role.Role.TheVariants.{Atom as AtomRole, Condition as ConditionRole, Effect as EffectRole, Variables as VariablesRole};
-ghost use Rattle.fond_reader.specs.Bodies.{is_atom, is_condition, is_effect};
+ghost use Rattle.fond_grammar.specs.declared.role.Role.TheVariants.{Condition as ConditionRole, Effect as EffectRole, Variables as VariablesRole};
+ghost use Rattle.fond_reader.specs.Bodies.{is_condition, is_effect};
 ghost use Rattle.fond_reader.specs.Typed.{is_variable_list};
 ghost use Rattle.fond_text.specs.Lists.{each_passes};
 ghost use Rattle.std.specs.List.{AllByRecursion, AllZip};
 ghost use Rattle.std.specs.Prelude.{◌≡◌, ◌∷◌, [], true, map, IfOk};
 
-use crate::atom::read_atom;
+use crate::atom::{read_atom, read_only_atom};
 use crate::condition::read_condition;
 use crate::node::word_of;
 use crate::typed::read_variables;
-use fond_ast::names::{ReadAtom, TypedNames};
+use fond_ast::names::TypedNames;
 use fond_ast::syntax::{Cond, Effect};
 use fond_grammar::leaves::is_word;
 use fond_text::fault::NoMemory;
@@ -93,17 +93,6 @@ fn read_conditional(alloc: Global, trees: &[Tree]) -> Result<(Cond, Box<Effect>)
             let part = Box::new(alloc, read_effect(alloc, tree)?)?;
             Ok((condition, part))
         }
-        _ => unreachable!(),
-    }
-}
-
-/// The atom that the only one of these trees is read as.
-pub(crate) fn read_only_atom(alloc: Global, trees: &[Tree]) -> Result<ReadAtom, NoMemory>
-    requires fit { AllZip Fits (AtomRole ∷ []) trees.now }
-    ensures { IfOk result (λ atom. each_passes (is_atom atom ∷ []) trees.now ≡ true) }
-{
-    match trees {
-        [tree] => read_atom(alloc, tree),
         _ => unreachable!(),
     }
 }

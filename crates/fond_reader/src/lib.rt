@@ -2,8 +2,11 @@
 //! above learn what was read, or the first fault. What names mean is left to them.
 #![tactic(auto)]
 
+mod action;
 mod atom;
 mod condition;
 mod effect;
+mod initial;
 mod node;
+mod section;
 mod typed;
