@@ -9,3 +9,7 @@ pub mod Variables
 pub mod Weights
 pub mod Values
 pub mod Actions
+pub mod Counts
+pub mod Shapes
+pub mod VariableCounts
+pub mod SchemaFacts
