@@ -1,11 +1,11 @@
 -- Actions that fit: a name, and pairs of a known key and a value, each key at most once.
-use Rattle.std.proofs.Common.{◌≡◌, ℕ, ◌≤◌, ◌&&◌, Bool, true, false, List, [], ◌∷◌, filter, length, Option, Some, None, codes, refl, sym, ap, ◌∙◌, Contains}
+use Rattle.std.proofs.Common.{◌≡◌, ℕ, ◌≤◌, ◌&&◌, true, List, [], ◌∷◌, filter, length, Some, codes, refl, ap, ◌∙◌, Contains}
 use Rattle.std.specs.List.{list_all}
 use Rattle.fond_tree.specs.declared.tree.Tree.{Tree}
-use Rattle.fond_tree.specs.Trees.{members_of, leaf_of, head_of}
+use Rattle.fond_tree.specs.Trees.{members_of, leaf_of}
 use Rattle.fond_grammar.specs.declared.role.Role.TheVariants as role
 use Rattle.fond_grammar.specs.declared.role.Rest.TheVariants.{Pairs}
-use Rattle.fond_grammar.specs.Words.{is_word, has_head, is_one_of}
+use Rattle.fond_grammar.specs.Words.{is_word, has_head}
 use Rattle.fond_grammar.specs.Roles.{shape, domain_section, action_keys, is_headed_by}
 use Rattle.fond_grammar.specs.Parts.{value, pairs, are_pairs}
 use Rattle.fond_grammar.specs.Faults.{Fits, keys}

@@ -1,9 +1,8 @@
 -- Nodes that fit roles of one form: atoms, predicates, lists of variables, types and headers.
-use Rattle.std.proofs.Common.{◌≡◌, Bool, true, false, ℕ, List, [], ◌∷◌, Option, Some, None, is_some, inl, inr, refl, sym, ap, subst, ◌∙◌, if◌then◌else◌}
-use Rattle.std.specs.List.{AllByRecursion, AllZip}
-use Rattle.std.specs.Str.{bytes_eq}
+use Rattle.std.proofs.Common.{◌≡◌, true, false, ℕ, List, [], ◌∷◌, Some, is_some, inl, inr, refl, sym, ap, ◌∙◌}
+use Rattle.std.specs.List.{AllByRecursion}
 use Rattle.fond_tree.specs.declared.tree.Tree.{Tree}
-use Rattle.fond_tree.specs.Trees.{members_of, leaf_of, is_node}
+use Rattle.fond_tree.specs.Trees.{members_of, is_node}
 use Rattle.fond_grammar.specs.declared.role.Role.{Role}
 use Rattle.fond_grammar.specs.declared.role.Role.TheVariants as role
 use Rattle.fond_grammar.specs.declared.role.FixedWord.{FixedWord}
@@ -11,11 +10,11 @@ use Rattle.fond_grammar.specs.declared.role.FixedWord.TheVariants as fixed
 use Rattle.fond_grammar.specs.declared.role.Rest.{Rest}
 use Rattle.fond_grammar.specs.declared.role.Rest.TheVariants.{NoMore, Each, Typed}
 use Rattle.fond_grammar.specs.Words.{is_name}
-use Rattle.fond_grammar.specs.Roles.{Shape, shape, Members, node_expected, leaf_code, atom, word}
-use Rattle.fond_grammar.specs.Parts.{typed, is_counted, rest_parts}
+use Rattle.fond_grammar.specs.Roles.{shape, Members, node_expected, leaf_code, atom}
+use Rattle.fond_grammar.specs.Parts.{typed, rest_parts}
 use Rattle.fond_grammar.specs.Faults.{Fits}
-use Rattle.fond_grammar.proofs.Fitting.{IsShaped, AllFit, leaf_or_node, node_there, shaped, each_fits, zip_fits, leaf_unrefused}
-use Rattle.fond_grammar.proofs.FittingLeaves.{IsLeafOf, passes_if, fits_name}
+use Rattle.fond_grammar.proofs.Fitting.{IsShaped, AllFit, leaf_or_node, node_there, shaped, each_fits, leaf_unrefused}
+use Rattle.fond_grammar.proofs.FittingLeaves.{passes_if, fits_name}
 
 -- a node whose first member fits a role, and whose other members fit as a rest
 pub record HasFirst (first : Role) (rest : Rest) (tree : Tree) : Type 0 where

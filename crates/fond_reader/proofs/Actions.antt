@@ -8,7 +8,7 @@ use Rattle.fond_grammar.specs.declared.role.Role.{Role}
 use Rattle.fond_grammar.specs.declared.role.Role.TheVariants as role
 use Rattle.fond_grammar.specs.Words.{is_word}
 use Rattle.fond_grammar.specs.Roles.{action_keys}
-use Rattle.fond_grammar.specs.Parts.{Part, part, value, value_role, pairs, are_pairs}
+use Rattle.fond_grammar.specs.Parts.{part, value, value_role, pairs, are_pairs}
 use Rattle.fond_grammar.specs.Faults.{Fits, keys}
 use Rattle.fond_grammar.proofs.Fitting.{AllFit}
 use Rattle.fond_grammar.proofs.FittingActions.{IsAction, keys_known}

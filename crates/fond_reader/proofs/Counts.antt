@@ -1,5 +1,5 @@
 -- As many declarations as a tree has tokens, at most.
-use Rattle.std.proofs.Common.{◌≡◌, ℕ, ◌+◌, ◌&&◌, ◌==◌, ◌≤◌, Bool, true, false, not, List, [], ◌∷◌, ◌++◌, filter, length, map, Option, Some, None, codes, refl, sym, ap, ◌∙◌, arith, if◌then◌else◌}
+use Rattle.std.proofs.Common.{◌≡◌, ℕ, ◌+◌, ◌&&◌, ◌==◌, ◌≤◌, Bool, true, false, not, List, [], ◌∷◌, ◌++◌, length, map, Option, Some, None, codes, refl, arith, if◌then◌else◌}
 use Rattle.std.specs.List.{flat_map, list_all, AllZip}
 use Rattle.std.proofs.lemmas.Bool.Decides.{nat_tests}
 use Rattle.std.specs.Str.{bytes_eq}
@@ -17,7 +17,7 @@ use Rattle.fond_reader.specs.Forms.{is_place}
 use Rattle.fond_reader.specs.Sorts.{is_read_from, are_read_from}
 use Rattle.fond_reader.specs.Typed.{TypedLeaf, typed_leaves, next_type, is_kind, is_one_kind, is_object_alone, have_type, is_declared_by, are_names, is_variable_list}
 use Rattle.fond_reader.specs.declared.typed.Sort.{Sort}
-use Rattle.fond_reader.specs.declared.typed.Sort.TheVariants.{Names, Variables}
+use Rattle.fond_reader.specs.declared.typed.Sort.TheVariants.{Variables}
 use Rattle.fond_reader.proofs.Shapes.{as_many_read, variables_are}
 use Rattle.fond_reader.proofs.Through.{first_of_both, second_of_both, both_hold}
 use Rattle.fond_reader.proofs.Weights.{weight, weights, weights_first, weights_none, weight_some, after_lighter, node_weight}

@@ -1,10 +1,9 @@
 -- The groups of a typed list: leaves without a type, and the type that follows them.
-use Rattle.std.proofs.Common.{◌≡◌, ℕ, suc, ◌+◌, ◌&&◌, Bool, true, false, not, List, [], ◌∷◌, ◌++◌, map, take, drop, Option, Some, None, codes, refl, sym, ap, subst, ◌∙◌, arith, append_assoc, append-nil, if◌then◌else◌, cond}
+use Rattle.std.proofs.Common.{◌≡◌, ℕ, suc, ◌+◌, ◌&&◌, Bool, true, false, not, List, [], ◌∷◌, ◌++◌, map, take, drop, Option, Some, None, refl, sym, ap, subst, ◌∙◌, arith, append-nil, if◌then◌else◌, cond}
 use Rattle.std.proofs.Math.Bool.{and-false}
 use Rattle.std.specs.List.{AllByRecursion, prefix_len}
 use Rattle.fond_tree.specs.declared.tree.Tree.{Tree}
 use Rattle.fond_ast.specs.declared.names.TypedName.{TypedName}
-use Rattle.fond_grammar.specs.declared.role.Role.{Role}
 use Rattle.fond_grammar.specs.Parts.{part, is_dash, typed}
 use Rattle.fond_grammar.specs.Faults.{Fits}
 use Rattle.fond_grammar.specs.Words.{is_name, is_variable}
@@ -12,10 +11,9 @@ use Rattle.fond_grammar.proofs.Fitting.{AllFit, each_fits}
 use Rattle.fond_grammar.proofs.FittingLeaves.{IsLeafOf, name_fits, variable_fits, no_dash}
 use Rattle.fond_grammar.proofs.TypedLists.{AreUndashed, all_fit_split, typed_leaves_then, typed_dash, typed_first}
 use Rattle.fond_reader.specs.Sorts.{leaf_role, type_role, leaf_test, FitsTyped, typed_leaf, AddsLeaves, AddsTyped}
-use Rattle.fond_reader.specs.Typed.{TypedLeaf, typed_leaves, next_type}
+use Rattle.fond_reader.specs.Typed.{typed_leaves, next_type}
 use Rattle.fond_reader.specs.declared.typed.Sort.{Sort}
 use Rattle.fond_reader.specs.declared.typed.Sort.TheVariants.{Names, Variables}
-use Rattle.fond_reader.proofs.Through.{maps_append}
 
 -- a leaf of a sort is one of its leaves
 pub leaf_there : (sort : Sort) (tree : Tree) → Fits (leaf_role sort) tree → IsLeafOf (leaf_test sort) tree
@@ -112,7 +110,7 @@ module _ (sort : Sort) where
       AllByRecursion (Fits (leaf_role sort)) (first ∷ leaves) × AllFit (typed (leaf_role sort) (type_role sort) true after)
   leaves_then_fit first leaves after plain fits =
       let both = all_fit_split (map (part (leaf_role sort)) (first ∷ leaves)) (typed (leaf_role sort) (type_role sort) true after)
-          (subst AllFit (typed_leaves_then (leaf_role sort) (type_role sort) false leaves first after plain) fits) in
+      (subst AllFit (typed_leaves_then (leaf_role sort) (type_role sort) false leaves first after plain) fits) in
       (each_fits (leaf_role sort) (first ∷ leaves) both.0, both.1)
 
   pub last_fits : (trees leaves after : List Tree) → IsGroup trees leaves after → after ≡ [] → FitsTyped sort trees → FitsLast sort trees leaves

@@ -13,3 +13,7 @@ pub mod Counts
 pub mod Shapes
 pub mod VariableCounts
 pub mod SchemaFacts
+pub mod HeadedSections
+pub mod FileFits
+pub mod SchemasRead
+pub mod FileFacts

@@ -19,7 +19,6 @@ use Rattle.fond_ast.specs.declared.syntax.Effect.TheFolds.{fold_out-Effect, map-
 use Rattle.fond_grammar.specs.declared.role.Role.{Role}
 use Rattle.fond_grammar.specs.Words.{is_word}
 use Rattle.fond_grammar.specs.Faults.{Fits}
-use Rattle.fond_grammar.proofs.Fitting.{node_there}
 use Rattle.fond_grammar.proofs.Heads.{HasHead}
 use Rattle.fond_reader.specs.Bodies.{condition_step, is_condition, effect_step, is_effect}
 use Rattle.fond_reader.specs.Forms.{are_operands, is_form}

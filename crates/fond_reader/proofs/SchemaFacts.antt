@@ -1,6 +1,6 @@
 -- Facts of schemas that are read: they declare few variables, and their choices have members.
-use Rattle.std.proofs.Common.{◌≡◌, ℕ, ◌+◌, ◌&&◌, ◌==◌, ◌≤◌, not, nat_le, Bool, true, false, List, [], ◌∷◌, length, map, Option, Some, codes, refl, sym, ap, subst, ◌∙◌, arith, if◌then◌else◌}
-use Rattle.std.specs.List.{list_all, AllZip}
+use Rattle.std.proofs.Common.{◌≡◌, ℕ, ◌+◌, ◌==◌, ◌≤◌, not, Bool, true, false, List, [], ◌∷◌, length, map, Option, codes, refl, sym, ap, subst, ◌∙◌, arith, if◌then◌else◌}
+use Rattle.std.specs.List.{list_all}
 use Rattle.std.proofs.lemmas.Bool.{le-leb}
 use Rattle.std.proofs.lemmas.List.{length-map}
 use Rattle.fond_text.specs.Lists.{each_passes}
@@ -57,7 +57,7 @@ values_weigh [] = omega (arith, weights_none)
 values_weigh (key ∷ []) = omega (arith, weights_none)
 values_weigh (key ∷ value ∷ pairs) =
     let few = one_key (leaf_of key) _ _ _ refl refl refl (weight value) (weights (values (codes ":parameters") pairs)) (weights (values (codes ":precondition") pairs)) (weights (values (codes ":effect") pairs))
-        (weights pairs) (values_weigh pairs) in
+    (weights pairs) (values_weigh pairs) in
     omega (arith, few, values_first (codes ":parameters") key value pairs, values_first (codes ":precondition") key value pairs, values_first (codes ":effect") key value pairs, weights_first key (value ∷ pairs), weights_first value pairs)
 
 parameters_few : (trees : List Tree) (names : List TypedName) → AreParameters trees names → length names ≤ weights trees
@@ -78,8 +78,15 @@ keyed_few (t ∷ ts) effect is = omega (arith, effect_few effect t is.0, weights
 
 schema_few : (tree : Tree) (schema : Schema) → IsSchemaOf tree schema → schema_variables schema ≤ weight tree
 schema_few tree schema is =
-    omega (arith, parameters_few _ schema.parameters is.parameters, pre_few _ schema.pre is.pre, keyed_few _ schema.effect is.effect, values_weigh is.pairs, after_lighter tree is.head (is.name ∷ is.pairs) is.whole,
-    weights_first is.name is.pairs)
+    omega (
+      arith,
+      parameters_few _ schema.parameters is.parameters,
+      pre_few _ schema.pre is.pre,
+      keyed_few _ schema.effect is.effect,
+      values_weigh is.pairs,
+      after_lighter tree is.head (is.name ∷ is.pairs) is.whole,
+      weights_first is.name is.pairs,
+    )
 
 pub schemas_few : (trees : List Tree) (schemas : List Schema) → AreSchemasOf trees schemas → weights trees ≤ LONGEST_TEXT → list_all has_few_variables schemas ≡ true
 schemas_few [] [] are short = refl

@@ -1,5 +1,5 @@
 -- The values of keys, each of which is there once or not at all.
-use Rattle.std.proofs.Common.{◌≡◌, Bool, true, List, [], ◌∷◌, Some, None, slice_get, refl, sym, subst}
+use Rattle.std.proofs.Common.{◌≡◌, true, List, [], ◌∷◌, Some, None, slice_get, refl, sym, subst}
 use Rattle.fond_ast.specs.declared.names.TypedName.{TypedName}
 use Rattle.fond_ast.specs.declared.syntax.Cond.{Cond, Truth}
 use Rattle.fond_ast.specs.declared.syntax.Effect.{Effect, Nothing}

@@ -1,9 +1,7 @@
 -- The variables that conditions, effects and schemas declare are no more than the tokens of their trees.
-use Rattle.std.proofs.Common.{◌≡◌, ℕ, ◌+◌, ◌&&◌, ◌==◌, ◌≤◌, not, nat_le, Bool, true, false, List, [], ◌∷◌, length, map, sum, codes, refl, sym, ap, subst, ◌∙◌, arith, Contains}
-use Rattle.std.specs.List.{list_all, AllZip}
+use Rattle.std.proofs.Common.{◌≡◌, ℕ, ◌+◌, ◌==◌, ◌≤◌, not, Bool, true, List, [], ◌∷◌, length, map, sum, codes, sym, ap, subst, ◌∙◌, arith}
 use Rattle.std.proofs.lemmas.List.Sums.{sum_by-cons}
 use Rattle.fond_text.specs.Lists.{each_passes}
-use Rattle.fond_text.specs.declared.code.TheConstants.{LONGEST_TEXT}
 use Rattle.fond_ast.specs.Read.{condition_variables_step, condition_variables, effect_variables_step, effect_variables}
 use Rattle.fond_ast.specs.declared.syntax.Cond.{Cond, roll-Cond}
 use Rattle.fond_ast.specs.declared.syntax.Cond.TheOpen as open_condition
@@ -18,7 +16,7 @@ use Rattle.fond_reader.specs.Typed.{is_variable_list}
 use Rattle.fond_reader.proofs.Counts.{list_counted}
 use Rattle.fond_reader.proofs.Shapes.{form_there, one_operand, two_operands}
 use Rattle.fond_reader.proofs.Through.{first_of_both, second_of_both}
-use Rattle.fond_reader.proofs.Weights.{weight, weights, weights_first, weights_none, after_lighter}
+use Rattle.fond_reader.proofs.Weights.{weight, weights, weights_first, after_lighter}
 
 -- the operands of a form are lighter than its node
 module _ (word : List ℕ) (tree : Tree) where

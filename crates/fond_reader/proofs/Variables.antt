@@ -1,5 +1,5 @@
 -- Variables that are read from a node.
-use Rattle.std.proofs.Common.{◌≡◌, true, false, List, Some, Result, IfOk, sym, subst, ap, ◌∙◌}
+use Rattle.std.proofs.Common.{◌≡◌, true, false, List, Some, Result, IfOk, sym, subst, ◌∙◌}
 use Rattle.fond_tree.specs.declared.tree.Tree.{Tree}
 use Rattle.fond_tree.specs.Trees.{members_of}
 use Rattle.fond_ast.specs.declared.names.TypedName.{TypedName}

@@ -1,5 +1,5 @@
 -- Typed lists of names and of variables: what fits, what is read, and what is left while a list is read.
-use Rattle.std.specs.Prelude.{◌≡◌, ℕ, ◌++◌, Bool, true, false, List, [], ◌∷◌, map, Option, Some, None}
+use Rattle.std.specs.Prelude.{◌≡◌, ℕ, ◌++◌, Bool, true, false, List, map, Option}
 use Rattle.std.specs.List.{AllByRecursion}
 use Rattle.fond_text.specs.Lists.{each_passes}
 use Rattle.fond_tree.specs.declared.tree.Tree.{Tree}

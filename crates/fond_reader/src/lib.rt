@@ -5,8 +5,10 @@
 mod action;
 mod atom;
 mod condition;
+pub mod domain;
 mod effect;
 mod initial;
 mod node;
+pub mod problem;
 mod section;
 mod typed;

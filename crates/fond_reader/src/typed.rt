@@ -89,12 +89,7 @@ fn object_at(alloc: Global, place: Place) -> Result<Kinds, NoMemory>
 }
 
 /// The types of a leaf at this place: those that are written, or `object`.
-fn kinds_of(
-    alloc: Global,
-    sort: Sort,
-    place: Place,
-    kind: Option<&Tree>,
-) -> Result<Kinds, NoMemory>
+fn kinds_of(alloc: Global, sort: Sort, place: Place, kind: Option<&Tree>) -> Result<Kinds, NoMemory>
     requires { IfSome kind (λ tree. Fits (type_role sort) tree.now) }
     ensures { IfOk result (λ kinds. have_type (type_test sort) place kinds (option_copied kind.entry) ≡ true) }
 {

@@ -1,13 +1,8 @@
-use Rattle.std.proofs.Common.{◌≡◌, Some, ◌∷◌, true, refl, sym, ap, ◌∙◌}
 use Rattle.fond_grammar.specs.Words.{is_name}
 use Rattle.fond_grammar.proofs.FittingLeaves.{name_fits}
 use Rattle.fond_grammar.proofs.FittingNodes.{atom_there}
 use Rattle.fond_grammar.proofs.Heads.{atom_fits}
-use Rattle.fond_tree.specs.Trees.{place_of}
-use Rattle.fond_reader.specs.Bodies.{are_of_atom}
-use Rattle.fond_reader.specs.Forms.{is_place}
 use Rattle.fond_reader.proofs.Named.{headed_of, no_node_of, sorted_at, atom_read}
-use Rattle.fond_reader.proofs.Through.{both_hold}
 use Rattle.fond_reader.proofs.atom.read_atom.Goals as goal
 
 pub head_and_rest-requires : goal.head_and_rest-requires

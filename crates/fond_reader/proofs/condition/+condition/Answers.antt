@@ -1,5 +1,4 @@
 use Rattle.std.proofs.Common.{arith, sym, refl, [], ◌∷◌}
-use Rattle.std.proofs.lemmas.Grind.{common_steps}
 use Rattle.fond_ast.specs.declared.syntax.Cond.TheVariants as made
 use Rattle.fond_grammar.specs.declared.role.Role.TheVariants as role
 use Rattle.fond_grammar.specs.Faults.{Fits}

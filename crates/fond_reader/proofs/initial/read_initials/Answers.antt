@@ -1,4 +1,4 @@
-use Rattle.std.proofs.Common.{◌<◌, length, arith}
+use Rattle.std.proofs.Common.{arith}
 use Rattle.std.proofs.lemmas.Grind.{common_steps}
 use Rattle.fond_grammar.specs.declared.role.Role.TheVariants.{Initial}
 use Rattle.fond_grammar.specs.Faults.{Fits}

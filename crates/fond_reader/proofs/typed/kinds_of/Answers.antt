@@ -1,7 +1,3 @@
-use Rattle.std.proofs.Common.{subst, Some}
-use Rattle.std.specs.Prelude.{IfSome}
-use Rattle.fond_grammar.specs.Faults.{Fits}
-use Rattle.fond_reader.specs.Sorts.{type_role}
 use Rattle.fond_reader.proofs.TypeNames.{kind_of_sort}
 use Rattle.fond_reader.proofs.typed.kinds_of.Goals as goal
 

@@ -1,4 +1,3 @@
-use Rattle.std.proofs.Common.{ap}
 use Rattle.fond_reader.specs.Sorts.{leaf_test}
 use Rattle.fond_reader.proofs.Groups.{leaf_there}
 use Rattle.fond_reader.proofs.Named.{no_node_of, sorted_at}

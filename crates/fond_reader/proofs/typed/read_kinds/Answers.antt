@@ -1,6 +1,5 @@
-use Rattle.std.proofs.Common.{◌≡◌, ◌∷◌, Some, true, false, sym, ◌∙◌}
-use Rattle.fond_tree.specs.Trees.{is_node}
-use Rattle.fond_reader.proofs.TypeNames.{either_headed, either_names, either_read, one_read}
+use Rattle.std.proofs.Common.{sym}
+use Rattle.fond_reader.proofs.TypeNames.{either_headed, either_names, either_read}
 use Rattle.fond_grammar.proofs.FittingNodes.{type_name}
 use Rattle.fond_reader.proofs.typed.read_kinds.Goals as goal
 

@@ -1,4 +1,4 @@
-use Rattle.std.proofs.Common.{◌≡◌, [], sym, subst}
+use Rattle.std.proofs.Common.{[], sym, subst}
 use Rattle.fond_reader.specs.Sorts.{AddsTyped}
 use Rattle.fond_reader.proofs.Lengths.{empty}
 use Rattle.fond_reader.proofs.Pushed.{none_added, more_added, all_added}

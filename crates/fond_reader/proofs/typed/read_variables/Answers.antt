@@ -1,5 +1,3 @@
-use Rattle.std.proofs.Common.{◌≡◌, Some, List, sym, subst, ap, ◌∙◌}
-use Rattle.fond_tree.specs.declared.tree.Tree.{Tree}
 use Rattle.fond_grammar.proofs.FittingNodes.{variables_there}
 use Rattle.fond_reader.proofs.Named.{node_of}
 use Rattle.fond_reader.proofs.Variables.{variables_fit, variables_read}
