@@ -3,6 +3,7 @@ pub mod Among
 pub mod Fitting
 pub mod FittingActions
 pub mod FittingNodes
+pub mod FormFits
 pub mod Heads
 pub mod Incomplete
 pub mod FittingLeaves

@@ -9,6 +9,9 @@ use Rattle.fond_tree.specs.declared.tree.Tree.{Tree}
 use Rattle.fond_tree.specs.Trees.{place_of}
 use Rattle.fond_grammar.specs.Words.{is_one_of, is_word}
 use Rattle.fond_grammar.specs.Faults.{Repeats}
+use Rattle.std.proofs.lemmas.List.{length-append}
+use Rattle.std.proofs.lemmas.List.Elements.{filter-append}
+use Rattle.fond_grammar.proofs.Again.{any_headed}
 
 -- a word that a list contains is one of its words
 pub contained : (words : List (List ℕ)) (word : List ℕ) → Contains words word → is_one_of words word ≡ true
@@ -72,3 +75,31 @@ module _ (heads : Tree → Option (List ℕ)) (single : List (List ℕ)) (trees 
 
   pub at_most_one : length (filter (λ t. is_word word (heads t)) trees) ≤ 1
   at_most_one = one_from [] trees refl
+
+-- ---- a head that occurs again occurs twice
+
+one_of_words : (words : List (List ℕ)) (word : List ℕ) → is_one_of words word ≡ true → Contains words word
+one_of_words [] word is = absurd (cc)
+one_of_words (w ∷ ws) word is = step (bytes_eq word w) refl (one_of_words ws word) is where
+  step : (same : Bool) → bytes_eq word w ≡ same → (is_one_of ws word ≡ true → Contains ws word) → (same || is_one_of ws word) ≡ true → Contains (w ∷ ws) word
+  step true h rest any = (0, omega arith, sym ((bytes_eq-Decides word w).0 h))
+  step false h rest any = let later = rest any in (suc later.0, omega (arith, later.1), later.2)
+
+some_pass : (test : Tree → Bool) (trees : List Tree) → list_any test trees ≡ true → 1 ≤ length (filter test trees)
+some_pass test [] any = absurd (cc)
+some_pass test (t ∷ ts) any = step (test t) (some_pass test ts) any where
+  step : (b : Bool) → (list_any test ts ≡ true → 1 ≤ length (filter test ts)) → (b || list_any test ts) ≡ true → 1 ≤ length (if b then t ∷ filter test ts else filter test ts)
+  step true rest any = omega arith
+  step false rest any = rest any
+
+pub repeats_twice : (heads : Tree → Option (List ℕ)) (single : List (List ℕ)) (trees : List Tree) (place : Place) → Repeats heads single trees place →
+    (word : List ℕ) × Contains single word × (2 ≤ length (filter (λ t. is_word word (heads t)) trees))
+repeats_twice heads single trees place r =
+    let word = r.has.head in
+    let test : Tree → Bool = λ t. is_word word (heads t) in
+    let before = some_pass test r.before ((any_headed heads word r.before).1 r.has.earlier) in
+    let here : test r.item ≡ true = ap (is_word word) r.has.headed ∙ (bytes_eq-Decides word word).1 refl in
+    let item = some_pass test (r.item ∷ r.after) (ap (λ b. b || list_any test r.after) here) in
+    let all = ap (λ ts. length (filter test ts)) r.split in
+    let both = ap length (filter-append test r.before (r.item ∷ r.after)) in
+    (word, one_of_words single word r.has.counts, omega (arith, all, both, length-append (filter test r.before) (filter test (r.item ∷ r.after)), before, item))

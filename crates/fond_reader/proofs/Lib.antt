@@ -17,3 +17,6 @@ pub mod HeadedSections
 pub mod FileFits
 pub mod SchemasRead
 pub mod FileFacts
+pub mod ReadLeaves
+pub mod ReadForms
+pub mod Membership
