@@ -20,3 +20,5 @@ pub mod FileFacts
 pub mod ReadLeaves
 pub mod ReadForms
 pub mod Membership
+pub mod ReadSections
+pub mod ReadFiles
