@@ -24,7 +24,7 @@ leaf_undashed : (sort : Sort) (tree : Tree) → Fits (leaf_role sort) tree → i
 leaf_undashed Names tree fits = no_dash is_name tree refl (name_fits tree fits)
 leaf_undashed Variables tree fits = no_dash is_variable tree refl (variable_fits tree fits)
 
-dash_unfit : (sort : Sort) (tree : Tree) → is_dash tree ≡ true → ¬ Fits (leaf_role sort) tree
+pub dash_unfit : (sort : Sort) (tree : Tree) → is_dash tree ≡ true → ¬ Fits (leaf_role sort) tree
 dash_unfit sort tree dash fits = let same : true ≡ false = sym dash ∙ leaf_undashed sort tree fits in cc
 
 -- trees are leaves before the first `-`, and what follows them

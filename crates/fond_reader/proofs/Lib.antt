@@ -22,3 +22,4 @@ pub mod ReadForms
 pub mod Membership
 pub mod ReadSections
 pub mod ReadFiles
+pub mod BuiltLists
