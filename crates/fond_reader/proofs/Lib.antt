@@ -23,3 +23,4 @@ pub mod Membership
 pub mod ReadSections
 pub mod ReadFiles
 pub mod BuiltLists
+pub mod BuiltForms
