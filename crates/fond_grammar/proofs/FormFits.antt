@@ -1,5 +1,5 @@
 -- Forms that fit, by their heads and members.
-use Rattle.std.proofs.Common.{◌≡◌, ◌||◌, ◌&&◌, Bool, true, false, not, ℕ, List, [], ◌∷◌, map, Option, Some, None, codes, refl, sym, ap, subst, ◌∙◌, if◌then◌else◌}
+use Rattle.std.proofs.Common.{◌≡◌, ◌||◌, ◌&&◌, Bool, true, false, not, ℕ, List, [], ◌∷◌, Some, codes, refl, sym, ap, ◌∙◌, if◌then◌else◌}
 use Rattle.std.proofs.Math.Bool.{and-false}
 use Rattle.std.specs.List.{AllByRecursion, AllZip, list_any}
 use Rattle.std.specs.Str.{bytes_eq}
@@ -11,10 +11,10 @@ use Rattle.fond_grammar.specs.declared.role.Role.{Role}
 use Rattle.fond_grammar.specs.declared.role.Role.TheVariants as role
 use Rattle.fond_grammar.specs.declared.role.Rest.TheVariants.{NoMore, Each}
 use Rattle.fond_grammar.specs.Words.{reserved, is_one_of, is_name, is_variable, is_keyword}
-use Rattle.fond_grammar.specs.Roles.{Shape, shape, Expected, Members, Refused, node_expected, form, form_of, none, atom, atom_or_refused, condition, effect, initial, choice}
+use Rattle.fond_grammar.specs.Roles.{Shape, shape, Expected, Members, Refused, node_expected, form, form_of, none, atom, atom_or_refused, condition, effect, initial}
 use Rattle.fond_grammar.specs.Faults.{Fits, IsRepeated, IsIncomplete}
 use Rattle.fond_grammar.proofs.Fitting.{IsShaped, node_fits, all_of_each, shaped_of_zip}
-use Rattle.fond_grammar.proofs.FittingLeaves.{IsLeafOf, fits_head}
+use Rattle.fond_grammar.proofs.FittingLeaves.{fits_head}
 use Rattle.fond_grammar.proofs.Heads.{HasHead, condition_else, effect_else, initial_else}
 
 -- members after a head are of the shape that the head asks for

@@ -1,5 +1,5 @@
 -- Some condition or effect is read from each tree that fits.
-use Rattle.std.proofs.Common.{◌≡◌, ℕ, suc, ◌≤◌, ◌==◌, ◌&&◌, Bool, true, false, not, List, [], ◌∷◌, map, length, Option, Some, None, Vec, Box, Global, codes, refl, sym, ap, subst, ◌∙◌, arith, if◌then◌else◌}
+use Rattle.std.proofs.Common.{◌≡◌, ℕ, suc, ◌≤◌, ◌==◌, Bool, true, false, not, List, [], ◌∷◌, map, length, Some, Vec, Box, Global, codes, refl, sym, ap, subst, ◌∙◌, arith}
 use Rattle.std.specs.List.{AllByRecursion, AllZip}
 use Rattle.std.specs.Str.{bytes_eq}
 use Rattle.std.proofs.lemmas.Bool.Decides.{nat_tests}
@@ -7,7 +7,7 @@ use Rattle.fond_text.specs.Lists.{each_passes}
 use Rattle.fond_tree.specs.declared.tree.Tree.{Tree, out-Tree, roll-Tree, out-roll-Tree}
 use Rattle.fond_tree.specs.declared.tree.Tree.TheOpen.{Tree-F, Leaf, Node}
 use Rattle.fond_tree.specs.declared.tree.Tree.TheFolds.{map-Tree, ind-Tree}
-use Rattle.fond_tree.specs.Trees.{members_step, members_of, leaf_of}
+use Rattle.fond_tree.specs.Trees.{members_step, members_of}
 use Rattle.fond_ast.specs.declared.files.InitAtom.{InitAtom}
 use Rattle.fond_ast.specs.declared.syntax.Cond.{Cond, roll-Cond}
 use Rattle.fond_ast.specs.declared.syntax.Cond.TheOpen as open_condition
@@ -22,7 +22,7 @@ use Rattle.fond_grammar.proofs.Fitting.{node_there}
 use Rattle.fond_grammar.proofs.FittingNodes.{initial_there}
 use Rattle.fond_grammar.proofs.Heads.{HasHead, condition_head, and_fits, or_fits, not_fits, imply_fits, forall_fits, exists_fits, equal_fits, condition_atom, effect_head, effects_fit, delete_fits, forall_effect_fits, when_fits, choice_fits, effect_atom, initial_head, negated_fits, initial_atom}
 use Rattle.fond_reader.specs.Bodies.{is_term, is_atom, condition_step, is_condition, effect_step, is_effect, is_initial}
-use Rattle.fond_reader.specs.Forms.{is_empty, is_form}
+use Rattle.fond_reader.specs.Forms.{is_empty}
 use Rattle.fond_reader.specs.Typed.{is_variable_list}
 use Rattle.fond_reader.proofs.BuiltLists.{term_built, atom_built, variables_built}
 use Rattle.fond_reader.proofs.Operators.{operands_read}

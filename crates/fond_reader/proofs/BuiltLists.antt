@@ -1,12 +1,12 @@
 -- Some declaration is read from each leaf, atom and typed list that fits.
-use Rattle.std.proofs.Common.{◌≡◌, ◌⊎◌, inl, inr, ℕ, suc, ◌==◌, ◌&&◌, ◌||◌, Bool, true, false, not, List, [], ◌∷◌, map, length, Option, Some, None, codes, refl, sym, ap, subst, ◌∙◌, arith, is_some, if◌then◌else◌}
+use Rattle.std.proofs.Common.{◌≡◌, ◌==◌, ◌&&◌, ◌||◌, Bool, true, false, not, List, [], ◌∷◌, map, length, Option, Some, None, codes, refl, ap, subst, ◌∙◌, arith, if◌then◌else◌}
 use Rattle.std.proofs.Math.Bool.{or-true}
 use Rattle.std.proofs.lemmas.Bool.Decides.{nat_tests}
 use Rattle.std.specs.List.{AllByRecursion}
 use Rattle.fond_text.specs.Lists.{each_passes}
 use Rattle.fond_text.specs.declared.place.Place.{Place}
 use Rattle.fond_tree.specs.declared.tree.Tree.{Tree}
-use Rattle.fond_tree.specs.Trees.{members_of, leaf_of, place_of, is_node}
+use Rattle.fond_tree.specs.Trees.{place_of, is_node}
 use Rattle.fond_ast.specs.declared.files.Declared.{Declared}
 use Rattle.fond_ast.specs.declared.names.Kind.{Kind}
 use Rattle.fond_ast.specs.declared.names.ReadAtom.{ReadAtom}
@@ -15,16 +15,16 @@ use Rattle.fond_ast.specs.declared.names.TypedName.{TypedName}
 use Rattle.fond_grammar.specs.declared.role.Role.TheVariants as role
 use Rattle.fond_grammar.specs.Parts.{part, is_dash, typed}
 use Rattle.fond_grammar.specs.Roles.{is_term as is_term_leaf}
-use Rattle.fond_grammar.specs.Words.{is_word, is_name, is_variable}
+use Rattle.fond_grammar.specs.Words.{is_name, is_variable}
 use Rattle.fond_grammar.specs.Faults.{Fits}
 use Rattle.fond_grammar.proofs.Fitting.{AllFit, each_fits}
-use Rattle.fond_grammar.proofs.FittingLeaves.{IsLeafOf, name_fits, term_fits}
+use Rattle.fond_grammar.proofs.FittingLeaves.{name_fits, term_fits}
 use Rattle.fond_grammar.proofs.FittingNodes.{atom_there, predicate_there, variables_there, type_name, either_there}
 use Rattle.fond_reader.specs.Bodies.{is_term, is_atom}
 use Rattle.fond_reader.specs.Files.{is_declared, are_of_declared}
 use Rattle.fond_reader.specs.Forms.{is_form}
 use Rattle.fond_reader.specs.Sorts.{leaf_role, type_role, type_test, leaf_test, FitsTyped, is_read_from, are_read_from}
-use Rattle.fond_reader.specs.Typed.{typed_leaves, next_type, is_kind, is_one_kind, are_kinds, is_object_alone, have_type, is_variable_list}
+use Rattle.fond_reader.specs.Typed.{typed_leaves, next_type, is_kind, is_one_kind, are_kinds, have_type, is_variable_list}
 use Rattle.fond_reader.specs.declared.typed.Sort.{Sort}
 use Rattle.fond_reader.specs.declared.typed.Sort.TheVariants.{Names, Variables}
 use Rattle.fond_reader.proofs.Groups.{leaf_there, dash_unfit}
@@ -50,9 +50,10 @@ pub atom_built : (tree : Tree) → Fits role.Atom tree → (atom : ReadAtom) × 
 atom_built tree fits =
     let node = atom_there tree fits in
     let l = name_fits node.head node.head_fits in
-    let terms = each_built is_term (Fits role.Term) term_built node.after (each_fits role.Term node.after node.after_fit) in
-    (record { place = place_of tree; head = place_of node.head; name = l.leaf; terms = terms.0 },
-      atom_read (place_of tree) (place_of node.head) l.leaf terms.0 tree node.head node.after node.whole refl (sorted_at is_name node.head (place_of node.head) l.leaf l refl l.is) terms.1)
+    let terms = each_built is_term (Fits role.Term) term_built node.after (each_fits role.Term node.after node.after_fit) in (
+      record { place = place_of tree; head = place_of node.head; name = l.leaf; terms = terms.0 },
+      atom_read (place_of tree) (place_of node.head) l.leaf terms.0 tree node.head node.after node.whole refl (sorted_at is_name node.head (place_of node.head) l.leaf l refl l.is) terms.1,
+    )
 
 -- ---- types
 

@@ -1,17 +1,16 @@
 -- Trees of a list, and sections with a head.
-use Rattle.std.proofs.Common.{◌≡◌, ◌⊎◌, inl, inr, ℕ, suc, ◌≤◌, ◌||◌, Bool, true, false, List, [], ◌∷◌, length, Option, Some, None, refl, sym, ap, subst, ◌∙◌, arith, append-nil, if◌then◌else◌, Contains}
-use Rattle.std.specs.List.{AllByRecursion, AllZip, flat_map, list_any, list_all, filter_map}
+use Rattle.std.proofs.Common.{◌≡◌, ◌⊎◌, inl, inr, ℕ, ◌≤◌, ◌||◌, Bool, true, false, List, [], ◌∷◌, length, Option, Some, None, refl, sym, ap, subst, ◌∙◌, arith, append-nil, if◌then◌else◌, Contains}
+use Rattle.std.specs.List.{AllByRecursion, flat_map, list_any, list_all, filter_map}
 use Rattle.std.specs.Str.{bytes_eq}
 use Rattle.std.proofs.lemmas.Slice.Eq.{bytes_eq-Decides}
 use Rattle.fond_tree.specs.declared.tree.Tree.{Tree}
-use Rattle.fond_tree.specs.Trees.{members_of, leaf_of, head_of, front}
+use Rattle.fond_tree.specs.Trees.{members_of, leaf_of, head_of}
 use Rattle.fond_ast.specs.declared.files.Schema.{Schema}
 use Rattle.fond_grammar.specs.Roles.{is_headed_by}
 use Rattle.fond_grammar.specs.Words.{has_head, is_one_of, is_word}
 use Rattle.fond_grammar.proofs.Again.{any_headed}
 use Rattle.fond_grammar.proofs.Heads.{HasHead}
 use Rattle.fond_reader.specs.Files.{headed, content, contents, IsSchemaOf, AreSchemasOf}
-use Rattle.fond_reader.proofs.Shapes.{leaf_is}
 use Rattle.fond_reader.proofs.Through.{first_of_both, second_of_both, true_is_false}
 
 -- a tree is one of these

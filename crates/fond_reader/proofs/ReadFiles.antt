@@ -1,6 +1,6 @@
 -- Domains and problems that are read fit.
-use Rattle.std.proofs.Common.{◌≡◌, ◌⊎◌, inl, inr, ℕ, zero, suc, ◌≤◌, ◌<◌, ◌&&◌, ◌||◌, Bool, true, false, List, [], ◌∷◌, filter, length, map, Option, Some, None, codes, refl, sym, ap, subst, ◌∙◌, arith, Contains}
-use Rattle.std.specs.List.{AllByRecursion, AllZip, list_all}
+use Rattle.std.proofs.Common.{◌≡◌, ◌⊎◌, inl, inr, ℕ, ◌≤◌, ◌||◌, Bool, true, false, List, [], ◌∷◌, length, map, Option, Some, None, codes, refl, sym, ap, subst, ◌∙◌, arith, Contains}
+use Rattle.std.specs.List.{AllByRecursion, AllZip}
 use Rattle.std.specs.Str.{bytes_eq}
 use Rattle.std.proofs.lemmas.Slice.Eq.{bytes_eq-Decides}
 use Rattle.fond_text.specs.Lists.{each_passes}
@@ -14,16 +14,16 @@ use Rattle.fond_grammar.specs.declared.role.Role.TheVariants as role
 use Rattle.fond_grammar.specs.declared.role.FixedWord.{FixedWord}
 use Rattle.fond_grammar.specs.declared.role.FixedWord.TheVariants as fixed
 use Rattle.fond_grammar.specs.declared.role.Rest.TheVariants.{NoMore, Each, Typed, Unread}
-use Rattle.fond_grammar.specs.Words.{is_word, has_head, is_name, is_one_of}
+use Rattle.fond_grammar.specs.Words.{is_word, is_one_of}
 use Rattle.fond_grammar.specs.Roles.{Shape, shape, Members, section, domain_section, problem_section, passed_over, word}
-use Rattle.fond_grammar.specs.Faults.{Fits, after_header, Repeats, Lacks, IsRepeated, single_in_domain, single_in_problem}
-use Rattle.fond_grammar.proofs.Fitting.{AllFit, IsShaped, node_fits, all_of_each, shaped_of_zip}
-use Rattle.fond_grammar.proofs.FittingLeaves.{IsLeafOf, fits_name, fits_head, fits_word}
+use Rattle.fond_grammar.specs.Faults.{Fits, after_header, Repeats, Lacks, single_in_domain, single_in_problem}
+use Rattle.fond_grammar.proofs.Fitting.{IsShaped, node_fits, all_of_each, shaped_of_zip}
+use Rattle.fond_grammar.proofs.FittingLeaves.{fits_name, fits_head, fits_word}
 use Rattle.fond_grammar.proofs.FormFits.{shaped_each, shaped_fixed}
 use Rattle.fond_grammar.proofs.Heads.{HasHead}
 use Rattle.fond_grammar.proofs.Once.{repeats_twice}
 use Rattle.fond_reader.specs.Bodies.{is_condition, is_initial}
-use Rattle.fond_reader.specs.Files.{is_name_leaf, are_header, IsFile, headed, content, contents, AreSingle, is_declared, IsDomainOf, IsProblemOf}
+use Rattle.fond_reader.specs.Files.{is_name_leaf, are_header, IsFile, headed, contents, AreSingle, is_declared, IsDomainOf, IsProblemOf}
 use Rattle.fond_reader.specs.Forms.{is_only}
 use Rattle.fond_reader.specs.Sorts.{FitsTyped}
 use Rattle.fond_reader.specs.declared.typed.Sort.TheVariants.{Names}

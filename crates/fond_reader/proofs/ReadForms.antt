@@ -1,5 +1,5 @@
 -- Conditions, effects and initial atoms that are read fit.
-use Rattle.std.proofs.Common.{◌≡◌, ℕ, ◌==◌, ◌&&◌, Bool, true, false, not, List, [], ◌∷◌, map, length, codes, refl, sym, ap, subst, ◌∙◌, if◌then◌else◌}
+use Rattle.std.proofs.Common.{◌≡◌, ◌==◌, Bool, true, false, not, List, [], ◌∷◌, map, length, codes, refl, sym, ap, subst, ◌∙◌, if◌then◌else◌}
 use Rattle.std.specs.List.{AllByRecursion, AllZip}
 use Rattle.fond_text.specs.Lists.{each_passes}
 use Rattle.fond_tree.specs.declared.tree.Tree.{Tree}

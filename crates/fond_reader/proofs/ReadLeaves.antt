@@ -1,6 +1,6 @@
 -- Leaves, atoms and typed lists that are read fit.
-use Rattle.std.proofs.Common.{◌≡◌, ◌⊎◌, inl, inr, ℕ, ◌==◌, ◌&&◌, ◌||◌, Bool, true, false, not, List, [], ◌∷◌, map, length, Option, Some, None, codes, refl, sym, ap, subst, ◌∙◌, if◌then◌else◌}
-use Rattle.std.specs.List.{AllByRecursion, AllZip}
+use Rattle.std.proofs.Common.{◌≡◌, ◌⊎◌, inl, inr, ℕ, ◌==◌, ◌&&◌, ◌||◌, Bool, true, false, not, List, [], ◌∷◌, map, length, Option, Some, None, codes, refl, sym, ap, subst, if◌then◌else◌}
+use Rattle.std.specs.List.{AllByRecursion}
 use Rattle.fond_text.specs.Lists.{each_passes}
 use Rattle.fond_text.specs.declared.place.Place.{Place}
 use Rattle.fond_tree.specs.declared.tree.Tree.{Tree}
@@ -9,7 +9,6 @@ use Rattle.fond_ast.specs.declared.names.Kind.{Kind}
 use Rattle.fond_ast.specs.declared.names.ReadAtom.{ReadAtom}
 use Rattle.fond_ast.specs.declared.names.Term.{Term}
 use Rattle.fond_ast.specs.declared.names.TypedName.{TypedName}
-use Rattle.fond_grammar.specs.declared.role.Role.{Role}
 use Rattle.fond_grammar.specs.declared.role.Role.TheVariants as role
 use Rattle.fond_grammar.specs.declared.role.FixedWord.TheVariants as fixed
 use Rattle.fond_grammar.specs.declared.role.Rest.TheVariants.{Each, Typed}
@@ -23,11 +22,11 @@ use Rattle.fond_grammar.proofs.Heads.{HasHead}
 use Rattle.fond_reader.specs.Bodies.{is_term, is_atom, are_of_atom}
 use Rattle.fond_reader.specs.Forms.{is_place, is_sorted, is_named, is_form}
 use Rattle.fond_reader.specs.Sorts.{leaf_role, type_role, leaf_test, type_test, FitsTyped, is_read_from, are_read_from}
-use Rattle.fond_reader.specs.Typed.{typed_leaves, next_type, is_kind, is_one_kind, are_kinds, have_type, is_variable_list, are_variables}
+use Rattle.fond_reader.specs.Typed.{typed_leaves, next_type, is_kind, is_one_kind, have_type, is_variable_list}
 use Rattle.fond_reader.specs.declared.typed.Sort.{Sort}
 use Rattle.fond_reader.specs.declared.typed.Sort.TheVariants.{Names, Variables}
 use Rattle.fond_reader.proofs.Named.{no_node_of}
-use Rattle.fond_reader.proofs.Shapes.{leaf_is, form_there, one_operand, variables_are}
+use Rattle.fond_reader.proofs.Shapes.{leaf_is, form_there, variables_are}
 use Rattle.fond_reader.proofs.Through.{first_of_both, second_of_both, true_is_false}
 
 -- a leaf that is read is of its sort
@@ -156,9 +155,11 @@ module _ (sort : Sort) where
         at_leaf b dash same next (n ∷ ns) h =
             let here = first_of_both _ _ h in
             let leaf = first_of_both _ _ here in
-            let typed_here = second_of_both (is_sorted (leaf_test sort) n.place n.name t) _ here in
-            (leaf_fits sort n t leaf, next (not dash) ns (λ _ type is_next. type_fits sort n.kinds type (subst (λ (w : Option Tree). have_type (type_test sort) n.place n.kinds w ≡ true) is_next typed_here))
-            (second_of_both (is_read_from sort n (record { leaf = t; type = next_type (u ∷ us) })) _ h))
+            let typed_here = second_of_both (is_sorted (leaf_test sort) n.place n.name t) _ here in (
+              leaf_fits sort n t leaf,
+              next (not dash) ns (λ _ type is_next. type_fits sort n.kinds type (subst (λ (w : Option Tree). have_type (type_test sort) n.place n.kinds w ≡ true) is_next typed_here))
+                  (second_of_both (is_read_from sort n (record { leaf = t; type = next_type (u ∷ us) })) _ h),
+            )
 
         step : (b dash : Bool) → is_dash t ≡ dash → TypeWaits sort b (t ∷ u ∷ us) →
             ((ns : List TypedName) → TypeWaits sort false us → are_read_from sort ns (typed_leaves false us) ≡ true → AllFit (typed (leaf_role sort) (type_role sort) false us)) →

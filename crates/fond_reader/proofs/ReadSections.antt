@@ -1,8 +1,7 @@
 -- Actions and predicates that are read fit.
-use Rattle.std.proofs.Common.{◌≡◌, ◌⊎◌, inl, inr, ℕ, zero, suc, ◌≤◌, ◌<◌, ◌&&◌, Bool, true, false, List, [], ◌∷◌, ◌++◌, length, Option, Some, None, codes, option_to_list, option_map, option_and_then, refl, sym, ap, subst, ◌∙◌, arith, if◌then◌else◌, Contains}
+use Rattle.std.proofs.Common.{◌≡◌, ℕ, zero, suc, ◌≤◌, Bool, true, false, List, [], ◌∷◌, length, Option, Some, None, codes, option_to_list, option_map, refl, sym, ap, subst, ◌∙◌, arith, if◌then◌else◌, Contains}
 use Rattle.std.specs.List.{AllByRecursion, list_all}
 use Rattle.std.specs.Str.{bytes_eq}
-use Rattle.fond_text.specs.declared.place.Place.{Place}
 use Rattle.fond_tree.specs.declared.tree.Tree.{Tree}
 use Rattle.fond_tree.specs.Trees.{members_of, leaf_of, head_of}
 use Rattle.fond_ast.specs.declared.files.Declared.{Declared}
@@ -15,7 +14,7 @@ use Rattle.fond_grammar.specs.declared.role.Role.TheVariants as role
 use Rattle.fond_grammar.specs.declared.role.Rest.TheVariants.{Typed, Pairs}
 use Rattle.fond_grammar.specs.Words.{is_word, has_head, is_name, is_one_of}
 use Rattle.fond_grammar.specs.Roles.{shape, action_keys, is_headed_by, section, domain_section}
-use Rattle.fond_grammar.specs.Parts.{Part, part, value, value_role, pairs, are_pairs}
+use Rattle.fond_grammar.specs.Parts.{part, value, pairs, are_pairs}
 use Rattle.fond_grammar.specs.Faults.{Fits, keys, after_header, Repeats}
 use Rattle.fond_grammar.proofs.Fitting.{AllFit, node_fits}
 use Rattle.fond_grammar.proofs.FittingLeaves.{fits_name, fits_key, fits_head}
@@ -23,7 +22,6 @@ use Rattle.fond_grammar.proofs.Once.{repeats_twice}
 use Rattle.fond_grammar.proofs.TypedLists.{all_fit_join}
 use Rattle.fond_reader.specs.Files.{is_declared, are_of_declared, values, AreParameters, IsPrecondition, IsKeyedEffect, IsSchemaOf}
 use Rattle.fond_reader.specs.Forms.{is_named}
-use Rattle.fond_reader.specs.Typed.{are_variables}
 use Rattle.fond_reader.specs.declared.typed.Sort.TheVariants.{Variables}
 use Rattle.fond_reader.proofs.Actions.{values_counted}
 use Rattle.fond_reader.proofs.ReadForms.{condition_fits, effect_fits}
@@ -88,7 +86,7 @@ pairs_fit (key ∷ tree ∷ trees) paired known p c e =
     let cs = values_split role.Condition (codes ":precondition") key tree trees c in
     let es = values_split role.Effect (codes ":effect") key tree trees e in
     let here = value_fits tree (bytes_eq leaf.0 (codes ":parameters")) (bytes_eq leaf.0 (codes ":precondition")) (bytes_eq leaf.0 (codes ":effect"))
-        (λ is. ps.0 (ap (is_word (codes ":parameters")) leaf.1 ∙ is)) (λ is. cs.0 (ap (is_word (codes ":precondition")) leaf.1 ∙ is)) (λ is. es.0 (ap (is_word (codes ":effect")) leaf.1 ∙ is)) in
+    (λ is. ps.0 (ap (is_word (codes ":parameters")) leaf.1 ∙ is)) (λ is. cs.0 (ap (is_word (codes ":precondition")) leaf.1 ∙ is)) (λ is. es.0 (ap (is_word (codes ":effect")) leaf.1 ∙ is)) in
     let looked : value (leaf_of key) tree ≡ value (Some leaf.0) tree = ap (λ l. value l tree) leaf.1 in
     let rest = pairs_fit trees paired (second_of_both (is_headed_by action_keys (leaf_of key)) _ known) ps.1 cs.1 es.1 in
     (fits_key key (record { leaf = leaf.0; is = leaf.1; passes = leaf.2 }), all_fit_join (value (leaf_of key) tree) (pairs trees) (subst AllFit (sym looked) here) rest)

@@ -8,6 +8,7 @@ mod condition;
 pub mod domain;
 mod effect;
 mod initial;
+pub mod laws;
 mod node;
 pub mod problem;
 mod section;
