@@ -35,9 +35,6 @@ module _ (leaf type : Role) where
   pub typed_dash : (dash kind : Tree) (after : List Tree) → is_dash dash ≡ true → typed leaf type true (dash ∷ kind ∷ after) ≡ part type kind ∷ typed leaf type false after
   typed_dash dash kind after is = rw is refl
 
-  -- a `-` that no tree follows is a leaf, and so is one that no leaf without a type precedes
-  pub typed_last : (untyped : Bool) (tree : Tree) → typed leaf type untyped (tree ∷ []) ≡ part leaf tree ∷ []
-  typed_last untyped tree = refl
-
+  -- a `-` that no leaf without a type precedes is a leaf
   pub typed_first : (tree : Tree) (after : List Tree) → typed leaf type false (tree ∷ after) ≡ part leaf tree ∷ typed leaf type (not (is_dash tree)) after
   typed_first tree after = typed_after_type leaf type false tree after refl

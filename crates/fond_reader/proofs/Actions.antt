@@ -1,11 +1,11 @@
 -- Actions that fit are read: their names, and the values of their keys.
-use Rattle.std.proofs.Common.{◌≡◌, ℕ, suc, ◌-◌, ◌≤◌, ◌<◌, Bool, true, false, List, [], ◌∷◌, filter, length, take, drop, get_or, Option, Some, None, codes, option_to_list, option_map, refl, sym, ap, subst, ◌∙◌, arith, if◌then◌else◌, Contains}
+use Rattle.std.proofs.Common.{◌≡◌, ℕ, suc, ◌-◌, ◌≤◌, ◌<◌, Bool, true, false, List, [], ◌∷◌, filter, length, take, drop, get_or, Some, codes, option_to_list, option_map, refl, sym, ap, subst, ◌∙◌, arith, if◌then◌else◌, Contains}
 use Rattle.std.specs.List.{AllByRecursion}
-use Rattle.std.proofs.lemmas.Slice.Eq.{bytes_eq-Decides}
 use Rattle.fond_tree.specs.declared.tree.Tree.{Tree}
 use Rattle.fond_tree.specs.Trees.{members_of, leaf_of}
 use Rattle.fond_grammar.specs.declared.role.Role.{Role}
 use Rattle.fond_grammar.specs.declared.role.Role.TheVariants as role
+use Rattle.fond_grammar.proofs.Again.{word_is as leaf_is}
 use Rattle.fond_grammar.specs.Words.{is_word}
 use Rattle.fond_grammar.specs.Roles.{action_keys}
 use Rattle.fond_grammar.specs.Parts.{part, value, value_role, pairs, are_pairs}
@@ -16,11 +16,6 @@ use Rattle.fond_grammar.proofs.TypedLists.{all_fit_split}
 use Rattle.fond_reader.specs.Files.{values, but_first, content}
 use Rattle.fond_reader.specs.Nodes.{FitsOnce, FitsPairs}
 use Rattle.fond_reader.proofs.Through.{first_and_rest}
-
--- a leaf that is a word
-pub leaf_is : (word : List ℕ) (leaf : Option (List ℕ)) → is_word word leaf ≡ true → leaf ≡ Some word
-leaf_is word None is = cc
-leaf_is word (Some leaf) is = ap (λ l. Some l) ((bytes_eq-Decides leaf word).0 is)
 
 module _ (word : List ℕ) where
   -- the values of a key in pairs that fit

@@ -1,7 +1,6 @@
 -- Some declaration is read from each leaf, atom and typed list that fits.
-use Rattle.std.proofs.Common.{◌≡◌, ◌==◌, ◌&&◌, ◌||◌, Bool, true, false, not, List, [], ◌∷◌, map, length, Option, Some, None, codes, refl, ap, subst, ◌∙◌, arith, if◌then◌else◌}
+use Rattle.std.proofs.Common.{◌≡◌, ◌==◌, ◌&&◌, ◌||◌, Bool, true, false, not, List, [], ◌∷◌, map, length, Option, Some, None, codes, refl, ap, subst, ◌∙◌, if◌then◌else◌}
 use Rattle.std.proofs.Math.Bool.{or-true}
-use Rattle.std.proofs.lemmas.Bool.Decides.{nat_tests}
 use Rattle.std.specs.List.{AllByRecursion}
 use Rattle.fond_text.specs.Lists.{each_passes}
 use Rattle.fond_text.specs.declared.place.Place.{Place}
@@ -30,7 +29,9 @@ use Rattle.fond_reader.specs.declared.typed.Sort.TheVariants.{Names, Variables}
 use Rattle.fond_reader.proofs.Groups.{leaf_there, dash_unfit}
 use Rattle.fond_reader.proofs.Named.{same_place, same_truth, sorted_at, atom_read}
 use Rattle.fond_reader.proofs.Through.{both_hold}
-use Rattle.fond_reader.proofs.TypeNames.{form_read, word_is}
+use Rattle.fond_reader.proofs.TypeNames.{word_is}
+use Rattle.fond_reader.proofs.Operators.{form_read}
+use Rattle.fond_reader.proofs.Shapes.{some_read}
 
 -- trees are read one by one if each is read
 pub each_built : {X : Type 0} (read : X → Tree → Bool) (P : Tree → Type 0) → ((tree : Tree) → P tree → (x : X) × (read x tree ≡ true)) → (trees : List Tree) → AllByRecursion P trees →
@@ -63,10 +64,6 @@ kind_built tree fits = let l = name_fits tree fits in (record { place = place_of
 one_kind_built : (tree : Tree) → Fits role.Name tree → (kinds : List Kind) × (is_one_kind kinds tree ≡ true)
 one_kind_built tree fits = let k = kind_built tree fits in (k.0 ∷ [], both_hold _ _ k.1 refl)
 
-some_kinds : (kinds : List Kind) (first : Tree) (names : List Tree) → each_passes (map is_kind kinds) (first ∷ names) ≡ true → not (length kinds == 0) ≡ true
-some_kinds [] first names is = absurd (cc)
-some_kinds (k ∷ ks) first names is = grind (arith, nat_tests)
-
 pub type_built : (sort : Sort) (tree : Tree) → Fits (type_role sort) tree → (kinds : List Kind) × (type_test sort kinds tree ≡ true)
 type_built Names tree fits = one_kind_built tree fits
 type_built Variables tree fits = from (is_node tree) refl where
@@ -78,7 +75,7 @@ type_built Variables tree fits = from (is_node tree) refl where
       let e = either_there tree fits is in
       let kinds = each_built is_kind (Fits role.Name) kind_built (e.first ∷ e.names) e.names_fit in
       let form = form_read (codes "either") (map is_kind kinds.0) tree e.head (e.first ∷ e.names) e.whole (word_is e.head e.head_fits) kinds.1 in
-      (kinds.0, ap (λ b. is_one_kind kinds.0 tree || b) (both_hold _ _ (some_kinds kinds.0 e.first e.names kinds.1) form) ∙ or-true (is_one_kind kinds.0 tree))
+      (kinds.0, ap (λ b. is_one_kind kinds.0 tree || b) (both_hold _ _ (some_read is_kind kinds.0 e.first e.names kinds.1) form) ∙ or-true (is_one_kind kinds.0 tree))
 
 -- the types of a leaf
 have_built : (sort : Sort) (place : Place) (type : Option Tree) → ((tree : Tree) → type ≡ Some tree → Fits (type_role sort) tree) → (kinds : List Kind) × (have_type (type_test sort) place kinds type ≡ true)

@@ -38,8 +38,11 @@ pub has_head : (tree : Tree) (place : Place) (members : Vec Tree Global) (all : 
 has_head tree place members all head word is same some at leaf = record { head = head; whole = headed_by tree place members all head is same some at; leaf = leaf }
 
 -- a node of a word and operands that are read is read as a form
+pub form_read : (word : List ℕ) (reads : List (Tree → Bool)) (tree head : Tree) (after : List Tree) → members_of tree ≡ Some (head ∷ after) → is_word word (leaf_of head) ≡ true → each_passes reads after ≡ true → is_form word reads tree ≡ true
+form_read word reads tree head after is same read = ap (are_operands word reads) is ∙ both_hold _ _ same read
+
 pub operands_read : (tree : Tree) (word other : List ℕ) (after : List Tree) (reads : List (Tree → Bool)) → HasHead tree word after → bytes_eq word other ≡ true → each_passes reads after ≡ true → is_form other reads tree ≡ true
-operands_read tree word other after reads has same read = ap (are_operands other reads) has.whole ∙ both_hold _ _ (ap (is_word other) has.leaf ∙ same) read
+operands_read tree word other after reads has same read = form_read other reads tree has.head after has.whole (ap (is_word other) has.leaf ∙ same) read
 
 -- a condition and an effect are read by their outer forms
 pub condition_made : (condition : Cond) (layer : Cond-F Cond) (tree : Tree) → out-Cond condition ≡ layer → condition_step (map-Cond Cond (Tree → Bool) is_condition layer) tree ≡ true → is_condition condition tree ≡ true

@@ -1,5 +1,5 @@
 -- Domains and problems that are read fit.
-use Rattle.std.proofs.Common.{◌≡◌, ◌⊎◌, inl, inr, ℕ, ◌≤◌, ◌||◌, Bool, true, false, List, [], ◌∷◌, length, map, Option, Some, None, codes, refl, sym, ap, subst, ◌∙◌, arith, Contains}
+use Rattle.std.proofs.Common.{◌≡◌, ◌⊎◌, inl, inr, ℕ, ◌≤◌, true, false, List, [], ◌∷◌, length, map, Option, Some, None, codes, refl, sym, ap, subst, ◌∙◌, arith, Contains}
 use Rattle.std.specs.List.{AllByRecursion, AllZip}
 use Rattle.std.specs.Str.{bytes_eq}
 use Rattle.std.proofs.lemmas.Slice.Eq.{bytes_eq-Decides}
@@ -17,6 +17,7 @@ use Rattle.fond_grammar.specs.declared.role.Rest.TheVariants.{NoMore, Each, Type
 use Rattle.fond_grammar.specs.Words.{is_word, is_one_of}
 use Rattle.fond_grammar.specs.Roles.{Shape, shape, Members, section, domain_section, problem_section, passed_over, word}
 use Rattle.fond_grammar.specs.Faults.{Fits, after_header, Repeats, Lacks, single_in_domain, single_in_problem}
+use Rattle.fond_grammar.proofs.Again.{or_cases}
 use Rattle.fond_grammar.proofs.Fitting.{IsShaped, node_fits, all_of_each, shaped_of_zip}
 use Rattle.fond_grammar.proofs.FittingLeaves.{fits_name, fits_head, fits_word}
 use Rattle.fond_grammar.proofs.FormFits.{shaped_each, shaped_fixed}
@@ -33,7 +34,7 @@ use Rattle.fond_reader.proofs.Membership.{In, all_in, passes_in, in_headed, alon
 use Rattle.fond_reader.proofs.ReadForms.{condition_fits, initial_fits}
 use Rattle.fond_reader.proofs.ReadLeaves.{list_fits}
 use Rattle.fond_reader.proofs.ReadSections.{predicate_fits, schema_fits}
-use Rattle.fond_reader.proofs.Shapes.{leaf_is}
+use Rattle.fond_grammar.proofs.Again.{word_is as leaf_is}
 use Rattle.fond_reader.proofs.Through.{first_of_both, second_of_both, true_is_false}
 
 -- a leaf that is a name fits
@@ -61,10 +62,6 @@ header_fits kind tree is = from (members_of tree) refl is where
       let zip = shaped_of_zip (role.Name ∷ []) after (only_name after (second_of_both (is_word (word kind) (leaf_of first)) _ h)) in
       node_fits (role.Header kind) tree (λ place again. again) (λ place lacks. lacks) (first ∷ after) (shape (role.Word kind ∷ role.Name ∷ []) NoMore) whole refl
       (record { counted = zip.0; inner = (word_read kind first (first_of_both _ _ h), zip.1) })
-
-either : (a b : Bool) → (a || b) ≡ true → (a ≡ true) ⊎ (b ≡ true)
-either true b is = inl refl
-either false b is = inr is
 
 -- no head of the sections of a file is repeated if each that counts occurs once
 unrepeated : (single : List (List ℕ)) (sections : List Tree) (place : Place) → AreSingle single sections → ¬ Repeats head_of single sections place
@@ -147,15 +144,15 @@ module _ (tree : Tree) (domain : Domain) (is : IsDomainOf tree domain) (t : Tree
       schema_fits t schema.0 schema.1 has
 
   domain_part_fits : Fits role.DomainSection t
-  domain_part_fits = elim (either (bytes_eq k.word (codes ":requirements")) _ k.known) [
+  domain_part_fits = elim (or_cases (bytes_eq k.word (codes ":requirements")) _ k.known) [
     | inl same ↦ requirements_fit same
-    | inr more ↦ elim (either (bytes_eq k.word (codes ":types")) _ more) [
+    | inr more ↦ elim (or_cases (bytes_eq k.word (codes ":types")) _ more) [
       | inl same ↦ domain_names_fit (codes ":types") same refl refl (1, omega arith, refl) (list_fits Names domain.kinds _ is.types)
-      | inr more ↦ elim (either (bytes_eq k.word (codes ":constants")) _ more) [
+      | inr more ↦ elim (or_cases (bytes_eq k.word (codes ":constants")) _ more) [
         | inl same ↦ domain_names_fit (codes ":constants") same refl refl (2, omega arith, refl) (list_fits Names domain.constants _ is.constants)
-        | inr more ↦ elim (either (bytes_eq k.word (codes ":predicates")) _ more) [
+        | inr more ↦ elim (or_cases (bytes_eq k.word (codes ":predicates")) _ more) [
           | inl same ↦ declared_fit same
-          | inr more ↦ elim (either (bytes_eq k.word (codes ":action")) false more) [ inl same ↦ action_fits same | inr none ↦ absurd (cc) ]
+          | inr more ↦ elim (or_cases (bytes_eq k.word (codes ":action")) false more) [ inl same ↦ action_fits same | inr none ↦ absurd (cc) ]
         ]
       ]
     ]
@@ -222,24 +219,24 @@ module _ (tree : Tree) (problem : Problem) (is : IsProblemOf tree problem) (t : 
       (subst (AllByRecursion (Fits role.Initial)) (this_content ProblemHeads t k w same is.sections here (is.single w (3, omega arith, refl))) (initials_fit problem.init (contents w is.sections) is.init)))
 
   passed_fits : is_one_of passed_over k.word ≡ true → Fits role.ProblemSection t
-  passed_fits passed = elim (either (bytes_eq k.word (codes ":metric")) _ passed) [
+  passed_fits passed = elim (or_cases (bytes_eq k.word (codes ":metric")) _ passed) [
     | inl same ↦ unread_fits (codes ":metric") same refl
-    | inr more ↦ elim (either (bytes_eq k.word (codes ":goal-reward")) _ more) [
+    | inr more ↦ elim (or_cases (bytes_eq k.word (codes ":goal-reward")) _ more) [
       | inl same ↦ unread_fits (codes ":goal-reward") same refl
-      | inr more ↦ elim (either (bytes_eq k.word (codes ":length")) false more) [ inl same ↦ unread_fits (codes ":length") same refl | inr none ↦ absurd (cc) ]
+      | inr more ↦ elim (or_cases (bytes_eq k.word (codes ":length")) false more) [ inl same ↦ unread_fits (codes ":length") same refl | inr none ↦ absurd (cc) ]
     ]
   ]
 
   problem_part_fits : Fits role.ProblemSection t
-  problem_part_fits = elim (either (bytes_eq k.word (codes ":requirements")) _ k.known) [
+  problem_part_fits = elim (or_cases (bytes_eq k.word (codes ":requirements")) _ k.known) [
     | inl same ↦ unread_fits (codes ":requirements") same refl
-    | inr more ↦ elim (either (bytes_eq k.word (codes ":domain")) _ more) [
+    | inr more ↦ elim (or_cases (bytes_eq k.word (codes ":domain")) _ more) [
       | inl same ↦ fixed_fits (codes ":domain") role.Name same refl (1, omega arith, refl) (only_name (contents (codes ":domain") is.sections) is.domain)
-      | inr more ↦ elim (either (bytes_eq k.word (codes ":objects")) _ more) [
+      | inr more ↦ elim (or_cases (bytes_eq k.word (codes ":objects")) _ more) [
         | inl same ↦ objects_fit same
-        | inr more ↦ elim (either (bytes_eq k.word (codes ":init")) _ more) [
+        | inr more ↦ elim (or_cases (bytes_eq k.word (codes ":init")) _ more) [
           | inl same ↦ init_fits same
-          | inr more ↦ elim (either (bytes_eq k.word (codes ":goal")) _ more) [
+          | inr more ↦ elim (or_cases (bytes_eq k.word (codes ":goal")) _ more) [
             | inl same ↦ fixed_fits (codes ":goal") role.Condition same refl (4, omega arith, refl) (goal_zip problem.goal (contents (codes ":goal") is.sections) is.goal)
             | inr passed ↦ passed_fits passed
           ]

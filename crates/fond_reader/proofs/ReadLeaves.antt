@@ -1,5 +1,5 @@
 -- Leaves, atoms and typed lists that are read fit.
-use Rattle.std.proofs.Common.{◌≡◌, ◌⊎◌, inl, inr, ℕ, ◌==◌, ◌&&◌, ◌||◌, Bool, true, false, not, List, [], ◌∷◌, map, length, Option, Some, None, codes, refl, sym, ap, subst, if◌then◌else◌}
+use Rattle.std.proofs.Common.{◌≡◌, inl, inr, ℕ, ◌==◌, ◌&&◌, Bool, true, false, not, List, [], ◌∷◌, map, length, Option, Some, None, codes, refl, sym, ap, subst, if◌then◌else◌}
 use Rattle.std.specs.List.{AllByRecursion}
 use Rattle.fond_text.specs.Lists.{each_passes}
 use Rattle.fond_text.specs.declared.place.Place.{Place}
@@ -16,8 +16,9 @@ use Rattle.fond_grammar.specs.Words.{is_word, is_name, is_variable}
 use Rattle.fond_grammar.specs.Roles.{is_term as is_term_leaf, shape, atom}
 use Rattle.fond_grammar.specs.Parts.{part, is_dash, typed}
 use Rattle.fond_grammar.specs.Faults.{Fits}
+use Rattle.fond_grammar.proofs.Again.{or_cases}
 use Rattle.fond_grammar.proofs.Fitting.{AllFit, IsShaped, node_fits, all_of_each}
-use Rattle.fond_grammar.proofs.FittingLeaves.{IsLeafOf, fits_name, fits_type_name, fits_variable, fits_term, fits_word, no_dash}
+use Rattle.fond_grammar.proofs.FittingLeaves.{IsLeafOf, fits_name, fits_type_name, fits_variable, fits_term, fits_word}
 use Rattle.fond_grammar.proofs.Heads.{HasHead}
 use Rattle.fond_reader.specs.Bodies.{is_term, is_atom, are_of_atom}
 use Rattle.fond_reader.specs.Forms.{is_place, is_sorted, is_named, is_form}
@@ -26,7 +27,8 @@ use Rattle.fond_reader.specs.Typed.{typed_leaves, next_type, is_kind, is_one_kin
 use Rattle.fond_reader.specs.declared.typed.Sort.{Sort}
 use Rattle.fond_reader.specs.declared.typed.Sort.TheVariants.{Names, Variables}
 use Rattle.fond_reader.proofs.Named.{no_node_of}
-use Rattle.fond_reader.proofs.Shapes.{leaf_is, form_there, variables_are}
+use Rattle.fond_grammar.proofs.Again.{word_is as leaf_is}
+use Rattle.fond_reader.proofs.Shapes.{form_there, variables_are}
 use Rattle.fond_reader.proofs.Through.{first_of_both, second_of_both, true_is_false}
 
 -- a leaf that is read is of its sort
@@ -36,9 +38,6 @@ sorted_there sort place name tree is = record {
   is = leaf_is name (leaf_of tree) (first_of_both _ _ (first_of_both (is_word name (leaf_of tree) && is_place place (place_of tree)) _ is));
   passes = second_of_both (is_word name (leaf_of tree) && is_place place (place_of tree)) _ is;
 }
-
-pub named_leaf : (place : Place) (name : List ℕ) (tree : Tree) → is_named place name tree ≡ true → leaf_of tree ≡ Some name
-named_leaf place name tree is = leaf_is name (leaf_of tree) (first_of_both _ _ (first_of_both (is_word name (leaf_of tree) && is_place place (place_of tree)) _ is))
 
 term_leaf : (term : Term) (tree : Tree) → is_term term tree ≡ true → IsLeafOf is_term_leaf tree
 term_leaf term tree is = sorted_there is_term_leaf term.place term.name tree (first_of_both _ _ is)
@@ -111,13 +110,9 @@ either_fits kinds tree some is =
           node_fits role.VariableType tree (λ place again. again) (λ place lacks. lacks) (has.head ∷ first ∷ names) (shape (role.Word fixed.Either ∷ role.Name ∷ []) (Each role.Name)) has.whole refl
           (record { counted = refl; inner = (fits_word fixed.Either has.head (record { leaf = codes "either"; is = has.leaf; passes = refl }), (fit.0, all_of_each role.Name names fit.1)) })
 
-either_or : (a b : Bool) → (a || b) ≡ true → (a ≡ true) ⊎ (b ≡ true)
-either_or true b is = inl refl
-either_or false b is = inr is
-
 type_fits : (sort : Sort) (kinds : List Kind) (tree : Tree) → type_test sort kinds tree ≡ true → Fits (type_role sort) tree
 type_fits Names kinds tree is = fits_name tree (one_kind_leaf kinds tree is)
-type_fits Variables kinds tree is = elim (either_or (is_one_kind kinds tree) _ is) [
+type_fits Variables kinds tree is = elim (or_cases (is_one_kind kinds tree) _ is) [
   | inl one ↦ fits_type_name tree (one_kind_leaf kinds tree one)
   | inr form ↦ either_fits kinds tree (first_of_both _ _ form) (second_of_both (not (length kinds == 0)) _ form)
 ]
@@ -127,10 +122,6 @@ type_fits Variables kinds tree is = elim (either_or (is_one_kind kinds tree) _ i
 leaf_fits : (sort : Sort) (name : TypedName) (tree : Tree) → is_sorted (leaf_test sort) name.place name.name tree ≡ true → Fits (leaf_role sort) tree
 leaf_fits Names name tree is = fits_name tree (sorted_there is_name name.place name.name tree is)
 leaf_fits Variables name tree is = fits_variable tree (sorted_there is_variable name.place name.name tree is)
-
-leaf_undashed : (sort : Sort) (name : TypedName) (tree : Tree) → is_sorted (leaf_test sort) name.place name.name tree ≡ true → is_dash tree ≡ false
-leaf_undashed Names name tree is = no_dash is_name tree refl (sorted_there is_name name.place name.name tree is)
-leaf_undashed Variables name tree is = no_dash is_variable tree refl (sorted_there is_variable name.place name.name tree is)
 
 -- the type that the next `-` gives fits, if some leaf waits for it
 abbrev TypeWaits : Sort → Bool → List Tree → Type 0

@@ -26,7 +26,7 @@ use Rattle.fond_reader.specs.declared.typed.Sort.TheVariants.{Variables}
 use Rattle.fond_reader.proofs.Actions.{values_counted}
 use Rattle.fond_reader.proofs.ReadForms.{condition_fits, effect_fits}
 use Rattle.fond_reader.proofs.ReadLeaves.{sorted_there, list_fits, variables_fit}
-use Rattle.fond_reader.proofs.Shapes.{leaf_is}
+use Rattle.fond_grammar.proofs.Again.{word_is as leaf_is}
 use Rattle.fond_reader.proofs.Through.{first_of_both, second_of_both, true_is_false}
 
 -- a tree that is read as a declared predicate fits

@@ -23,7 +23,8 @@ use Rattle.fond_reader.specs.Bodies.{is_condition, effect_step, is_effect}
 use Rattle.fond_reader.specs.Typed.{is_variable_list}
 use Rattle.fond_reader.specs.Files.{values, AreParameters, IsPrecondition, IsKeyedEffect, IsSchemaOf, AreSchemasOf}
 use Rattle.fond_reader.proofs.Counts.{list_counted}
-use Rattle.fond_reader.proofs.Shapes.{leaf_is, form_there, two_operands}
+use Rattle.fond_grammar.proofs.Again.{word_is as leaf_is}
+use Rattle.fond_reader.proofs.Shapes.{form_there, two_operands}
 use Rattle.fond_reader.proofs.Through.{first_of_both, second_of_both, both_hold}
 use Rattle.fond_reader.proofs.VariableCounts.{condition_few, effect_few}
 use Rattle.fond_reader.proofs.Weights.{weight, weights, weights_first, weights_none, after_lighter}

@@ -1,21 +1,17 @@
 -- What a node is that is read as a form, and lists that are read item by item.
-use Rattle.std.proofs.Common.{◌≡◌, ℕ, Bool, true, false, List, [], ◌∷◌, length, map, Option, Some, None, refl, sym, ap, ◌∙◌, arith}
+use Rattle.std.proofs.Common.{◌≡◌, ℕ, ◌==◌, not, Bool, true, false, List, [], ◌∷◌, length, map, Option, Some, None, refl, sym, ap, ◌∙◌, arith}
+use Rattle.std.proofs.lemmas.Bool.Decides.{nat_tests}
 use Rattle.std.proofs.lemmas.List.{length-map}
-use Rattle.std.proofs.lemmas.Slice.Eq.{bytes_eq-Decides}
 use Rattle.fond_text.specs.Lists.{each_passes}
 use Rattle.fond_tree.specs.declared.tree.Tree.{Tree}
 use Rattle.fond_tree.specs.Trees.{members_of, leaf_of}
+use Rattle.fond_grammar.proofs.Again.{word_is as leaf_is}
 use Rattle.fond_grammar.specs.Words.{is_word}
 use Rattle.fond_grammar.proofs.Heads.{HasHead}
 use Rattle.fond_reader.specs.Forms.{are_operands, is_form, is_unit, is_empty}
 use Rattle.fond_reader.specs.Typed.{is_variable_list, are_variables}
 use Rattle.fond_reader.proofs.Lengths.{empty}
 use Rattle.fond_reader.proofs.Through.{first_of_both, second_of_both}
-
--- a leaf that is a word
-pub leaf_is : (word : List ℕ) (leaf : Option (List ℕ)) → is_word word leaf ≡ true → leaf ≡ Some word
-leaf_is word None is = cc
-leaf_is word (Some leaf) is = ap (λ l. Some l) ((bytes_eq-Decides leaf word).0 is)
 
 -- a node of a word, after which operands are read
 pub record IsForm (word : List ℕ) (reads : List (Tree → Bool)) (tree : Tree) : Type 0 where
@@ -69,3 +65,8 @@ variables_are tree names is = from (members_of tree) refl where
   from : (members : Option (List Tree)) → members_of tree ≡ members → (ms : List Tree) × (members_of tree ≡ Some ms) × (are_variables names ms ≡ true)
   from None whole = absurd (let h = rw whole at is in cc)
   from (Some ms) whole = (ms, whole, rw whole at is)
+
+-- what is read from some items is not nothing
+pub some_read : {X T : Type 0} (read : X → T → Bool) (xs : List X) (first : T) (items : List T) → each_passes (map read xs) (first ∷ items) ≡ true → not (length xs == 0) ≡ true
+some_read read [] first items is = absurd (cc)
+some_read read (x ∷ xs) first items is = grind (arith, nat_tests)

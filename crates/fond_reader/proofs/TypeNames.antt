@@ -1,7 +1,6 @@
 -- The types of a variable.
-use Rattle.std.proofs.Common.{◌≡◌, ◌==◌, ◌&&◌, ◌||◌, Bool, true, not, List, [], ◌∷◌, map, length, Option, Some, Bor, Result, IfOk, IfSome, codes, sym, ap, subst, ◌∙◌, arith}
+use Rattle.std.proofs.Common.{◌≡◌, ◌==◌, ◌&&◌, ◌||◌, true, not, List, ◌∷◌, map, length, Option, Some, Bor, Result, IfOk, IfSome, codes, sym, ap, subst, ◌∙◌}
 use Rattle.std.proofs.Math.Bool.{or-true}
-use Rattle.std.proofs.lemmas.Bool.Decides.{nat_tests}
 use Rattle.std.specs.List.{AllByRecursion}
 use Rattle.fond_text.specs.Lists.{each_passes}
 use Rattle.fond_tree.specs.declared.tree.Tree.{Tree}
@@ -13,17 +12,15 @@ use Rattle.fond_grammar.specs.declared.role.FixedWord.TheVariants as fixed
 use Rattle.fond_grammar.specs.Faults.{Fits}
 use Rattle.fond_grammar.proofs.FittingLeaves.{word_fits}
 use Rattle.fond_grammar.proofs.FittingNodes.{IsEither, either_there}
-use Rattle.fond_reader.specs.Forms.{are_operands, is_form}
+use Rattle.fond_reader.specs.Forms.{is_form}
 use Rattle.fond_reader.specs.Nodes.{is_headed}
 use Rattle.fond_reader.specs.Sorts.{type_role}
 use Rattle.fond_reader.specs.declared.typed.Sort.{Sort}
 use Rattle.fond_reader.specs.Typed.{is_kind, is_one_kind, are_kinds}
+use Rattle.fond_reader.proofs.Operators.{form_read}
 use Rattle.fond_reader.proofs.Named.{headed_of}
+use Rattle.fond_reader.proofs.Shapes.{some_read}
 use Rattle.fond_reader.proofs.Through.{both_hold, if_ok}
-
--- a node of a word and operands that are read is read as a form
-pub form_read : (word : List _) (reads : List (Tree → Bool)) (tree head : Tree) (after : List Tree) → members_of tree ≡ Some (head ∷ after) → is_word word (leaf_of head) ≡ true → each_passes reads after ≡ true → is_form word reads tree ≡ true
-form_read word reads tree head after is same read = ap (are_operands word reads) is ∙ both_hold _ _ same read
 
 -- a word that fits is that leaf
 pub word_is : (tree : Tree) → Fits (role.Word fixed.Either) tree → is_word (codes "either") (leaf_of tree) ≡ true
@@ -48,13 +45,9 @@ module _ (tree head : Tree) (names : List Tree) (fits : Fits role.VariableType t
   pub either_names : AllByRecursion (Fits role.Name) names
   either_names = subst (AllByRecursion (Fits role.Name)) (sym split.same_names) split.fitting.names_fit
 
-  some : (kinds : List Kind) → each_passes (map is_kind kinds) (split.fitting.first ∷ split.fitting.names) ≡ true → not (length kinds == 0) ≡ true
-  some [] read = cc
-  some (k ∷ ks) read = grind (arith, nat_tests)
-
   pub either_read : {E : Type 0} (result : Result (List Kind) E) → IfOk result (λ kinds. each_passes (map is_kind kinds) names ≡ true) → IfOk result (λ kinds. are_kinds kinds tree ≡ true)
   either_read result = if_ok _ _ result (λ kinds read.
-      let count = some kinds (subst (λ ts. each_passes (map is_kind kinds) ts ≡ true) split.same_names read) in
+      let count = some_read is_kind kinds _ _ (subst (λ ts. each_passes (map is_kind kinds) ts ≡ true) split.same_names read) in
       let form = form_read (codes "either") (map is_kind kinds) tree head names whole (ap (λ t. is_word (codes "either") (leaf_of t)) split.same_head ∙ word_is split.fitting.head split.fitting.head_fits) read in
       ap (λ b. is_one_kind kinds tree || b) (both_hold _ _ count form) ∙ or-true (is_one_kind kinds tree))
 

@@ -53,7 +53,7 @@ pub(crate) fn read_condition(alloc: Global, tree: &Tree) -> Result<Cond, NoMemor
         return Ok(Cond::Exists(names, part));
     }
     if is_word(word, b"=") {
-        let (term, other) = read_terms_of(alloc, after)?;
+        let (term, other) = read_two_terms(alloc, after)?;
         return Ok(Cond::Equal(term, other));
     }
     Ok(Cond::Holds(read_atom(alloc, tree)?))
@@ -117,7 +117,7 @@ fn read_quantified(alloc: Global, trees: &[Tree]) -> Result<(TypedNames, Box<Con
 }
 
 /// The terms that these two trees are read as.
-fn read_terms_of(alloc: Global, trees: &[Tree]) -> Result<(Term, Term), NoMemory>
+fn read_two_terms(alloc: Global, trees: &[Tree]) -> Result<(Term, Term), NoMemory>
     requires fit { AllZip Fits (TermRole ∷ TermRole ∷ []) trees.now }
     ensures { IfOk result (λ terms. each_passes (is_term terms.0 ∷ is_term terms.1 ∷ []) trees.now ≡ true) }
 {

@@ -118,7 +118,7 @@ fn read_declared(
     Ok(TypedName { place, name, kinds })
 }
 
-/// Adds the declarations of leaves that have one type. Each gets its own copy of that.
+/// Adds the declarations of leaves that have one type. Each gets its own copy of the type.
 fn push_leaves(
     alloc: Global,
     sort: Sort,

@@ -81,8 +81,8 @@ read_condition-returns-then-is_word-6 t c =
     let has = has_head _ _ _ _ _ _ c.in-Node.is c.as_slice.ensures.value c.in-len1-up.len_at_least c.head-item.is c.word_of-word.ensures in
     condition_made _ _ _ (made.outs-Exists c.in_ok-names-2.names c.in_ok-names-2.part) (operands_read _ _ _ _ (is_variable_list c.in_ok-names-2.names ∷ is_condition c.in_ok-names-2.part.value ∷ []) has (sym c.if-is_word-6.ensures) c.in_ok-names-2.ensures)
 
-pub read_condition-read_terms_of-requires : goal.read_condition-read_terms_of-requires
-read_condition-read_terms_of-requires t c =
+pub read_condition-read_two_terms-requires : goal.read_condition-read_two_terms-requires
+read_condition-read_two_terms-requires t c =
     let has = has_head _ _ _ _ _ _ c.in-Node.is c.as_slice.ensures.value c.in-len1-up.len_at_least c.head-item.is c.word_of-word.ensures in
     record { fit = equal_fits _ _ _ c.requires.fits has (sym c.if-is_word-7.ensures) }
 
