@@ -19,12 +19,12 @@ abbrev pub leaf_role : Sort → Role
 leaf_role Names = Name
 leaf_role Variables = Variable
 
--- what is expected of its types
+-- what is expected of the types of a list of this sort
 abbrev pub type_role : Sort → Role
 type_role Names = Name
 type_role Variables = VariableType
 
--- whether a leaf is of this sort
+-- whether a leaf may be declared by a list of this sort
 abbrev pub leaf_test : Sort → List ℕ → Bool
 leaf_test Names = is_name
 leaf_test Variables = is_variable
