@@ -1,4 +1,5 @@
 pub mod Atoms
+pub mod Bools
 pub mod Local
 pub mod Members
 pub mod Occurs

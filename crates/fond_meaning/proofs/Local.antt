@@ -1,5 +1,5 @@
 -- The truth of a condition depends only on the variables and the predicates that occur in it.
-use Rattle.std.proofs.Common.{◌≡◌, ◌⊎◌, inl, inr, ℕ, ◌+◌, ◌-◌, ◌<◌, ◌≤◌, ◌∙◌, ◌||◌, Bool, true, List, [], ◌∷◌, ◌++◌, map, length, get_or, refl, sym, ap, subst, arith, length-append}
+use Rattle.std.proofs.Common.{◌≡◌, ◌⊎◌, inl, inr, ℕ, ◌+◌, ◌-◌, ◌<◌, ◌≤◌, ◌∙◌, Bool, List, [], ◌∷◌, ◌++◌, map, length, get_or, refl, sym, ap, subst, arith, length-append}
 use Rattle.std.specs.Prelude.{◌==◌, IsTrue}
 use Rattle.std.specs.List.{list_any}
 use Rattle.std.specs.FinSet as set
@@ -15,7 +15,8 @@ use Rattle.fond_ast.specs.declared.form.LCond.{LCond, Truth, Holds as HoldsAtom,
 use Rattle.fond_meaning.specs.States.{State}
 use Rattle.fond_meaning.specs.Conditions.{object_of, ground_atom, Holds, HoldsEach, HoldsSome}
 use Rattle.fond_meaning.specs.Laws.{is_variable, has_variable, has_variable_step, has_predicate, has_predicate_step, TruthIsLocal}
-use Rattle.fond_meaning.proofs.Occurs.{or-left, or-right, some_passes, of-And', of-Or', of-Not', of-Imply'-left, of-Imply'-right, of-Forall', of-Exists', variables-search, predicates-search, variable-Holds, variable-Equal, predicate-Holds}
+use Rattle.fond_meaning.proofs.Bools.{or-left, or-right}
+use Rattle.fond_meaning.proofs.Occurs.{some_passes, of-And', of-Or', of-Not', of-Imply'-left, of-Imply'-right, of-Forall', of-Exists', variables-search, predicates-search, variable-Holds, variable-Equal, predicate-Holds}
 
 -- two states have the same atoms of some predicates, and two lists of objects are equally long and equal at some variables
 record Agree (predicates variables : ℕ → Bool) (state other : State) (env around : List ℕ) : Type 0 where
@@ -115,9 +116,9 @@ mutual
   local (Imply' shape part shape_of_second second) state other env around agree h =
       let whole = Imply' shape part shape_of_second second in
       let left =
-          in-part whole part state other env around (λ n. of-Imply'-left (has_predicate_step n) (predicates-search n) shape part shape_of_second second) (λ n. of-Imply'-left (has_variable_step n) (variables-search n) shape part shape_of_second second) agree in
+      in-part whole part state other env around (λ n. of-Imply'-left (has_predicate_step n) (predicates-search n) shape part shape_of_second second) (λ n. of-Imply'-left (has_variable_step n) (variables-search n) shape part shape_of_second second) agree in
       let right =
-          in-part whole second state other env around (λ n. of-Imply'-right (has_predicate_step n) (predicates-search n) shape part shape_of_second second) (λ n. of-Imply'-right (has_variable_step n) (variables-search n) shape part shape_of_second second) agree in
+      in-part whole second state other env around (λ n. of-Imply'-right (has_predicate_step n) (predicates-search n) shape part shape_of_second second) (λ n. of-Imply'-right (has_variable_step n) (variables-search n) shape part shape_of_second second) agree in
       λ holds. local second state other env around right (h (local part other state around env (flipped _ _ state other env around left) holds))
   local (Forall' ranges shape part) state other env around agree h =
       let within = in-part (Forall' ranges shape part) part state other env around (λ n. of-Forall' (has_predicate_step n) (predicates-search n) ranges shape part) (λ n. of-Forall' (has_variable_step n) (variables-search n) ranges shape part) agree in

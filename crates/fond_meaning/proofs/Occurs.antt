@@ -1,5 +1,5 @@
 -- What occurs in a part of a condition occurs in the condition.
-use Rattle.std.proofs.Common.{◌≡◌, ℕ, ◌∙◌, ◌||◌, Bool, true, false, List, [], ◌∷◌, Vec, Box, Global, map, refl, ap}
+use Rattle.std.proofs.Common.{◌≡◌, ℕ, ◌∙◌, ◌||◌, Bool, Vec, Box, Global, map, refl, ap}
 use Rattle.std.specs.Prelude.{◌==◌, IsTrue}
 use Rattle.std.specs.List.{list_any}
 use Rattle.fond_ast.specs.Ranges.{RangeList}
@@ -12,14 +12,7 @@ use Rattle.fond_ast.specs.declared.form.LCond.TheOpen.{LCond-F}
 use Rattle.fond_ast.specs.declared.form.LCond.TheViews.{out-LCond, outs-Holds, outs-Equal, outs-And', outs-Or', outs-Not', outs-Imply', outs-Forall', outs-Exists'}
 use Rattle.fond_ast.specs.declared.form.LCond.TheFolds.{fold-LCond, fold_out-LCond, map-LCond}
 use Rattle.fond_meaning.specs.Laws.{is_variable, has_variable, has_variable_step, has_predicate, has_predicate_step}
-
-pub or-left : (a b : Bool) → IsTrue a → IsTrue (a || b)
-or-left true b h = refl
-or-left false b h = cc
-
-pub or-right : (a b : Bool) → IsTrue b → IsTrue (a || b)
-or-right true b h = refl
-or-right false b h = h
+use Rattle.fond_meaning.proofs.Bools.{or-left, or-right}
 
 -- a fold into tests by the form of the condition
 fold-at : (step : LCond-F Bool → Bool) (condition : LCond) (layer : LCond-F LCond) → out-LCond condition ≡ layer → fold-LCond Bool step condition ≡ step (map-LCond LCond Bool (fold-LCond Bool step) layer)

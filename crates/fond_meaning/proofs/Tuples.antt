@@ -1,33 +1,13 @@
 -- The lists of one object of each range have their objects in the ranges, place by place.
-use Rattle.std.proofs.Common.{◌≡◌, ◌⊎◌, inl, inr, ℕ, ◌&&◌, ◌||◌, Bool, true, false, List, [], ◌∷◌, map, refl, sym, ap, subst, ◌∙◌, arith}
-use Rattle.std.specs.Prelude.{◌==◌, IsTrue, Contains}
-use Rattle.std.specs.List.{list_any, flat_map}
+use Rattle.std.proofs.Common.{◌≡◌, inl, inr, ℕ, true, List, [], ◌∷◌, map, refl, sym, ap, ◌∙◌, arith}
+use Rattle.std.specs.Prelude.{◌==◌}
 use Rattle.std.proofs.lemmas.Bool.Decides.{nat_tests}
 use Rattle.fond_text.specs.Lists.{each_passes}
 use Rattle.fond_ast.specs.Ranges.{is_among}
 use Rattle.fond_meaning.specs.Conditions.{tuples}
 use Rattle.fond_meaning.specs.Laws.{TuplesLieInRanges}
+use Rattle.fond_meaning.proofs.Bools.{and-both, and-parts, or-left, or-right, or-cases}
 use Rattle.fond_meaning.proofs.Members.{Member, Member-from_Contains, Contains-from_Member, Member-map, Member-from_map, Member-flat_map, Member-from_flat_map}
-
-both-true : (a b : Bool) → a ≡ true → b ≡ true → (a && b) ≡ true
-both-true true b p q = q
-both-true false b p q = p
-
-and-true : (a b : Bool) → (a && b) ≡ true → (a ≡ true) × (b ≡ true)
-and-true true b h = (refl, h)
-and-true false b h = cc
-
-or-left : (a b : Bool) → a ≡ true → (a || b) ≡ true
-or-left true b p = refl
-or-left false b p = cc
-
-or-right : (a b : Bool) → b ≡ true → (a || b) ≡ true
-or-right true b p = refl
-or-right false b p = p
-
-or-cases : (a b : Bool) → (a || b) ≡ true → (a ≡ true) ⊎ (b ≡ true)
-or-cases true b h = inl refl
-or-cases false b h = inr h
 
 among : (range : List ℕ) (object : ℕ) → Member range object → is_among range object ≡ true
 among [] object m = absurd m
@@ -46,14 +26,14 @@ lies (range ∷ ranges) objects m =
     let outer = Member-from_flat_map (λ object. map (λ rest. object ∷ rest) (tuples ranges)) range objects m in
     let inner = Member-from_map (λ rest. outer.0 ∷ rest) (tuples ranges) objects outer.2 in
     ap (each_passes (map is_among (range ∷ ranges))) inner.2
-    ∙ both-true (is_among range outer.0) (each_passes (map is_among ranges) inner.0) (among range outer.0 outer.1) (lies ranges inner.0 inner.1)
+    ∙ and-both (is_among range outer.0) (each_passes (map is_among ranges) inner.0) (among range outer.0 outer.1) (lies ranges inner.0 inner.1)
 
 of-lies : (ranges : List (List ℕ)) (objects : List ℕ) → each_passes (map is_among ranges) objects ≡ true → Member (tuples ranges) objects
 of-lies [] [] h = inl refl
 of-lies [] (object ∷ objects) h = cc
 of-lies (range ∷ ranges) [] h = cc
 of-lies (range ∷ ranges) (object ∷ objects) h =
-    let all = and-true (is_among range object) (each_passes (map is_among ranges) objects) h in
+    let all = and-parts (is_among range object) (each_passes (map is_among ranges) objects) h in
     Member-flat_map (λ first. map (λ rest. first ∷ rest) (tuples ranges)) range object (object ∷ objects) (of-among range object all.0)
     (Member-map (λ rest. object ∷ rest) (tuples ranges) objects (of-lies ranges objects all.1))
 
