@@ -1,5 +1,5 @@
 -- The game of a task, and what its policies, traps and solutions are.
-use Rattle.std.specs.Prelude.{◌≡◌, ℕ, List, [], true, Option, Some, slice_get}
+use Rattle.std.specs.Prelude.{◌≡◌, ℕ, List, [], true, Some, slice_get}
 use Rattle.fond_play.specs.Games as games
 use Rattle.fond_play.specs.Games.{Game}
 use Rattle.fond_ast.specs.declared.task.LSchema.{LSchema}

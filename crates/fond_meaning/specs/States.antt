@@ -1,5 +1,5 @@
 -- Finite sets of ground atoms, and states.
-use Rattle.std.specs.Prelude.{ℕ, List, ◌∷◌}
+use Rattle.std.specs.Prelude.{List, ◌∷◌}
 use Rattle.std.specs.Ordering.{nat_cmp}
 use Rattle.std.specs.Cmp.Lexicographic.{slice_cmp}
 use Rattle.std.specs.FinSet as set
