@@ -2,16 +2,12 @@
 use Rattle.std.specs.Prelude.{◌≡◌, ℕ, List, [], true, Some, slice_get}
 use Rattle.fond_play.specs.Games as games
 use Rattle.fond_play.specs.Games.{Game}
+use Rattle.fond_text.specs.declared.atom.GroundAction.{GroundAction}
 use Rattle.fond_ast.specs.declared.task.LSchema.{LSchema}
 use Rattle.fond_ast.specs.declared.task.LiftedTask.{LiftedTask}
 use Rattle.fond_meaning.specs.States.{State, atoms_of}
 use Rattle.fond_meaning.specs.Conditions.{Holds, IsTuple}
 use Rattle.fond_meaning.specs.Effects.{Change, Gives, after}
-
--- a ground action: the number of its schema, and the objects of its parameters in order
-pub record GroundAction : Type 0 where
-  pub schema : ℕ
-  pub objects : List ℕ
 
 -- the initial state has the initial atoms
 abbrev pub initial : LiftedTask → State
