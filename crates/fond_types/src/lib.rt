@@ -2,4 +2,11 @@
 //! fault of their names. What the task means is left to the crates above.
 #![tactic(auto)]
 
+mod files;
+mod index;
+mod lookup;
+mod redeclared;
+mod repeated;
 pub mod resolve;
+mod scope;
+mod variable;
