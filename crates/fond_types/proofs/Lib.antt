@@ -1,5 +1,9 @@
 pub mod Among
+pub mod Ancestors
+pub mod Members
 pub mod Cuts
+pub mod Kept
+pub mod SameLemmas
 pub mod Lookups
 pub mod Missing
 pub mod Positions

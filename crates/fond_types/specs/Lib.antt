@@ -5,3 +5,5 @@ pub mod Resolves
 pub mod Indexes
 pub mod Scopes
 pub mod Files
+pub mod Same
+pub mod Subtypes

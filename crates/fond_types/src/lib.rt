@@ -5,6 +5,7 @@
 mod files;
 mod index;
 mod lookup;
+mod predicates;
 mod redeclared;
 mod repeated;
 pub mod resolve;
