@@ -1,10 +1,13 @@
 pub mod Among
 pub mod Ancestors
 pub mod Members
+pub mod AtomFaults
 pub mod Cuts
+pub mod Fits
 pub mod Kept
 pub mod SameLemmas
 pub mod Lookups
+pub mod Mismatches
 pub mod Missing
 pub mod Positions
 pub mod Differs

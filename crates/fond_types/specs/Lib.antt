@@ -7,3 +7,4 @@ pub mod Scopes
 pub mod Files
 pub mod Same
 pub mod Subtypes
+pub mod Unknown

@@ -2,6 +2,7 @@
 //! fault of their names. What the task means is left to the crates above.
 #![tactic(auto)]
 
+mod atoms;
 mod files;
 mod index;
 mod lookup;
@@ -10,4 +11,7 @@ mod redeclared;
 mod repeated;
 pub mod resolve;
 mod scope;
+mod sites;
+mod types;
+mod unknown;
 mod variable;

@@ -9,6 +9,7 @@ use crate::files::Files;
 use crate::index::{index_objects, index_predicates, index_schemas, joined_get};
 use fond_ast::files::{Declared, Domain, Problem, Side};
 use fond_ast::names::TypedName;
+use fond_kinds::table::TypeTable;
 use fond_text::fault::NoMemory;
 use fond_text::name::Name;
 use std::alloc::Global;
@@ -22,6 +23,7 @@ pub(crate) fn indexed<'a>(
 ) -> Result<Files<'a>, NoMemory>
     ensures { IfOk result (λ files. declarations_of files ≡ record { domain = domain.now; problem = problem.now; side = side.now }) }
 {
+    let types = TypeTable::of(alloc, &domain.kinds)?;
     let predicates = index_predicates(alloc, &domain.predicates)?;
     let objects = index_objects(alloc, &domain.constants, &problem.objects)?;
     let schemas = index_schemas(alloc, &domain.schemas)?;
@@ -29,6 +31,7 @@ pub(crate) fn indexed<'a>(
         domain,
         problem,
         side,
+        types,
         predicates,
         objects,
         schemas,
