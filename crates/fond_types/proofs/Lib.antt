@@ -11,4 +11,5 @@ pub mod Mismatches
 pub mod Missing
 pub mod Positions
 pub mod Differs
+pub mod SiteLemmas
 pub mod ScopeLemmas

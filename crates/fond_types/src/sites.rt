@@ -6,13 +6,13 @@ ghost use Rattle.fond_text.specs.Firsts.{IsFirst};
 ghost use Rattle.fond_types.specs.Faults.{OccursAmong};
 ghost use Rattle.fond_types.specs.Files.{declarations_of};
 ghost use Rattle.fond_types.specs.Scopes.{lists_of};
-ghost use Rattle.fond_types.specs.Sites.{condition_sites, effect_sites, schema_sites, domain_sites, problem_sites};
-ghost use Rattle.std.specs.Prelude.{◌≡◌, ◌≤◌, IfOk, true};
+ghost use Rattle.fond_types.specs.Sites.{AnAtom, condition_sites, effect_sites, schema_sites, domain_sites, problem_sites};
+ghost use Rattle.std.specs.Prelude.{◌≡◌, ◌≤◌, [], IfOk, map, true};
 
 use crate::atoms::{atom_fault, equality_fault, list_fault};
 use crate::files::Files;
 use crate::scope::Around;
-use crate::variable::indexed_variables;
+use crate::variable::{indexed_variables, inside};
 use fond_ast::files::Schema;
 use fond_ast::syntax::{Cond, Effect};
 use fond_text::fault::NoMemory;
@@ -48,8 +48,8 @@ fn condition_fault(
         Cond::Forall(names, part) | Cond::Exists(names, part) => {
             let variables = indexed_variables(alloc, names)?;
             let first = list_fault(files, &variables);
-            let inside = Around::Inside(&variables, around);
-            Ok(earlier(first, condition_fault(alloc, files, part, &inside)?))
+            let within = inside(&variables, around);
+            Ok(earlier(first, condition_fault(alloc, files, part, &within)?))
         }
     }
 }
@@ -77,8 +77,8 @@ fn effect_fault(
         Effect::Forall(names, part) => {
             let variables = indexed_variables(alloc, names)?;
             let first = list_fault(files, &variables);
-            let inside = Around::Inside(&variables, around);
-            Ok(earlier(first, effect_fault(alloc, files, part, &inside)?))
+            let within = inside(&variables, around);
+            Ok(earlier(first, effect_fault(alloc, files, part, &within)?))
         }
         Effect::When(condition, part) => {
             let first = condition_fault(alloc, files, condition, around)?;
@@ -98,8 +98,43 @@ fn schema_fault(
 {
     let parameters = indexed_variables(alloc, &schema.parameters)?;
     let list = list_fault(files, &parameters);
-    let inside = Around::Inside(&parameters, &Around::Nothing);
-    let condition = condition_fault(alloc, files, &schema.pre, &inside)?;
-    let effect = effect_fault(alloc, files, &schema.effect, &inside)?;
-    Ok(earlier(list, earlier(condition, effect)))
+    let outside = Around::Nothing;
+    let within = inside(&parameters, &outside);
+    let first = condition_fault(alloc, files, &schema.pre, &within)?;
+    let body = earlier(first, effect_fault(alloc, files, &schema.effect, &within)?);
+    Ok(earlier(list, body))
+}
+
+/// The first fault of names in the schemas of the domain.
+pub(crate) fn domain_site_fault(alloc: Global, files: &Files) -> Result<Option<Found>, NoMemory>
+    ensures { IfOk result (IsFirst (OccursAmong (declarations_of files.now) (domain_sites files.now.domain.now))) }
+{
+    let mut first = None;
+    for i in 0..files.domain.schemas.len() {
+        let schema = files.domain.schemas.get(i);
+        first = earlier(first, schema_fault(alloc, files, schema)?);
+    }
+    Ok(first)
+}
+
+/// The first fault of names in the initial atoms of the problem.
+fn init_fault(files: &Files) -> Option<Found>
+    ensures { IsFirst (OccursAmong (declarations_of files.now) (map (λ initial. AnAtom [] initial.atom) files.now.problem.now.init)) result }
+{
+    let outside = Around::Nothing;
+    let mut first = None;
+    for i in 0..files.problem.init.len() {
+        let initial = files.problem.init.get(i);
+        first = earlier(first, atom_fault(files, &outside, &initial.atom));
+    }
+    first
+}
+
+/// The first fault of names in the initial atoms and the goal of the problem.
+pub(crate) fn problem_site_fault(alloc: Global, files: &Files) -> Result<Option<Found>, NoMemory>
+    ensures { IfOk result (IsFirst (OccursAmong (declarations_of files.now) (problem_sites files.now.problem.now))) }
+{
+    let outside = Around::Nothing;
+    let first = init_fault(files);
+    Ok(earlier(first, condition_fault(alloc, files, &files.problem.goal, &outside)?))
 }

@@ -7,7 +7,7 @@ ghost use Rattle.fond_types.specs.Names.{first_of};
 ghost use Rattle.fond_types.specs.Scopes.{lists_of};
 ghost use Rattle.fond_types.specs.Sites.{variable_of};
 ghost use Rattle.std.specs.Option.{option_copied};
-ghost use Rattle.std.specs.Prelude.{◌≡◌, ◌≤◌, IfOk, length};
+ghost use Rattle.std.specs.Prelude.{◌≡◌, ◌≤◌, ◌∷◌, IfOk, length};
 
 use crate::files::Files;
 use crate::index::index_variables;
@@ -28,6 +28,13 @@ pub(crate) fn indexed_variables<'a>(
 {
     let index = index_variables(alloc, names)?;
     Ok(Variables { names, index })
+}
+
+/// The place inside a list of variables.
+pub(crate) fn inside<'a>(variables: &'a Variables<'a>, outer: &'a Around<'a>) -> Around<'a>
+    ensures { lists_of result ≡ variables.now.names.now ∷ lists_of outer.now }
+{
+    Around::Inside(variables, outer)
 }
 
 /// The first declaration of a variable in one list.
