@@ -9,6 +9,7 @@ pub mod SameLemmas
 pub mod Lookups
 pub mod Mismatches
 pub mod Missing
+pub mod Order
 pub mod Positions
 pub mod Differs
 pub mod SiteLemmas

@@ -1,5 +1,5 @@
 -- Tests of all items and of some item of a list.
-use Rattle.std.proofs.Common.{◌≡◌, ◌⊎◌, inl, inr, ◌&&◌, ◌||◌, Bool, true, false, List, [], ◌∷◌, refl, sym, ap, ◌∙◌, Contains, arith}
+use Rattle.std.proofs.Common.{◌≡◌, ℕ, zero, suc, Some, slice_get, ◌⊎◌, inl, inr, ◌&&◌, ◌||◌, Bool, true, false, List, [], ◌∷◌, refl, sym, ap, ◌∙◌, Contains, arith}
 use Rattle.std.specs.List.{list_all, list_any}
 use Rattle.std.proofs.lemmas.List.Elements.{Contains-append_left, Contains-append_right, Contains-append_cases, Contains-push, Contains-push_cases}
 
@@ -58,3 +58,9 @@ module _ {X : Type 0} where
     some_from [] x c h = let low = c.1 in absurd (omega (arith, low))
     some_from (y ∷ xs) x c h =
         elim (here_or_there y xs x c) [ inl same ↦ or_left (p y) (list_any p xs) (ap p same ∙ h) | inr rest ↦ or_right (p y) (list_any p xs) (some_from xs x rest h) ]
+
+-- a test that all items pass is passed by the item at an index
+pub all_got : {X : Type 0} (p : X → Bool) (xs : List X) (i : ℕ) (x : X) → slice_get xs i ≡ Some x → list_all p xs ≡ true → p x ≡ true
+all_got p [] i x got all = cc
+all_got p (y ∷ xs) zero x got all = let same : y ≡ x = cc in ap p (sym same) ∙ (and_parts (p y) (list_all p xs) all).0
+all_got p (y ∷ xs) (suc i) x got all = all_got p xs i x got (and_parts (p y) (list_all p xs) all).1

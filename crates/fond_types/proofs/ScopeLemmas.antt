@@ -1,5 +1,5 @@
 -- Variables in the lists around a place.
-use Rattle.std.proofs.Common.{◌≡◌, ℕ, List, ◌∷◌, Some, None, sym, ap, ◌∙◌}
+use Rattle.std.proofs.Common.{◌≡◌, [], ℕ, List, ◌∷◌, Some, None, sym, ap, ◌∙◌}
 use Rattle.std.specs.Borrow.{Bor}
 use Rattle.std.specs.Option.{option_or}
 use Rattle.std.specs.Str.{bytes_eq}
@@ -8,10 +8,10 @@ use Rattle.fond_ast.specs.declared.names.TypedName.{TypedName}
 use Rattle.fond_types.specs.Names.{first_of}
 use Rattle.fond_types.specs.Scopes.{lists_of, lists_step}
 use Rattle.fond_types.specs.Sites.{Scope, variable_of, variables_of}
-use Rattle.fond_types.specs.declared.scope.Around.{Around, Inside}
+use Rattle.fond_types.specs.declared.scope.Around.{Around, Nothing, Inside}
 use Rattle.fond_types.specs.declared.scope.Around.TheFolds.{fold-roll-Around}
 use Rattle.fond_types.specs.declared.scope.Around.TheOpen as open_around
-use Rattle.fond_types.specs.declared.scope.Around.TheViews.{rolls-Inside}
+use Rattle.fond_types.specs.declared.scope.Around.TheViews.{rolls-Nothing, rolls-Inside}
 use Rattle.fond_types.specs.declared.scope.Variables.{Variables}
 
 -- the lists around a place inside one more list
@@ -29,3 +29,7 @@ module _ (names : List TypedName) (around : Scope) (name : List ℕ) where
   -- another variable has the declaration that it has outside
   pub variable_outside : None ≡ first_of names name → variable_of around name ≡ variable_of (names ∷ around) name
   variable_outside none = ap (λ first. option_or first (variable_of around name)) none ∙ sym inner
+
+-- no lists are around a place outside
+pub lists-Nothing : lists_of Nothing ≡ []
+lists-Nothing = ap lists_of (sym rolls-Nothing) ∙ fold-roll-Around Scope lists_step open_around.Nothing

@@ -1,5 +1,5 @@
 -- The sites of a condition and of an effect, by their outermost forms, and the first fault at sites.
-use Rattle.std.proofs.Common.{◌≡◌, ◌⊎◌, ℕ, zero, ◌+◌, ◌<◌, ◌≤◌, List, [], ◌∷◌, ◌++◌, Option, map, take, drop, sum, length, get_or, sym, ap, ◌∙◌, subst, arith, append-nil}
+use Rattle.std.proofs.Common.{◌≡◌, ◌⊎◌, ℕ, zero, ◌+◌, ◌<◌, ◌≤◌, List, [], ◌∷◌, ◌++◌, Option, Some, slice_get, map, take, drop, sum, length, get_or, sym, ap, ◌∙◌, subst, arith, append-nil}
 use Rattle.std.specs.List.{flat_map}
 use Rattle.std.proofs.lemmas.List.{map-append, take_more, at_drop_more}
 use Rattle.std.proofs.lemmas.List.Sums.{sum_by-cons}
@@ -16,7 +16,7 @@ use Rattle.fond_text.specs.Firsts.{IsFirst, IsEarlier}
 use Rattle.fond_types.specs.Faults.{OccursAt, OccursAmong}
 use Rattle.fond_types.specs.Names.{Declarations}
 use Rattle.fond_types.specs.Sites.{Scope, Site, condition_sites_step, condition_sites, effect_sites_step, effect_sites}
-use Rattle.fond_types.proofs.Among.{among_one, among_both}
+use Rattle.fond_types.proofs.Among.{among_one, among_both, next_taken}
 
 pub condition_sites_by : (condition : Cond) (layer : open_condition.Cond-F Cond) → out-Cond condition ≡ layer → (around : Scope) →
     condition_sites condition around ≡ condition_sites_step (map-Cond Cond (Scope → List Site) condition_sites layer) around
@@ -70,3 +70,21 @@ fewer_left count parts i most part low is few =
     ap (λ some. sum (map count some)) (at_drop_more (λ rest. rest) parts i part low ∙ ap (λ x. x ∷ drop (i + 1) parts) (sym is)) in
     let more : sum (map count (part ∷ drop (i + 1) parts)) ≡ count part + sum (map count (drop (i + 1) parts)) = sum_by-cons (λ (n : ℕ). n) (count part) (map count (drop (i + 1) parts)) in
     omega (arith, few, next, more)
+
+module _ (files : Declarations) where
+  -- the sites of one item more, the next one of a list
+  pub sites_more : {A : Type 0} (of : A → List Site) (items : List A) (i : ℕ) (item : A) (one other first : Option Found) → slice_get items i ≡ Some item →
+      IsFirst (OccursAmong files (flat_map of (take i items))) one → IsFirst (OccursAmong files (of item)) other → IsEarlier one other first → IsFirst (OccursAmong files (flat_map of (take (i + 1) items))) first
+  sites_more of items i item one other first got p q e =
+      let next = next_taken items i item got in
+      subst (λ (sites : List Site). IsFirst (OccursAmong files sites) first)
+      (sym (ap (flat_map of) next ∙ flat_map-append of (take i items) (item ∷ []) ∙ ap (λ back. flat_map of (take i items) ++ back) (append-nil (of item))))
+      (sites_both files (flat_map of (take i items)) (of item) one other first p q e)
+
+  -- one site more, that of the next item of a list
+  pub site_more : {A : Type 0} (of : A → Site) (items : List A) (i : ℕ) (item : A) (one other first : Option Found) → slice_get items i ≡ Some item →
+      IsFirst (OccursAmong files (map of (take i items))) one → IsFirst (λ place code. OccursAt files place code (of item)) other → IsEarlier one other first → IsFirst (OccursAmong files (map of (take (i + 1) items))) first
+  site_more of items i item one other first got p q e =
+      let next = next_taken items i item got in
+      subst (λ (sites : List Site). IsFirst (OccursAmong files sites) first) (sym (ap (map of) next ∙ map-append of (take i items) (item ∷ [])))
+      (sites_both files (map of (take i items)) (of item ∷ []) one other first p (site_one files (of item) other q) e)

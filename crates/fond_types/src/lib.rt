@@ -4,6 +4,7 @@
 
 mod atoms;
 mod files;
+mod first_fault;
 mod index;
 mod lookup;
 mod predicates;
