@@ -8,3 +8,5 @@ pub mod Files
 pub mod Same
 pub mod Subtypes
 pub mod Unknown
+pub mod Meanings
+pub mod Sound

@@ -3,10 +3,12 @@
 #![tactic(auto)]
 
 mod atoms;
+mod declare;
 mod files;
 mod first_fault;
 mod index;
 mod lookup;
+mod numbers;
 mod predicates;
 mod redeclared;
 mod repeated;
