@@ -2,4 +2,7 @@
 //! have parents, which form cycles in a domain that is refused. What else is declared is left to the crate above.
 #![tactic(auto)]
 
+mod ancestry;
+mod grower;
+mod links;
 pub mod table;

@@ -1,34 +1,189 @@
 //! Declared types by their numbers.
 
-ghost use Rattle.fond_ast.specs.Read.{has_one_kind};
-ghost use Rattle.fond_kinds.specs.Faults.{StandsInKinds};
-ghost use Rattle.fond_kinds.specs.Kinds.{is_type, IsSubtype};
-ghost use Rattle.fond_text.specs.Firsts.{IsFirst};
+ghost use Rattle.fond_kinds.specs.Kinds.{is_passed_over, is_type, only_kind as only_kind_of, parent_of as parent_of_type, type_of, IsSubtype};
+ghost use Rattle.fond_kinds.specs.Parents.{are_within, parent_of};
+ghost use Rattle.fond_kinds.specs.Tables.{IsNumber, firsts_with, number_of, type_names};
+ghost use Rattle.fond_lookup.specs.Texts.{number_beside, with_text};
 ghost use Rattle.fond_text.specs.declared.code.TheConstants.{LONGEST_TEXT};
 ghost use Rattle.std.specs.Bool.{Decides};
 ghost use Rattle.std.specs.List.{list_all};
 ghost use Rattle.std.specs.Option.{is_some};
-ghost use Rattle.std.specs.Prelude.{◌≡◌, ◌<◌, ◌≤◌, IsTrue, Some, length, slice_get, slice_index_or, [], IfOk, IfSome};
+ghost use Rattle.std.specs.Prelude.{◌≡◌, ◌<◌, ◌≤◌, ◌^◌, ℕ, List, IsTrue, Some, None, true, length, option_and_then, replicate, slice_get, slice_index_or, vec_len, IfOk, OnOk};
 
-use fond_ast::names::TypedNames;
+use crate::ancestry::Ancestry;
+use fond_ast::names::{TypedName, TypedNames};
+use fond_lookup::text_index::TextIndex;
 use fond_text::fault::NoMemory;
-use fond_text::name::Names;
 use std::alloc::Global;
 
-/// The types that declarations declare, `object` among them, each with a number.
+/// The types of a domain by numbers: for each its first declaration, and the types above it.
 #[derive(Drop)]
 pub struct TypeTable<'a> {
     pub types: &'a TypedNames,
-    pub names: Names,
+    numbers: TextIndex,
+    pub(crate) firsts: Vec<Option<u32>>,
+    ancestry: Ancestry,
+    ghost numbered: { (name : List ℕ) → number_beside numbers name ≡ number_of types.now name },
+    pub(crate) ghost declared: { (name : List ℕ) (number : ℕ) → number_of types.now name ≡ Some number
+        → option_and_then (λ at. slice_get types.now at) (slice_index_or firsts.items number None) ≡ type_of types.now name },
+    ghost ascends: { (name : List ℕ) (number : ℕ) → number_of types.now name ≡ Some number
+        → parent_of ancestry number ≡ option_and_then (number_of types.now) (parent_of_type types.now name) },
+    ghost over: { length ancestry ≡ length (type_names types.now) },
+}
+
+/// The type of a declared name that has exactly one.
+pub(crate) fn only_kind(declared: &TypedName) -> &[u8]
+    ensures { result.now ≡ only_kind_of declared.now }
+{
+    match declared.kinds.as_slice() {
+        [] => b"object",
+        [kind, ..] => kind.name.bytes(),
+    }
+}
+
+/// Whether a type is `object` without a written parent.
+pub(crate) fn is_passed_over(declared: &TypedName) -> bool
+    ensures { result ≡ is_passed_over declared.now }
+{
+    declared.name.bytes() == b"object".as_slice()
+        && match declared.kinds.as_slice() {
+            [] => false,
+            [kind, ..] => kind.place == declared.place,
+        }
+}
+
+/// Inserts a text with its number, unless the text is there.
+fn put(alloc: Global, numbers: &mut TextIndex, text: &[u8], number: u32) -> Result<(), NoMemory>
+    ensures { OnOk result (numbers.new ≡ with_text numbers.old text.now number) }
+{
+    numbers.insert(Vec::from_slice(alloc, text)?, number)
+}
+
+/// The numbers of the names of types.
+fn numbers_of(alloc: Global, types: &TypedNames) -> Result<TextIndex, NoMemory>
+    requires { length types.now ≤ LONGEST_TEXT }
+    ensures { IfOk result (λ numbers. (name : List ℕ) → number_beside numbers name ≡ number_of types.now name) }
+{
+    let mut numbers = TextIndex::new(alloc);
+    put(alloc, &mut numbers, b"object", 0)?;
+    for i in 0..types.len() {
+        let declared = types.get(i);
+        let at = 2 * i as u32;
+        put(alloc, &mut numbers, declared.name.bytes(), at + 1)?;
+        put(alloc, &mut numbers, only_kind(declared), at + 2)?;
+    }
+    Ok(numbers)
+}
+
+/// Keeps a declaration as the first one of its type, unless there is an earlier one, or it declares nothing.
+fn put_first(firsts: &mut Vec<Option<u32>>, numbers: &TextIndex, declared: &TypedName, at: u32)
+    ensures { firsts.new.items ≡ firsts_with numbers.now firsts.old.items declared.now at }
+{
+    if is_passed_over(declared) {
+        return;
+    }
+    if let Some(number) = numbers.find(declared.name.bytes()) {
+        let number = number as usize;
+        if number < firsts.len() && firsts[number].is_none() {
+            firsts[number] = Some(at);
+        }
+    }
+}
+
+/// The number of the parent in the declaration at an index, if there is one.
+fn parent_number(types: &TypedNames, numbers: &TextIndex, first: Option<u32>) -> Option<u32>
+    ensures { result ≡ option_and_then (λ declared. number_beside numbers.now (only_kind_of declared)) (option_and_then (λ at. slice_get types.now at) first) }
+{
+    let at = first? as usize;
+    if at < types.len() {
+        numbers.find(only_kind(types.get(at)))
+    } else {
+        None
+    }
+}
+
+/// This many times no index.
+fn nothing(alloc: Global, count: usize) -> Result<Vec<Option<u32>>, NoMemory>
+    ensures { IfOk result (λ v. v.items ≡ replicate count None) }
+{
+    Ok(vec![in alloc; None; count]?)
+}
+
+/// For each number of a type the index of its first declaration, if it has one.
+fn firsts_of(
+    alloc: Global,
+    types: &TypedNames,
+    numbers: &TextIndex,
+) -> Result<Vec<Option<u32>>, NoMemory>
+    requires few { length types.now ≤ LONGEST_TEXT }
+    requires numbered { (name : List ℕ) → number_beside numbers.now name ≡ number_of types.now name }
+    ensures declared { IfOk result (λ firsts. (name : List ℕ) (number : ℕ) → number_of types.now name ≡ Some number
+        → option_and_then (λ at. slice_get types.now at) (slice_index_or firsts.items number None) ≡ type_of types.now name) }
+    ensures over { IfOk result (λ firsts. length firsts.items ≡ length (type_names types.now)) }
+{
+    let mut firsts = nothing(alloc, 2 * types.len() + 1)?;
+    for i in 0..types.len() {
+        put_first(&mut firsts, numbers, types.get(i), i as u32);
+    }
+    Ok(firsts)
+}
+
+/// The parents of the numbers of types, by the first declarations.
+fn parents_of(
+    alloc: Global,
+    types: &TypedNames,
+    numbers: &TextIndex,
+    firsts: &[Option<u32>],
+) -> Result<Vec<Option<u32>>, NoMemory>
+    requires numbered { (name : List ℕ) → number_beside numbers.now name ≡ number_of types.now name }
+    requires declared { (name : List ℕ) (number : ℕ) → number_of types.now name ≡ Some number
+        → option_and_then (λ at. slice_get types.now at) (slice_index_or firsts.now number None) ≡ type_of types.now name }
+    ensures ascends { IfOk result (λ parents. (name : List ℕ) (number : ℕ) → number_of types.now name ≡ Some number
+        → parent_of parents.items number ≡ option_and_then (number_of types.now) (parent_of_type types.now name)) }
+    ensures over { IfOk result (λ parents. length parents.items ≡ length firsts.now) }
+    ensures within { IfOk result (λ parents. length firsts.now ≡ length (type_names types.now) → are_within parents.items ≡ true) }
+{
+    let mut parents = Vec::with_capacity(alloc, firsts.len())?;
+    for first in firsts {
+        parents.push(parent_number(types, numbers, *first))?;
+    }
+    Ok(parents)
 }
 
 impl<'a> TypeTable<'a> {
-    /// The table of these declarations.
+    /// The table of these declarations. Takes time and memory in the length of their names.
     pub fn of(alloc: Global, types: &'a TypedNames) -> Result<TypeTable<'a>, NoMemory>
-        requires single { IsTrue (list_all has_one_kind types.now) }
-        requires few { length types.now ≤ LONGEST_TEXT }
+        requires { length types.now ≤ LONGEST_TEXT }
         ensures { IfOk result (λ table. table.types.now ≡ types.now) }
     {
-        Err(NoMemory)
+        let numbers = numbers_of(alloc, types)?;
+        let firsts = firsts_of(alloc, types, &numbers)?;
+        let parents = parents_of(alloc, types, &numbers, &firsts)?;
+        let ancestry = Ancestry::of(alloc, parents)?;
+        Ok(TypeTable {
+            types,
+            numbers,
+            firsts,
+            ancestry,
+        })
+    }
+
+    /// The number of a type, if it is declared.
+    pub fn number(&self, name: &[u8]) -> Option<u32>
+        ensures numbered { result ≡ number_of self.now.types.now name.now }
+        ensures known { is_some result ≡ is_type self.now.types.now name.now }
+    {
+        self.numbers.find(name)
+    }
+
+    /// Whether the first type is a subtype of the second, both by their numbers. Takes a number of steps that is logarithmic
+    /// in the number of types above the first.
+    pub fn is_subtype(&self, number: u32, other: u32) -> bool
+        requires number { IsNumber self.now.types.now number }
+        requires other { IsNumber self.now.types.now other }
+        ensures { (name above : List ℕ) → number_of self.now.types.now name ≡ Some number → number_of self.now.types.now above ≡ Some other
+            → Decides result (IsSubtype self.now.types.now name above) }
+    {
+        other == 0 || self.ancestry.is_below(number, other)
     }
 }

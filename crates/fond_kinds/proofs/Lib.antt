@@ -1,0 +1,9 @@
+pub mod Below
+pub mod Fresh
+pub mod Grow
+pub mod Growth
+pub mod Numbers
+pub mod Paths
+pub mod Types
+pub mod Unwind
+pub mod Walk

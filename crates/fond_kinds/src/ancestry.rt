@@ -1,0 +1,58 @@
+//! What is above a number among numbers with parents, which may form cycles.
+
+ghost use Rattle.fond_kinds.specs.Forests.{IsWhole};
+ghost use Rattle.fond_kinds.specs.Parents.{IsBelow, are_within};
+ghost use Rattle.std.specs.Bool.{Decides};
+ghost use Rattle.std.specs.Prelude.{◌≡◌, ◌<◌, ◌^◌, true, length, IfOk};
+
+use crate::grower::grown;
+use crate::links::{Links, parent_at};
+use fond_text::fault::NoMemory;
+use std::alloc::Global;
+use std::marker::Model;
+
+/// Numbers with at most one parent each, with a forest among them. Contracts see the parents.
+#[derive(Drop)]
+pub(crate) struct Ancestry {
+    parents: Vec<Option<u32>>,
+    links: Links,
+}
+
+impl Model for Ancestry {
+    ghost use Rattle.fond_kinds.specs.Forests.{IsWhole};
+    ghost use Rattle.std.specs.Prelude.{List, Option, ℕ};
+
+    ghost Value = { List (Option ℕ) };
+
+    ghost view = { λ a. a.parents.items };
+
+    ghost invariant = { λ a. IsWhole a.parents.items a.links };
+}
+
+impl Ancestry {
+    /// The ancestry of these parents. Takes time and memory in their number.
+    pub(crate) fn of(alloc: Global, parents: Vec<Option<u32>>) -> Result<Ancestry, NoMemory>
+        requires within { are_within parents.items ≡ true }
+        requires few { length parents.items < 2 ^ 32 }
+        ensures { IfOk result (λ ancestry. ancestry ≡ parents.items) }
+    {
+        let links = grown(alloc, &parents)?;
+        Ok(Ancestry { parents, links })
+    }
+
+    /// Whether the first number is below the second: it is the second, or its parent is below the second. A cycle is a tree
+    /// whose root has lost its parent, so what is above a number is above it in its tree, or above that parent.
+    pub(crate) fn is_below(&self, number: u32, above: u32) -> bool
+        requires number { number < length self.now }
+        requires above { above < length self.now }
+        ensures { Decides result (IsBelow self.now number above) }
+    {
+        if self.links.is_under(number, above) {
+            return true;
+        }
+        match parent_at(&self.parents, self.links.root(number)) {
+            None => false,
+            Some(lost) => self.links.is_under(lost, above),
+        }
+    }
+}
