@@ -4,6 +4,7 @@ pub mod Members
 pub mod AtomFaults
 pub mod Cuts
 pub mod Fits
+pub mod Firsts
 pub mod Kept
 pub mod SameLemmas
 pub mod Lookups

@@ -16,14 +16,17 @@ use fond_text::name::Name;
 pub(crate) fn is_type(types: &TypeTable, name: &Name) -> bool
     ensures { result ≡ is_type types.now.types.now name.now }
 {
-    unreachable!()
+    types.number(name.bytes()).is_some()
 }
 
 /// Whether two types are declared, and the first is a subtype of the second.
 pub(crate) fn is_below(types: &TypeTable, name: &Name, other: &Name) -> bool
     ensures { result ≡ is_below types.now.types.now name.now other.now }
 {
-    unreachable!()
+    match (types.number(name.bytes()), types.number(other.bytes())) {
+        (Some(number), Some(above)) => types.is_subtype(number, above),
+        _ => false,
+    }
 }
 
 /// Whether each of some types is declared.
