@@ -51,3 +51,11 @@ differ_decides one other = go (bytes_eq one other) (bytes_decides one other)
 
 pub same_text : (text : List ℕ) → bytes_eq text text ≡ true
 same_text text = (bytes_decides text text).1 refl
+
+-- texts that do not differ are the same
+pub same_bytes : (one other : List ℕ) → false ≡ not (bytes_eq one other) → one ≡ other
+same_bytes one other e = (bytes_decides one other).0 (go (bytes_eq one other) e)
+  where
+    go : (b : Bool) → false ≡ not b → b ≡ true
+    go true h = refl
+    go false h = cc

@@ -5,12 +5,13 @@ pub mod AtomFaults
 pub mod Cuts
 pub mod Fits
 pub mod Firsts
-pub mod Kept
+pub mod Insertions
 pub mod SameLemmas
 pub mod Lookups
 pub mod Mismatches
 pub mod Missing
 pub mod Order
+pub mod RangeLemmas
 pub mod Numbering
 pub mod Positions
 pub mod Differs

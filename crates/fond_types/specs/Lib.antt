@@ -8,5 +8,6 @@ pub mod Files
 pub mod Same
 pub mod Subtypes
 pub mod Unknown
+pub mod Kept
 pub mod Meanings
 pub mod Sound

@@ -37,7 +37,7 @@ fn are_types(types: &TypeTable, kinds: &Kinds) -> bool
 }
 
 /// Whether a type is below one of some types.
-fn is_below_some(types: &TypeTable, name: &Name, parameter: &Kinds) -> bool
+pub(crate) fn is_below_some(types: &TypeTable, name: &Name, parameter: &Kinds) -> bool
     ensures { result ≡ is_below_some types.now.types.now name.now parameter.now }
 {
     parameter.as_slice().iter().any(|other| is_below(types, name, &other.name))

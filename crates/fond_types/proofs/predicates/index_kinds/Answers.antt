@@ -4,7 +4,7 @@ use Rattle.fond_lookup.specs.Texts.{number_beside}
 use Rattle.fond_types.specs.Names.{is_among}
 use Rattle.fond_types.specs.Same.{kind_names}
 use Rattle.fond_types.proofs.Differs.{next_left}
-use Rattle.fond_types.proofs.Kept.{kept_more}
+use Rattle.fond_types.proofs.Insertions.{kept_more}
 use Rattle.fond_types.proofs.predicates.index_kinds.Goals as goal
 
 pub loop-i-preserved : goal.loop-i-preserved
