@@ -11,7 +11,10 @@ pub mod Lookups
 pub mod Mismatches
 pub mod Missing
 pub mod Order
+pub mod Passing
 pub mod RangeLemmas
+pub mod Subsets
+pub mod TermLemmas
 pub mod Numbering
 pub mod Positions
 pub mod Differs

@@ -50,7 +50,7 @@ range_named files kinds = λ i. map (λ item. item.0) (filter (λ item. any_name
     any_named p (kind ∷ some) = ap (λ b. p kind.name || b) (any_named p some)
 
 module _ (types : List TypedName) (names : List (List ℕ)) where
-  numbers_more : (number : ℕ) (object : TypedName) (rest : List TypedName) → numbers_of types names number (object ∷ rest) ≡ (if is_of types names object then number ∷ numbers_of types names (number + 1) rest else numbers_of types names (number + 1) rest)
+  pub numbers_more : (number : ℕ) (object : TypedName) (rest : List TypedName) → numbers_of types names number (object ∷ rest) ≡ (if is_of types names object then number ∷ numbers_of types names (number + 1) rest else numbers_of types names (number + 1) rest)
   numbers_more number object rest = by (is_of types names object)
     where
       by : (b : Bool) → map (λ (item : ℕ × TypedName). item.0) (cond b ((number, object) ∷ filter (λ item. is_of types names item.1) (enumerate_from (number + 1) rest)) (filter (λ item. is_of types names item.1) (enumerate_from (number + 1) rest)))

@@ -1,10 +1,11 @@
 -- What names stand for in three files, by the test for subtypes, and the ranges of variables around a place.
 use Rattle.std.specs.Prelude.{◌≡◌, ℕ, ◌<◌, suc, ◌==◌, ◌&&◌, Bool, true, false, List, [], ◌∷◌, ◌++◌, fold, map, filter, if◌then◌else◌}
 use Rattle.std.specs.List.{list_any, list_all, enumerate_from}
+use Rattle.std.specs.Option.{option_map_or}
 use Rattle.std.specs.Str.{bytes_eq}
 use Rattle.fond_ast.specs.declared.names.Kind.{Kind}
 use Rattle.fond_ast.specs.declared.names.TypedName.{TypedName}
-use Rattle.fond_kinds.specs.Kinds.{only_kind, are_types}
+use Rattle.fond_kinds.specs.Kinds.{root, only_kind, are_types, parent_of}
 use Rattle.fond_types.specs.Names.{Declarations, is_among}
 use Rattle.fond_types.specs.Resolves.{Meanings, meanings_of}
 use Rattle.fond_types.specs.Sites.{Scope}
@@ -35,3 +36,7 @@ are_typed types names = list_all (λ name. are_types types name.kinds) names
 -- whether the types of all variables around a place are declared
 abbrev pub are_typed_around : List TypedName → Scope → Bool
 are_typed_around types around = list_all (are_typed types) around
+
+-- whether `object` has no parent but itself
+abbrev pub has_root : List TypedName → Bool
+has_root types = option_map_or (λ parent. bytes_eq parent root) (parent_of types root) true

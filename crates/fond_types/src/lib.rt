@@ -18,6 +18,7 @@ pub mod resolve;
 mod scope;
 mod sites;
 mod table;
+mod terms;
 mod types;
 mod unknown;
 mod variable;

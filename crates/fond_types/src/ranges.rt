@@ -134,3 +134,22 @@ fn range_of(
     keep(kept, key, Kept { kinds, range: range.clone()? })?;
     Ok(range)
 }
+
+/// The ranges of some names, in order.
+pub(crate) fn ranges_of(
+    alloc: Global,
+    table: &Table,
+    kept: &mut KeptRanges,
+    names: &TypedNames,
+) -> Result<Ranges, NoMemory>
+    requires typed { are_typed table.now.files.now.domain.now.kinds names.now ≡ true }
+    requires sound { are_kept (declarations_of table.now.files.now) kept.old.entries.items ≡ true }
+    ensures ranges { IfOk result (λ ranges. are_ranges (meanings (declarations_of table.now.files.now)) names.now ranges ≡ true) }
+    ensures sound { OnOk result (are_kept (declarations_of table.now.files.now) kept.new.entries.items ≡ true) }
+{
+    let mut ranges = Ranges::new(alloc);
+    for i in 0..names.len() {
+        ranges.push(range_of(alloc, table, kept, &names.get(i).kinds)?)?;
+    }
+    Ok(ranges)
+}
