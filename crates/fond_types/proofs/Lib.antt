@@ -2,6 +2,7 @@ pub mod Among
 pub mod Ancestors
 pub mod Members
 pub mod AtomFaults
+pub mod AtomLemmas
 pub mod Cuts
 pub mod Fits
 pub mod Firsts

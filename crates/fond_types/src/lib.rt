@@ -3,12 +3,15 @@
 #![tactic(auto)]
 
 mod atoms;
+mod conditions;
+mod context;
 mod declare;
 mod files;
 mod first_fault;
 mod index;
 mod kept;
 mod lookup;
+mod numbered_atom;
 mod numbers;
 mod predicates;
 mod ranges;
