@@ -162,6 +162,7 @@ module _ (files : Declarations) (around : Scope) (predicates : List LPredicate) 
   -- a sound atom over numbers is within
   pub atom_within : (atom : ReadAtom) (number : LAtom) → is_sound files (AnAtom around atom) ≡ true → length (variables_of around) ≤ LONGEST_TEXT → is_atom (meanings files) around atom number ≡ true →
       is_atom_within (length (objects_declared files)) predicates number (ranges_around (meanings files).range around) ≡ true
+  unfolding sound_atom atom_predicate
   atom_within atom number sound few is =
       let both = and_parts (is_number_of (meanings files).predicates atom.name number.predicate) (each_passes (map (is_term (meanings files) around) atom.terms) number.terms) is in
       let fit = sound_atom files around atom sound in

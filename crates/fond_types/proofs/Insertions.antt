@@ -17,7 +17,7 @@ kept_there items kept number text = ap (λ found. is_some found) (number_kept it
     by None false = refl
     by (Some other) same = refl
 
-or_again : (a b c : Bool) → ((a || b) || c) ≡ (a || (b || c))
+pub or_again : (a b c : Bool) → ((a || b) || c) ≡ (a || (b || c))
 or_again true b c = refl
 or_again false b c = refl
 

@@ -16,6 +16,7 @@ pub mod Passing
 pub mod RangeLemmas
 pub mod Subsets
 pub mod TermLemmas
+pub mod WithinLemmas
 pub mod Numbering
 pub mod Positions
 pub mod Differs

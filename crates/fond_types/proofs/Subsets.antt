@@ -68,7 +68,7 @@ all_wider range number (n ∷ numbers) all =
     let both = and_parts (is_among range n) (list_all (is_among range) numbers) all in
     and_both (is_among (number ∷ range) n) (list_all (is_among (number ∷ range)) numbers) (or_right (number == n) (is_among range n) both.0) (all_wider range number numbers both.1)
 
-same_number : (n : ℕ) → (n == n) ≡ true
+pub same_number : (n : ℕ) → (n == n) ≡ true
 same_number n = grind (arith, nat_tests)
 
 module _ (types : List TypedName) (names : List (List ℕ)) where

@@ -17,6 +17,7 @@ use Rattle.fond_ast.specs.declared.names.Kind.{Kind}
 use Rattle.fond_ast.specs.declared.names.Term.{Term}
 use Rattle.fond_ast.specs.declared.names.TypedName.{TypedName}
 use Rattle.fond_kinds.specs.Kinds.{root, first_kind, only_kind, are_types}
+use Rattle.fond_text.specs.declared.code.TheConstants.{LONGEST_TEXT}
 use Rattle.fond_types.specs.Faults.{declaration_of}
 use Rattle.fond_types.specs.Kept.{is_of, numbers_of, range_by}
 use Rattle.fond_types.specs.Meanings.{meanings, ranges_around, are_typed, are_typed_around, has_root}
@@ -280,3 +281,16 @@ argument_fits files around parameter term number rooted objects lists typed fitt
           inside = ap (λ found. is_some found) stands.has;
           fits = ap (λ found. option_map_or (list_all (among_range ((meanings files).range parameter.kinds))) found false) stands.has ∙ all_through ((meanings files).range declared.kinds) ((meanings files).range parameter.kinds) stands.objects part stands.within;
         }
+
+-- a declared term over numbers is within
+pub term_within : (files : Declarations) (around : Scope) (term : Term) (number : LTerm) → is_some (declaration_of files around term) ≡ true → is_term (meanings files) around term number ≡ true → length (variables_of around) ≤ LONGEST_TEXT →
+    is_term_within (length (objects_declared files)) (ranges_around (meanings files).range around) number ≡ true
+term_within files around term number known is few = by (declaration_of files around term) refl known
+  where
+    by : (found : Option TypedName) → declaration_of files around term ≡ found → is_some found ≡ true → is_term_within (length (objects_declared files)) (ranges_around (meanings files).range around) number ≡ true
+    by None none e = cc
+    by (Some declared) some e =
+        let stands = stands_for files around term declared some number is in
+        let counted = ranges_counted (meanings files).range around in
+        let low : length (ranges_around (meanings files).range around) < 2 ^ 32 = omega (arith, few, counted) in
+        and_both (nat_lt (length (ranges_around (meanings files).range around)) (2 ^ 32)) _ (grind (arith, nat_tests, low)) (ap (λ found. is_some found) stands.has)

@@ -1,19 +1,20 @@
 //! Conditions with each name replaced by its number.
 
+ghost use Rattle.fond_ast.specs.Ranges.{objects_of};
 ghost use Rattle.fond_ast.specs.Read.{condition_variables};
-ghost use Rattle.fond_ast.specs.Within.{is_condition_within};
+ghost use Rattle.fond_ast.specs.Within.{are_ranges_within, is_condition_within};
 ghost use Rattle.fond_text.specs.declared.code.TheConstants.{LONGEST_TEXT};
 ghost use Rattle.fond_text.specs.Lists.{each_passes};
 ghost use Rattle.fond_types.specs.Files.{declarations_of};
 ghost use Rattle.fond_types.specs.Kept.{are_kept};
-ghost use Rattle.fond_types.specs.Meanings.{meanings, ranges_around, are_typed_around};
+ghost use Rattle.fond_types.specs.Meanings.{meanings, ranges_around, are_typed, are_typed_around};
 ghost use Rattle.fond_types.specs.Names.{objects_declared};
-ghost use Rattle.fond_types.specs.Resolves.{is_condition};
+ghost use Rattle.fond_types.specs.Resolves.{is_condition, are_ranges};
 ghost use Rattle.fond_types.specs.Scopes.{lists_of};
 ghost use Rattle.fond_types.specs.Sites.{condition_sites, variables_of};
 ghost use Rattle.fond_types.specs.Sound.{are_sound};
 ghost use Rattle.std.specs.List.{flat_map, list_all};
-ghost use Rattle.std.specs.Prelude.{◌≡◌, ◌≤◌, ◌+◌, IfOk, OnOk, length, map, sum, true};
+ghost use Rattle.std.specs.Prelude.{◌≡◌, ◌≤◌, ◌+◌, ◌∷◌, ◌++◌, IfOk, OnOk, length, map, sum, true};
 
 use crate::context::Context;
 use crate::kept::KeptRanges;
@@ -22,7 +23,8 @@ use crate::ranges::ranges_of;
 use crate::scope::Around;
 use crate::terms::numbered_term;
 use crate::variable::{indexed_variables, inside};
-use fond_ast::form::LCond;
+use fond_ast::form::{LCond, Ranges};
+use fond_ast::names::TypedNames;
 use fond_ast::syntax::Cond;
 use fond_text::fault::NoMemory;
 use std::alloc::Global;
@@ -64,20 +66,43 @@ pub(crate) fn numbered_condition(
             Ok(LCond::Imply(Box::new(alloc, part)?, Box::new(alloc, other)?))
         }
         Cond::Forall(names, part) => {
-            let ranges = ranges_of(alloc, context.table, kept, names)?;
-            let variables = indexed_variables(alloc, names)?;
-            let within = inside(&variables, around);
-            let part = numbered_condition(alloc, context, kept, part, &within)?;
-            Ok(LCond::Forall(ranges, Box::new(alloc, part)?))
+            let (ranges, part) = numbered_part(alloc, context, kept, names, part, around)?;
+            Ok(LCond::Forall(ranges, part))
         }
         Cond::Exists(names, part) => {
-            let ranges = ranges_of(alloc, context.table, kept, names)?;
-            let variables = indexed_variables(alloc, names)?;
-            let within = inside(&variables, around);
-            let part = numbered_condition(alloc, context, kept, part, &within)?;
-            Ok(LCond::Exists(ranges, Box::new(alloc, part)?))
+            let (ranges, part) = numbered_part(alloc, context, kept, names, part, around)?;
+            Ok(LCond::Exists(ranges, part))
         }
     }
+}
+
+/// The ranges of the variables of a quantifier, and its part over numbers.
+#[cycle(numbering_conditions)]
+fn numbered_part(
+    alloc: Global,
+    context: &Context,
+    kept: &mut KeptRanges,
+    names: &TypedNames,
+    part: &Cond,
+    around: &Around,
+) -> Result<(Ranges, Box<LCond>), NoMemory>
+    requires names { are_typed context.now.table.now.files.now.domain.now.kinds names.now ≡ true }
+    requires sound { are_sound (declarations_of context.now.table.now.files.now) (condition_sites part.now (names.now ∷ lists_of around.now)) ≡ true }
+    requires typed { are_typed_around context.now.table.now.files.now.domain.now.kinds (lists_of around.now) ≡ true }
+    requires few { length (variables_of (lists_of around.now)) + (length names.now + condition_variables part.now) ≤ LONGEST_TEXT }
+    requires kept { are_kept (declarations_of context.now.table.now.files.now) kept.old.entries.items ≡ true }
+    ensures ranges { IfOk result (λ made. are_ranges (meanings (declarations_of context.now.table.now.files.now)) names.now made.0 ≡ true) }
+    ensures rising { IfOk result (λ made. are_ranges_within (length (objects_declared (declarations_of context.now.table.now.files.now))) made.0 ≡ true) }
+    ensures resolved { IfOk result (λ made. is_condition (meanings (declarations_of context.now.table.now.files.now)) part.now (names.now ∷ lists_of around.now) made.1.value ≡ true) }
+    ensures within { IfOk result (λ made. is_condition_within (length (objects_declared (declarations_of context.now.table.now.files.now))) context.now.predicates.now made.1.value
+        (ranges_around (meanings (declarations_of context.now.table.now.files.now)).range (lists_of around.now) ++ objects_of made.0) ≡ true) }
+    ensures kept { OnOk result (are_kept (declarations_of context.now.table.now.files.now) kept.new.entries.items ≡ true) }
+{
+    let variables = indexed_variables(alloc, names)?;
+    let within = inside(&variables, around);
+    let number = numbered_condition(alloc, context, kept, part, &within)?;
+    let part = Box::new(alloc, number)?;
+    Ok((ranges_of(alloc, context.table, kept, names)?, part))
 }
 
 /// Sound conditions over numbers, in order.

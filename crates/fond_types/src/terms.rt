@@ -1,9 +1,11 @@
 //! Terms with each name replaced by its number.
 
+ghost use Rattle.fond_ast.specs.Within.{is_term_within};
 ghost use Rattle.fond_text.specs.declared.code.TheConstants.{LONGEST_TEXT};
 ghost use Rattle.fond_text.specs.Lists.{each_passes};
 ghost use Rattle.fond_types.specs.Files.{declarations_of};
-ghost use Rattle.fond_types.specs.Meanings.{meanings};
+ghost use Rattle.fond_types.specs.Meanings.{meanings, ranges_around};
+ghost use Rattle.fond_types.specs.Names.{objects_declared};
 ghost use Rattle.fond_types.specs.Resolves.{is_term, variable_number};
 ghost use Rattle.fond_types.specs.Scopes.{lists_of};
 ghost use Rattle.fond_types.specs.Sites.{variables_of};
@@ -48,7 +50,8 @@ fn variable_number(around: &Around, name: &Name) -> Option<u32>
 pub(crate) fn numbered_term(table: &Table, around: &Around, term: &Term) -> LTerm
     requires known { is_known (declarations_of table.now.files.now) (lists_of around.now) term.now ≡ true }
     requires few { length (variables_of (lists_of around.now)) ≤ LONGEST_TEXT }
-    ensures { is_term (meanings (declarations_of table.now.files.now)) (lists_of around.now) term.now result ≡ true }
+    ensures resolved { is_term (meanings (declarations_of table.now.files.now)) (lists_of around.now) term.now result ≡ true }
+    ensures within { is_term_within (length (objects_declared (declarations_of table.now.files.now))) (ranges_around (meanings (declarations_of table.now.files.now)).range (lists_of around.now)) result ≡ true }
 {
     if term.variable {
         match variable_number(around, &term.name) {

@@ -19,4 +19,4 @@ loop-i-preserved c =
     let test = is_term (meanings (declarations_of c.args.table.now.files.now)) (lists_of c.args.around.now) in
     let terms = c.args.terms.now in
     ap (each_passes (map test (take (c.loop-i.i + 1) terms))) c.in_ok-push.ensures.ok
-    ∙ passes_next test terms c.loop-i.i c.get.result.now c.loop-i.numbers c.numbered_term.result c.get.ensures c.loop-i.invariant c.numbered_term.ensures
+    ∙ passes_next test terms c.loop-i.i c.get.result.now c.loop-i.numbers c.numbered_term.result c.get.ensures c.loop-i.invariant c.numbered_term.ensures.resolved
