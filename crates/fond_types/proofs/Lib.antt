@@ -3,13 +3,16 @@ pub mod Ancestors
 pub mod Members
 pub mod AtomFaults
 pub mod AtomLemmas
+pub mod CleanLemmas
 pub mod Cuts
 pub mod Fits
 pub mod Firsts
+pub mod GroundLemmas
 pub mod Insertions
 pub mod SameLemmas
 pub mod Lookups
 pub mod Mismatches
+pub mod LiteralLemmas
 pub mod Missing
 pub mod Order
 pub mod Passing

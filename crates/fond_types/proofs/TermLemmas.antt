@@ -43,7 +43,7 @@ some_found p (x ∷ xs) = by (p x) (some_found p xs)
     by true later = refl
     by false later = later
 
-among_names : {X : Type 0} (name : X → List ℕ) (xs : List X) (wanted : List ℕ) → is_among (map name xs) wanted ≡ list_any (λ x. bytes_eq (name x) wanted) xs
+pub among_names : {X : Type 0} (name : X → List ℕ) (xs : List X) (wanted : List ℕ) → is_among (map name xs) wanted ≡ list_any (λ x. bytes_eq (name x) wanted) xs
 among_names name [] wanted = refl
 among_names name (x ∷ xs) wanted = λ i. nat_list_eq_equiv.symm wanted (name x) i || among_names name xs wanted i
 

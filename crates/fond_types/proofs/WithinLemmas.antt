@@ -89,3 +89,10 @@ all_more p items item all one = list_all-append p items (item ∷ []) ∙ (λ i.
 -- counts of the items from an index on
 pub sum_here : {A : Type 0} (count : A → ℕ) (xs : List A) (i : ℕ) (x : A) → slice_get xs i ≡ Some x → sum (map count (drop i xs)) ≡ count x + sum (map count (drop (i + 1) xs))
 sum_here count xs i x got = ap (λ rest. sum (map count rest)) (next_left xs i x got) ∙ sum_by-cons (λ (n : ℕ). n) (count x) (map count (drop (i + 1) xs))
+
+-- the sites of each item are sound if those of all items are
+pub sound_flat : {A : Type 0} (files : Declarations) (of : A → List Site) (items : List A) → are_sound files (flat_map of items) ≡ true → list_all (λ item. are_sound files (of item)) items ≡ true
+sound_flat files of [] e = refl
+sound_flat files of (item ∷ items) e =
+    let both = and_parts (are_sound files (of item)) (are_sound files (flat_map of items)) (sym (list_all-append (is_sound files) (of item) (flat_map of items)) ∙ e) in
+    and_both (are_sound files (of item)) (list_all (λ one. are_sound files (of one)) items) both.0 (sound_flat files of items both.1)

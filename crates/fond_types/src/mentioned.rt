@@ -18,7 +18,8 @@ fn add_atom(alloc: Global, index: &mut TextIndex, atom: &ReadAtom) -> Result<(),
     ensures { OnOk result ((name : List ℕ) → is_some (number_beside index.new name) ≡ (is_some (number_beside index.old name) || bytes_eq atom.now.name name)) }
 {
     let name = Vec::from_slice(alloc, atom.name.bytes())?;
-    index.insert(name, 0)
+    index.insert(name, 0)?;
+    Ok(())
 }
 
 /// Adds the names of the predicates of all literals of an effect.
