@@ -8,6 +8,7 @@ pub mod Files
 pub mod Same
 pub mod Subtypes
 pub mod Unknown
+pub mod Parts
 pub mod Ground
 pub mod Context
 pub mod Kept

@@ -5,6 +5,9 @@ ghost use Rattle.fond_types.specs.Faults.{StandsInNames};
 ghost use Rattle.fond_types.specs.Resolves.{IsResolved};
 ghost use Rattle.std.specs.Prelude.{IfOk, IfErr, OnOk};
 
+use crate::first_fault::first_fault;
+use crate::lookup::indexed;
+use crate::task::numbered_task;
 use fond_ast::files::{Domain, Problem, Side};
 use fond_ast::task::LiftedTask;
 use fond_text::fault::FrontError;
@@ -18,5 +21,9 @@ pub fn resolve(alloc: Global, d: &Domain, p: &Problem, s: &Side) -> Result<Lifte
     ensures clean { OnOk result (AreClean (StandsInNames (record { domain = d.now; problem = p.now; side = s.now }))) }
     ensures refused { IfErr result (Refuses (IsFirstAmong (StandsInNames (record { domain = d.now; problem = p.now; side = s.now })))) }
 {
-    Err(FrontError::NoMemory)
+    let files = indexed(alloc, d, p, s)?;
+    if let Some(fault) = first_fault(alloc, &files)? {
+        return Err(FrontError::Refused(fault));
+    }
+    Ok(numbered_task(alloc, &files)?)
 }
