@@ -81,7 +81,7 @@ pub are_ranges_of : (files : Declarations) (names : List TypedName) (ranges : Ra
 are_ranges_of files names ranges e = ranges_are (meanings files).range names (objects_of ranges) e
 
 -- what is found passes
-found_itself : {X : Type 0} (p : X → Bool) (xs : List X) (x : X) → find p xs ≡ Some x → p x ≡ true
+pub found_itself : {X : Type 0} (p : X → Bool) (xs : List X) (x : X) → find p xs ≡ Some x → p x ≡ true
 found_itself p [] x e = cc
 found_itself p (y ∷ xs) x e = by (p y) refl e (found_itself p xs x)
   where
@@ -89,7 +89,7 @@ found_itself p (y ∷ xs) x e = by (p y) refl e (found_itself p xs x)
     by true is e later = let same : y ≡ x = cc in ap p (sym same) ∙ is
     by false is e later = later e
 
-same_bools : (a b : Bool) → is_same a b ≡ true → a ≡ b
+pub same_bools : (a b : Bool) → is_same a b ≡ true → a ≡ b
 same_bools true b e = sym e
 same_bools false true e = cc
 same_bools false false e = refl

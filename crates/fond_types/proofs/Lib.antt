@@ -18,6 +18,7 @@ pub mod Order
 pub mod Passing
 pub mod RangeLemmas
 pub mod Subsets
+pub mod TaskLemmas
 pub mod TermLemmas
 pub mod WithinLemmas
 pub mod Numbering

@@ -80,7 +80,7 @@ fn numbered_parts(alloc: Global, context: &Context, kept: &mut KeptRanges) -> Re
 
 /// The names of the objects of a table.
 fn object_names(table: Table) -> Names
-    ensures { result ≡ table.objects.names }
+    ensures { result ≡ table.entry.objects.names }
 {
     let Table {
         files: _,
@@ -96,7 +96,7 @@ fn assembled(table: Table, predicates: LPredicates, parts: Parts) -> LiftedTask
     requires clean { AreClean (StandsInNames (declarations_of table.files.now)) }
     requires predicates { are_predicates (declarations_of table.files.now) predicates ≡ true }
     requires parts { AreParts (declarations_of table.files.now) predicates parts }
-    ensures { IsResolved (declarations_of table.files.now) result }
+    ensures { IsResolved (declarations_of table.entry.files.now) result }
 {
     let Parts {
         schemas,
