@@ -1,6 +1,6 @@
 //! A coin that is flipped, while it is round, until it shows heads.
 
-use fond_ast::task::LiftedTask;
+use fond_plain::task::PlainTask;
 use fond_front::task::read_task;
 use fond_front::texts::TaskTexts;
 use fond_ground::ground::ground;
@@ -15,7 +15,7 @@ const DOMAIN: &[u8] =
 const PROBLEM: &[u8] = b"(define (problem c) (:domain coin) (:init (round)) (:goal (heads)))";
 
 /// The task of the coin.
-pub fn coin(alloc: Global) -> Result<LiftedTask, FrontError> {
+pub fn coin(alloc: Global) -> Result<PlainTask, FrontError> {
     let texts = TaskTexts {
         domain: Bytes::copy(alloc, DOMAIN)?,
         problem: Bytes::copy(alloc, PROBLEM)?,

@@ -1,5 +1,5 @@
 use fond_game::laws::{layers_force, ranks_exclude_traps, refusals_hold};
-use fond_meaning::laws::{choices_are_given, successors_are_distinct, successors_come_next};
+use fond_plain::laws::{choices_are_given, successors_are_distinct, successors_come_next};
 use fond_oneof::laws::{effects_have_outcomes, outcomes_are_choices, outcomes_are_fluent};
 use fond_reader::laws::{clean_domains_are_read, clean_problems_are_read};
 use fond_rules::laws::selected_rule_is_policy;

@@ -32,14 +32,15 @@ contains_cases y x xs (suc k, within, same) = inr (k, omega arith, same)
 contains_none : {X : Type 0} (x : X) → ¬ Contains {X = X} [] x
 contains_none x (k, within, same) = omega arith
 
-word_is : (head : List ℕ) (leaf : Option (List ℕ)) → is_word_leaf head leaf ≡ true → leaf ≡ Some head
+-- a leaf that is a word
+pub word_is : (head : List ℕ) (leaf : Option (List ℕ)) → is_word_leaf head leaf ≡ true → leaf ≡ Some head
 word_is head None is = absurd (cc)
 word_is head (Some leaf) is = ap (λ w. Some w) ((bytes_eq-Decides leaf head).0 is)
 
 is_word : (head : List ℕ) (leaf : Option (List ℕ)) → leaf ≡ Some head → is_word_leaf head leaf ≡ true
 is_word head leaf is = subst (λ (l : Option (List ℕ)). is_word_leaf head l ≡ true) (sym is) ((bytes_eq-Decides head head).1 refl)
 
-or_cases : (a b : Bool) → (a || b) ≡ true → (a ≡ true) ⊎ (b ≡ true)
+pub or_cases : (a b : Bool) → (a || b) ≡ true → (a ≡ true) ⊎ (b ≡ true)
 or_cases true b h = inl refl
 or_cases false b h = inr h
 

@@ -1,6 +1,15 @@
 pub mod Again
 pub mod Among
+pub mod Fitting
+pub mod FittingActions
+pub mod FittingNodes
+pub mod FormFits
+pub mod Heads
 pub mod Incomplete
+pub mod FittingLeaves
 pub mod Members
+pub mod Once
 pub mod Pairs
+pub mod Sections
 pub mod Steps
+pub mod TypedLists

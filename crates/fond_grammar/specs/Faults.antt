@@ -1,7 +1,7 @@
 -- The faults of a tree that is no domain or no problem, F7 to F12. Members are checked as far as something is expected
 -- of them: not those of a node that is itself refused with F8, F11 or F12 or that occurs in place of a leaf, nor those
 -- beyond the expected ones.
-use Rattle.std.specs.Prelude.{◌≡◌, ◌⊎◌, ℕ, true, List, [], ◌∷◌, ◌++◌, Contains, Option, Some, None, codes, if◌then◌else◌}
+use Rattle.std.specs.Prelude.{◌≡◌, ◌⊎◌, ℕ, true, List, [], ◌∷◌, Contains, Option, Some, None, codes, if◌then◌else◌}
 use Rattle.std.specs.List.{filter_map}
 use Rattle.fond_text.specs.Faults.{IsClean}
 use Rattle.fond_text.specs.Lists.{Somewhere}

@@ -1,5 +1,5 @@
 -- What is expected at the places of a domain and of a problem.
-use Rattle.std.specs.Prelude.{ℕ, ◌&&◌, ◌||◌, nat_lt, Bool, true, false, not, List, [], ◌∷◌, length, Option, Some, None, codes, if◌then◌else◌}
+use Rattle.std.specs.Prelude.{ℕ, ◌&&◌, ◌||◌, Bool, false, List, [], ◌∷◌, Option, Some, None, codes, if◌then◌else◌}
 use Rattle.std.specs.Str.{bytes_eq}
 use Rattle.std.specs.List.{list_any}
 use Rattle.fond_text.specs.declared.code.TheConstants.{MISFIT, UNKNOWN_SECTION, MISPLACED_OPERATOR, NO_CHOICE}

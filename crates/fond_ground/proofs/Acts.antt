@@ -4,12 +4,12 @@ use Rattle.std.specs.List.{enumerate_from}
 use Rattle.std.proofs.lemmas.List.{append_assoc, append-nil}
 use Rattle.fond_task.specs.declared.form.Kleene.{Kleene}
 use Rattle.fond_task.specs.declared.task.Act.{Act}
-use Rattle.fond_ast.specs.declared.form.LCond.{LCond}
-use Rattle.fond_ast.specs.declared.form.LCond.TheOpen.{LCond-F, Truth, Holds, And, Or, Not, Imply}
-use Rattle.fond_ast.specs.declared.form.LCond.TheFolds.{fold-LCond}
-use Rattle.fond_ast.specs.declared.task.LSchema.{LSchema}
-use Rattle.fond_ast.specs.declared.task.LiftedTask.{LiftedTask}
-use Rattle.fond_meaning.specs.Successors.{atom_of_number}
+use Rattle.fond_plain.specs.declared.form.PlainCond.{PlainCond}
+use Rattle.fond_plain.specs.declared.form.PlainCond.TheOpen.{PlainCond-F, Truth, Holds, And, Or, Not, Imply}
+use Rattle.fond_plain.specs.declared.form.PlainCond.TheFolds.{fold-PlainCond}
+use Rattle.fond_plain.specs.declared.task.PlainSchema.{PlainSchema}
+use Rattle.fond_plain.specs.declared.task.PlainTask.{PlainTask}
+use Rattle.fond_plain.specs.Successors.{atom_of_number}
 use Rattle.fond_ground.specs.Numbers.{is_initial, fluent_numbers}
 use Rattle.fond_ground.specs.Values.{condition_value}
 use Rattle.fond_ground.specs.Grounds.{is_kept, AreActsOf}
@@ -26,11 +26,11 @@ pub all-stand : {A B : Type 0} (R : List A → List B → Type 0) (xs : List A) 
 all-stand R xs i es none here before = subst (R xs) (append-nil es) (before [] (subst (λ w. R w []) (sym none) here))
 
 -- whether a schema is kept
-pub kept_same : (task : LiftedTask) (schema : LSchema) (answer : Bool) → ((count : ℕ) → answer ≡ may (condition_value task (replicate count None) schema.pre)) → is_kept task schema ≡ answer
+pub kept_same : (task : PlainTask) (schema : PlainSchema) (answer : Bool) → ((count : ℕ) → answer ≡ may (condition_value task (replicate count None) schema.pre)) → is_kept task schema ≡ answer
 kept_same task schema answer h = sym (h (length (fluent_numbers task)))
 
 -- the actions of one schema and those of others
-pub acts_join : (task : LiftedTask) (b : Bool) (item : ℕ × LSchema) (items : List (ℕ × LSchema)) (more rest : List Act) → AreActsOf task (cond b (item ∷ []) []) more → AreActsOf task items rest → AreActsOf task (cond b (item ∷ items) items) (more ++ rest)
+pub acts_join : (task : PlainTask) (b : Bool) (item : ℕ × PlainSchema) (items : List (ℕ × PlainSchema)) (more rest : List Act) → AreActsOf task (cond b (item ∷ []) []) more → AreActsOf task items rest → AreActsOf task (cond b (item ∷ items) items) (more ++ rest)
 acts_join task true item items [] rest h r = elim h [ ]
 acts_join task true item items (act ∷ []) rest h r = (h.0, r)
 acts_join task true item items (act ∷ other ∷ more) rest h r = elim (h.1) [ ]
@@ -43,12 +43,12 @@ enumerate_split [] (suc i) from x h = absurd (cc)
 enumerate_split (y ∷ ys) zero from x h = let same : y ≡ x = cc in ap (λ z. (from, z) ∷ enumerate_from (from + 1) ys) same
 enumerate_split (y ∷ ys) (suc i) from x h = enumerate_split ys i from x h
 
-pub acts-more : (task : LiftedTask) (i : ℕ) (schema : LSchema) (acts next : List Act) → slice_get task.schemas i ≡ Some schema
+pub acts-more : (task : PlainTask) (i : ℕ) (schema : PlainSchema) (acts next : List Act) → slice_get task.schemas i ≡ Some schema
     → (more : List Act) × (next ≡ acts ++ more) × AreActsOf task (filter (λ item. is_kept task item.1) ((i, schema) ∷ [])) more
     → ((rest : List Act) → AreActsOf task (filter (λ item. is_kept task item.1) (enumerate_from i (drop i task.schemas))) rest → AreActsOf task (filter (λ item. is_kept task item.1) (enumerate_from 0 task.schemas)) (acts ++ rest))
     → (rest : List Act) → AreActsOf task (filter (λ item. is_kept task item.1) (enumerate_from (i + 1) (drop (i + 1) task.schemas))) rest → AreActsOf task (filter (λ item. is_kept task item.1) (enumerate_from 0 task.schemas)) (next ++ rest)
 acts-more task i schema acts next h one before rest r =
-    let K : ℕ × LSchema → Bool = λ item. is_kept task item.1 in
+    let K : ℕ × PlainSchema → Bool = λ item. is_kept task item.1 in
     let all = filter K (enumerate_from 0 task.schemas) in
     let left = filter K (enumerate_from (i + 1) (drop (suc i) task.schemas)) in
     let r' : AreActsOf task left rest = subst (λ n. AreActsOf task (filter K (enumerate_from (i + 1) (drop n task.schemas))) rest) (add-one i) r in
@@ -57,7 +57,7 @@ acts-more task i schema acts next h one before rest r =
     (before (one.0 ++ rest) (subst (λ w. AreActsOf task (filter K w) (one.0 ++ rest)) (sym (enumerate_split task.schemas i i schema h)) joined))
 
 -- the initial values of atoms are those of their predicates
-pub init_same : (task : LiftedTask) (ns : List ℕ) → map (λ atom. is_initial task atom.predicate) (map atom_of_number ns) ≡ map (is_initial task) ns
+pub init_same : (task : PlainTask) (ns : List ℕ) → map (λ atom. is_initial task atom.predicate) (map atom_of_number ns) ≡ map (is_initial task) ns
 init_same task [] = refl
 init_same task (n ∷ ns) = ap (λ rest. is_initial task n ∷ rest) (init_same task ns)
 

@@ -6,21 +6,21 @@ use Rattle.std.specs.List.{position_from}
 use Rattle.std.proofs.lemmas.List.{append_assoc, length-map, get_or-set_same, get_or-set_other}
 use Rattle.std.proofs.lemmas.Bool.Decides.{nat_tests}
 use Rattle.fond_text.specs.declared.atom.Atom.{Atom}
-use Rattle.fond_ast.specs.declared.task.LPredicate.{LPredicate}
-use Rattle.fond_ast.specs.declared.task.LiftedTask.{LiftedTask}
-use Rattle.fond_ast.specs.Within.{is_atom_within}
-use Rattle.fond_meaning.specs.Successors.{atom_of_number}
+use Rattle.fond_plain.specs.declared.task.PlainPredicate.{PlainPredicate}
+use Rattle.fond_plain.specs.declared.task.PlainTask.{PlainTask}
+use Rattle.fond_plain.specs.Within.{is_atom_within}
+use Rattle.fond_plain.specs.Successors.{atom_of_number}
 use Rattle.std.proofs.lemmas.Iterator.Adapters.{position_from-zero}
 use Rattle.std.proofs.lemmas.List.Quantifiers.{position-Some}
-use Rattle.fond_ast.specs.Within.{is_fluent}
+use Rattle.fond_plain.specs.Within.{is_fluent}
 use Rattle.fond_ground.specs.Numbers.{fluent_atoms, fluent_numbers, atom_number}
 use Rattle.fond_ground.specs.Tables.{numbered, counted, numbers_from}
 
 -- the numbers of the fluent ones of predicates that are numbered from this one on
-abbrev pub fluents : ℕ → List LPredicate → List ℕ
+abbrev pub fluents : ℕ → List PlainPredicate → List ℕ
 fluents from predicates = map (λ item. item.0) (filter (λ item. item.1.fluent) (enumerate_from from predicates))
 
-not_here : (b : Bool) (x : LPredicate) (rest : List (ℕ × LPredicate)) (from count q : ℕ) → (from == q) ≡ false
+not_here : (b : Bool) (x : PlainPredicate) (rest : List (ℕ × PlainPredicate)) (from count q : ℕ) → (from == q) ≡ false
     → ((n : ℕ) → position_from (λ number. number == q) n (map (λ item. item.0) rest) ≡ None)
     → position_from (λ number. number == q) count (map (λ item. item.0) (cond b ((from, x) ∷ rest) rest)) ≡ None
 not_here true x rest from count q e h = ap (λ t. cond t (Some count) (position_from (λ number. number == q) (count + 1) (map (λ item. item.0) rest))) e ∙ h (count + 1)
@@ -35,23 +35,23 @@ differ_up a b lt = grind (arith, nat_tests)
 equal : (a b : ℕ) → a ≡ b → (a == b) ≡ true
 equal a b e = grind (arith, nat_tests)
 
-below_all : (ps : List LPredicate) (from count q : ℕ) → q < from → position_from (λ number. number == q) count (fluents from ps) ≡ None
+below_all : (ps : List PlainPredicate) (from count q : ℕ) → q < from → position_from (λ number. number == q) count (fluents from ps) ≡ None
 below_all [] from count q lt = refl
 below_all (p ∷ ps) from count q lt = not_here p.fluent p (filter (λ item. item.1.fluent) (enumerate_from (from + 1) ps)) from count q (differ from q lt) (λ n. below_all ps (from + 1) n q (omega arith))
 
-at_first : (b : Bool) (x : LPredicate) (rest : List (ℕ × LPredicate)) (from count q : ℕ) → (from == q) ≡ true
+at_first : (b : Bool) (x : PlainPredicate) (rest : List (ℕ × PlainPredicate)) (from count q : ℕ) → (from == q) ≡ true
     → position_from (λ number. number == q) count (map (λ item. item.0) rest) ≡ None
     → numbered b count ≡ position_from (λ number. number == q) count (map (λ item. item.0) (cond b ((from, x) ∷ rest) rest))
 at_first true x rest from count q e h = sym (ap (λ t. cond t (Some count) (position_from (λ number. number == q) (count + 1) (map (λ item. item.0) rest))) e)
 at_first false x rest from count q e h = sym h
 
-further : (b : Bool) (x : LPredicate) (rest : List (ℕ × LPredicate)) (from count q : ℕ) (got : ℕ → Option ℕ) → (from == q) ≡ false
+further : (b : Bool) (x : PlainPredicate) (rest : List (ℕ × PlainPredicate)) (from count q : ℕ) (got : ℕ → Option ℕ) → (from == q) ≡ false
     → ((n : ℕ) → got n ≡ position_from (λ number. number == q) n (map (λ item. item.0) rest))
     → got (counted b count) ≡ position_from (λ number. number == q) count (map (λ item. item.0) (cond b ((from, x) ∷ rest) rest))
 further true x rest from count q got e h = h (count + 1) ∙ sym (ap (λ t. cond t (Some count) (position_from (λ number. number == q) (count + 1) (map (λ item. item.0) rest))) e)
 further false x rest from count q got e h = h count
 
-pub number_at : (ps : List LPredicate) (from count p q : ℕ) → q ≡ from + p → get_or (numbers_from count ps) p None ≡ position_from (λ number. number == q) count (fluents from ps)
+pub number_at : (ps : List PlainPredicate) (from count p q : ℕ) → q ≡ from + p → get_or (numbers_from count ps) p None ≡ position_from (λ number. number == q) count (fluents from ps)
 number_at [] from count zero q e = refl
 number_at [] from count (suc p) q e = refl
 number_at (x ∷ xs) from count zero q e =
@@ -66,13 +66,13 @@ counted-le false count = omega arith
 pub counted-most : (b : Bool) (count i : ℕ) → count ≤ i → counted b count ≤ i + 1
 counted-most b count i le = let h = counted-le b count in omega arith
 
-numbers_split : (ps : List LPredicate) (i count : ℕ) (p : LPredicate) → slice_get ps i ≡ Some p → numbers_from count (drop i ps) ≡ numbered p.fluent count ∷ numbers_from (counted p.fluent count) (drop (suc i) ps)
+numbers_split : (ps : List PlainPredicate) (i count : ℕ) (p : PlainPredicate) → slice_get ps i ≡ Some p → numbers_from count (drop i ps) ≡ numbered p.fluent count ∷ numbers_from (counted p.fluent count) (drop (suc i) ps)
 numbers_split [] zero count p h = absurd (cc)
 numbers_split [] (suc i) count p h = absurd (cc)
 numbers_split (x ∷ xs) zero count p h = let same : x ≡ p = cc in ap (λ z. numbered z.fluent count ∷ numbers_from (counted z.fluent count) xs) same
 numbers_split (x ∷ xs) (suc i) count p h = numbers_split xs i count p h
 
-pub numbers-more : (ps : List LPredicate) (i count : ℕ) (p : LPredicate) (numbers next whole : List (Option ℕ)) → slice_get ps i ≡ Some p
+pub numbers-more : (ps : List PlainPredicate) (i count : ℕ) (p : PlainPredicate) (numbers next whole : List (Option ℕ)) → slice_get ps i ≡ Some p
     → next ≡ numbers ++ numbered p.fluent count ∷ [] → numbers ++ numbers_from count (drop i ps) ≡ whole
     → next ++ numbers_from (counted p.fluent count) (drop (i + 1) ps) ≡ whole
 numbers-more ps i count p numbers next whole h e before =
@@ -80,11 +80,11 @@ numbers-more ps i count p numbers next whole h e before =
     ap (λ w. w ++ rest) e ∙ append_assoc numbers (numbered p.fluent count ∷ []) rest ∙ ap (λ n. numbers ++ numbered p.fluent count ∷ numbers_from (counted p.fluent count) (drop n ps)) (add-one i)
     ∙ ap (λ w. numbers ++ w) (sym (numbers_split ps i count p h)) ∙ before
 
-head_of : (b : Bool) (x : LPredicate) (rest : List (ℕ × LPredicate)) (from : ℕ) → map (λ n. atom_of_number n) (map (λ item. item.0) (cond b ((from, x) ∷ rest) rest)) ≡ (if b then atom_of_number from ∷ [] else []) ++ map (λ n. atom_of_number n) (map (λ item. item.0) rest)
+head_of : (b : Bool) (x : PlainPredicate) (rest : List (ℕ × PlainPredicate)) (from : ℕ) → map (λ n. atom_of_number n) (map (λ item. item.0) (cond b ((from, x) ∷ rest) rest)) ≡ (if b then atom_of_number from ∷ [] else []) ++ map (λ n. atom_of_number n) (map (λ item. item.0) rest)
 head_of true x rest from = refl
 head_of false x rest from = refl
 
-atoms_split : (ps : List LPredicate) (i from : ℕ) (p : LPredicate) → slice_get ps i ≡ Some p → map atom_of_number (fluents from (drop i ps)) ≡ (if p.fluent then atom_of_number from ∷ [] else []) ++ map atom_of_number (fluents (from + 1) (drop (suc i) ps))
+atoms_split : (ps : List PlainPredicate) (i from : ℕ) (p : PlainPredicate) → slice_get ps i ≡ Some p → map atom_of_number (fluents from (drop i ps)) ≡ (if p.fluent then atom_of_number from ∷ [] else []) ++ map atom_of_number (fluents (from + 1) (drop (suc i) ps))
 atoms_split [] zero from p h = absurd (cc)
 atoms_split [] (suc i) from p h = absurd (cc)
 atoms_split (x ∷ xs) zero from p h =
@@ -92,7 +92,7 @@ atoms_split (x ∷ xs) zero from p h =
     head_of x.fluent x (filter (λ item. item.1.fluent) (enumerate_from (from + 1) xs)) from ∙ ap (λ z. (if z.fluent then atom_of_number from ∷ [] else []) ++ map atom_of_number (fluents (from + 1) xs)) same
 atoms_split (x ∷ xs) (suc i) from p h = atoms_split xs i from p h
 
-pub atoms-more : (ps : List LPredicate) (i : ℕ) (p : LPredicate) (atoms next whole : List Atom) → slice_get ps i ≡ Some p
+pub atoms-more : (ps : List PlainPredicate) (i : ℕ) (p : PlainPredicate) (atoms next whole : List Atom) → slice_get ps i ≡ Some p
     → next ≡ atoms ++ (if p.fluent then atom_of_number i ∷ [] else []) → atoms ++ map atom_of_number (fluents i (drop i ps)) ≡ whole
     → next ++ map atom_of_number (fluents (i + 1) (drop (i + 1) ps)) ≡ whole
 atoms-more ps i p atoms next whole h e before =
@@ -166,11 +166,11 @@ pub values-put : (values : List Bool) (i k : ℕ) (v : Bool) (other : List Bool)
 values-put values i k v other lt e h le true t = let same : i ≡ k = grind (arith, nat_tests) in subst (λ m. get_or (set values i v) m false ≡ get_or other m false) same (get_or-set_same values i v false lt ∙ e)
 values-put values i k v other lt e h le false t = let apart : k ≢ i = grind (arith, nat_tests) in rw get_or-set_other (h k (omega arith))
 
-one_more_at_most : (b : Bool) (item : ℕ × LPredicate) (items : List (ℕ × LPredicate)) → length (map (λ (one : ℕ × LPredicate). one.0) (cond b (item ∷ items) items)) ≤ 1 + length (map (λ (one : ℕ × LPredicate). one.0) items)
+one_more_at_most : (b : Bool) (item : ℕ × PlainPredicate) (items : List (ℕ × PlainPredicate)) → length (map (λ (one : ℕ × PlainPredicate). one.0) (cond b (item ∷ items) items)) ≤ 1 + length (map (λ (one : ℕ × PlainPredicate). one.0) items)
 one_more_at_most true item items = omega arith
 one_more_at_most false item items = omega arith
 
-few_in : (ps : List LPredicate) (from : ℕ) → length (fluents from ps) ≤ length ps
+few_in : (ps : List PlainPredicate) (from : ℕ) → length (fluents from ps) ≤ length ps
 few_in [] from = omega arith
 few_in (p ∷ ps) from =
     let rest = few_in ps (from + 1) in
@@ -178,10 +178,10 @@ few_in (p ∷ ps) from =
     omega (arith, rest, one)
 
 -- there are no more fluent atoms than predicates
-pub few_fluent : (task : LiftedTask) → length (fluent_atoms task) ≤ length task.predicates
+pub few_fluent : (task : PlainTask) → length (fluent_atoms task) ≤ length task.predicates
 few_fluent task = rw length-map (few_in task.predicates 0)
 
-none_if_static : (ps : List LPredicate) (count p : ℕ) → get_or (numbers_from count ps) p None ≡ None → is_fluent ps p ≡ false
+none_if_static : (ps : List PlainPredicate) (count p : ℕ) → get_or (numbers_from count ps) p None ≡ None → is_fluent ps p ≡ false
 none_if_static [] count zero h = refl
 none_if_static [] count (suc p) h = refl
 none_if_static (x ∷ xs) count zero h = by x.fluent h
@@ -192,22 +192,22 @@ none_if_static (x ∷ xs) count zero h = by x.fluent h
 none_if_static (x ∷ xs) count (suc p) h = none_if_static xs (counted x.fluent count) p h
 
 -- the number of an atom by the list of all numbers
-pub number_by_all : (task : LiftedTask) (predicate : ℕ) → get_or (numbers_from 0 task.predicates) predicate None ≡ atom_number task predicate
+pub number_by_all : (task : PlainTask) (predicate : ℕ) → get_or (numbers_from 0 task.predicates) predicate None ≡ atom_number task predicate
 number_by_all task predicate =
     number_at task.predicates 0 0 predicate predicate (omega arith) ∙ sym (position_from-zero (λ number. number == predicate) (fluents 0 task.predicates))
 
 -- an atom without a number has a static predicate
-pub static_if_none : (task : LiftedTask) (predicate : ℕ) → atom_number task predicate ≡ None → is_fluent task.predicates predicate ≡ false
+pub static_if_none : (task : PlainTask) (predicate : ℕ) → atom_number task predicate ≡ None → is_fluent task.predicates predicate ≡ false
 static_if_none task predicate h = none_if_static task.predicates 0 predicate (number_by_all task predicate ∙ h)
 
 -- the number of an atom is one of the fluent atoms
-pub number_within : (task : LiftedTask) (predicate number : ℕ) → atom_number task predicate ≡ Some number → number < length (fluent_numbers task)
+pub number_within : (task : PlainTask) (predicate number : ℕ) → atom_number task predicate ≡ Some number → number < length (fluent_numbers task)
 number_within task predicate number h = (position-Some (λ n. n == predicate) (fluent_numbers task) number 0 h).0
 
-pub within_when : (task : LiftedTask) (predicate : ℕ) (found : Option ℕ) → found ≡ atom_number task predicate → IfSome found (λ number. number < length (fluent_numbers task))
+pub within_when : (task : PlainTask) (predicate : ℕ) (found : Option ℕ) → found ≡ atom_number task predicate → IfSome found (λ number. number < length (fluent_numbers task))
 within_when task predicate None e = tt
 within_when task predicate (Some number) e = number_within task predicate number (sym e)
 
-pub static_when : (task : LiftedTask) (predicate : ℕ) (found : Option ℕ) → found ≡ atom_number task predicate → IfNone found (is_fluent task.predicates predicate ≡ false)
+pub static_when : (task : PlainTask) (predicate : ℕ) (found : Option ℕ) → found ≡ atom_number task predicate → IfNone found (is_fluent task.predicates predicate ≡ false)
 static_when task predicate None e = static_if_none task predicate (sym e)
 static_when task predicate (Some number) e = tt

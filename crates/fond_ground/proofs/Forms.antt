@@ -5,11 +5,11 @@ use Rattle.std.proofs.Math.Seq.{drop-cons}
 use Rattle.fond_task.specs.declared.form.Kleene.{Kleene}
 use Rattle.fond_task.specs.declared.form.Kleene.TheVariants.{No, Unknown, Yes}
 use Rattle.fond_task.specs.Values.{literal_value}
-use Rattle.fond_ast.specs.declared.form.LCond.{LCond}
-use Rattle.fond_ast.specs.declared.form.LCond.TheOpen.{LCond-F, Truth, Holds, And, Or, Not, Imply}
-use Rattle.fond_ast.specs.declared.form.LCond.TheFolds.{fold-LCond}
+use Rattle.fond_plain.specs.declared.form.PlainCond.{PlainCond}
+use Rattle.fond_plain.specs.declared.form.PlainCond.TheOpen.{PlainCond-F, Truth, Holds, And, Or, Not, Imply}
+use Rattle.fond_plain.specs.declared.form.PlainCond.TheFolds.{fold-PlainCond}
 use Rattle.fond_ground.specs.Grounds.{is_no}
-use Rattle.fond_ast.specs.declared.task.LiftedTask.{LiftedTask}
+use Rattle.fond_plain.specs.declared.task.PlainTask.{PlainTask}
 use Rattle.fond_ground.specs.Numbers.{atom_number, is_initial}
 use Rattle.fond_ground.specs.Values.{condition_value, condition_value_step, known_value}
 
@@ -43,7 +43,7 @@ known-open : (number : Option ℕ) (initial : Bool) (count : ℕ) → known_valu
 known-open None initial count = refl
 known-open (Some number) initial count = ap (λ l. literal_value l true) (unknown_at zero number ∙ sym (unknown_at count number))
 
-open_step : (task : LiftedTask) (count : ℕ) (layer : LCond-F Kleene) → condition_value_step task [] layer ≡ condition_value_step task (replicate count None) layer
+open_step : (task : PlainTask) (count : ℕ) (layer : PlainCond-F Kleene) → condition_value_step task [] layer ≡ condition_value_step task (replicate count None) layer
 open_step task count Truth = refl
 open_step task count (Holds atom) = known-open (atom_number task atom.predicate) (is_initial task atom.predicate) count
 open_step task count (And parts) = refl
@@ -52,5 +52,5 @@ open_step task count (Not part) = refl
 open_step task count (Imply part other) = refl
 
 -- a cube that knows no atom gives each condition the value that the cube over no atom gives it
-pub open_same : (task : LiftedTask) (count : ℕ) (condition : LCond) → condition_value task [] condition ≡ condition_value task (replicate count None) condition
-open_same task count condition = λ i. fold-LCond Kleene (λ layer. open_step task count layer i) condition
+pub open_same : (task : PlainTask) (count : ℕ) (condition : PlainCond) → condition_value task [] condition ≡ condition_value task (replicate count None) condition
+open_same task count condition = λ i. fold-PlainCond Kleene (λ layer. open_step task count layer i) condition

@@ -4,12 +4,12 @@ use Rattle.std.specs.List.{fold}
 use Rattle.fond_task.specs.declared.form.Kleene.{Kleene}
 use Rattle.fond_task.specs.declared.form.Kleene.TheVariants.{No, Unknown, Yes}
 use Rattle.fond_task.specs.Values.{least, greatest, lesser, greater}
-use Rattle.fond_ast.specs.declared.form.LCond.{LCond, And, Or, Not, Imply}
-use Rattle.fond_ast.specs.declared.form.LCond.TheOpen as open_condition
-use Rattle.fond_ast.specs.declared.form.LCond.TheViews.{rolls-And, rolls-Or, rolls-Not, rolls-Imply}
-use Rattle.fond_ast.specs.declared.form.LCond.TheFolds.{fold-roll-LCond}
+use Rattle.fond_plain.specs.declared.form.PlainCond.{PlainCond, And, Or, Not, Imply}
+use Rattle.fond_plain.specs.declared.form.PlainCond.TheOpen as open_condition
+use Rattle.fond_plain.specs.declared.form.PlainCond.TheViews.{rolls-And, rolls-Or, rolls-Not, rolls-Imply}
+use Rattle.fond_plain.specs.declared.form.PlainCond.TheFolds.{fold-roll-PlainCond}
 use Rattle.fond_ground.specs.Signs.{signed, joined_value}
-use Rattle.fond_ast.specs.declared.task.LiftedTask.{LiftedTask}
+use Rattle.fond_plain.specs.declared.task.PlainTask.{PlainTask}
 use Rattle.fond_ground.specs.Values.{condition_value, condition_value_step, opposite}
 
 opposite-lesser : (v w : Kleene) → greater (opposite v) (opposite w) ≡ opposite (lesser v w)
@@ -55,22 +55,22 @@ signed-pair : (sign : Bool) (v w : Kleene) → joined_value (not sign) (signed (
 signed-pair true v w = refl
 signed-pair false v w = ap (λ u. lesser u (opposite w)) (opposite_twice v) ∙ opposite-greater (opposite v) w
 
-module _ (task : LiftedTask) (cube : List (Option Bool)) (sign : Bool) where
+module _ (task : PlainTask) (cube : List (Option Bool)) (sign : Bool) where
   -- the value of a condition with the sign
-  abbrev pub signed_at : LCond → Kleene
+  abbrev pub signed_at : PlainCond → Kleene
   signed_at condition = signed sign (condition_value task cube condition)
 
   -- a conjunction and a disjunction with a sign, by their members with that sign
-  pub signed-And : (members : Vec LCond Global) → joined_value sign (map signed_at members.items) ≡ signed_at (And members)
-  signed-And members = signed-least sign (condition_value task cube) members.items ∙ ap (signed sign) (sym (fold-roll-LCond Kleene (condition_value_step task cube) (open_condition.And members)) ∙ ap (condition_value task cube) (rolls-And members))
+  pub signed-And : (members : Vec PlainCond Global) → joined_value sign (map signed_at members.items) ≡ signed_at (And members)
+  signed-And members = signed-least sign (condition_value task cube) members.items ∙ ap (signed sign) (sym (fold-roll-PlainCond Kleene (condition_value_step task cube) (open_condition.And members)) ∙ ap (condition_value task cube) (rolls-And members))
 
-  pub signed-Or : (members : Vec LCond Global) → joined_value (not sign) (map signed_at members.items) ≡ signed_at (Or members)
-  signed-Or members = signed-greatest sign (condition_value task cube) members.items ∙ ap (signed sign) (sym (fold-roll-LCond Kleene (condition_value_step task cube) (open_condition.Or members)) ∙ ap (condition_value task cube) (rolls-Or members))
+  pub signed-Or : (members : Vec PlainCond Global) → joined_value (not sign) (map signed_at members.items) ≡ signed_at (Or members)
+  signed-Or members = signed-greatest sign (condition_value task cube) members.items ∙ ap (signed sign) (sym (fold-roll-PlainCond Kleene (condition_value_step task cube) (open_condition.Or members)) ∙ ap (condition_value task cube) (rolls-Or members))
 
   -- a negation with a sign is its part with the other
-  pub signed-Not : (part : Box LCond Global) → signed (not sign) (condition_value task cube part.value) ≡ signed_at (Not part)
-  signed-Not part = not-signed sign (condition_value task cube part.value) ∙ ap (signed sign) (sym (fold-roll-LCond Kleene (condition_value_step task cube) (open_condition.Not part)) ∙ ap (condition_value task cube) (rolls-Not part))
+  pub signed-Not : (part : Box PlainCond Global) → signed (not sign) (condition_value task cube part.value) ≡ signed_at (Not part)
+  signed-Not part = not-signed sign (condition_value task cube part.value) ∙ ap (signed sign) (sym (fold-roll-PlainCond Kleene (condition_value_step task cube) (open_condition.Not part)) ∙ ap (condition_value task cube) (rolls-Not part))
 
   -- an implication with a sign is the disjunction of its first part with the other sign and its second with this
-  pub signed-Imply : (part other : Box LCond Global) → joined_value (not sign) (signed (not sign) (condition_value task cube part.value) ∷ signed_at other.value ∷ []) ≡ signed_at (Imply part other)
-  signed-Imply part other = signed-pair sign (condition_value task cube part.value) (condition_value task cube other.value) ∙ ap (signed sign) (sym (fold-roll-LCond Kleene (condition_value_step task cube) (open_condition.Imply part other)) ∙ ap (condition_value task cube) (rolls-Imply part other))
+  pub signed-Imply : (part other : Box PlainCond Global) → joined_value (not sign) (signed (not sign) (condition_value task cube part.value) ∷ signed_at other.value ∷ []) ≡ signed_at (Imply part other)
+  signed-Imply part other = signed-pair sign (condition_value task cube part.value) (condition_value task cube other.value) ∙ ap (signed sign) (sym (fold-roll-PlainCond Kleene (condition_value_step task cube) (open_condition.Imply part other)) ∙ ap (condition_value task cube) (rolls-Imply part other))

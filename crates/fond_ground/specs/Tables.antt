@@ -3,11 +3,11 @@ use Rattle.std.specs.Prelude.{◌≡◌, ℕ, ◌+◌, Bool, true, false, List, 
 use Rattle.fond_task.specs.declared.form.Kleene.{Kleene}
 use Rattle.fond_task.specs.declared.form.Kleene.TheVariants.{Yes}
 use Rattle.fond_task.specs.Values.{greater, least, greatest}
-use Rattle.fond_ast.specs.declared.form.LCond.{LCond}
-use Rattle.fond_ast.specs.declared.form.LCond.TheOpen.{LCond-F, Truth, Holds, And, Or, Not, Imply}
-use Rattle.fond_ast.specs.declared.form.LCond.TheFolds.{fold-LCond}
-use Rattle.fond_ast.specs.declared.task.LPredicate.{LPredicate}
-use Rattle.fond_ast.specs.declared.task.LiftedTask.{LiftedTask}
+use Rattle.fond_plain.specs.declared.form.PlainCond.{PlainCond}
+use Rattle.fond_plain.specs.declared.form.PlainCond.TheOpen.{PlainCond-F, Truth, Holds, And, Or, Not, Imply}
+use Rattle.fond_plain.specs.declared.form.PlainCond.TheFolds.{fold-PlainCond}
+use Rattle.fond_plain.specs.declared.task.PlainPredicate.{PlainPredicate}
+use Rattle.fond_plain.specs.declared.task.PlainTask.{PlainTask}
 use Rattle.fond_ground.specs.Numbers.{atom_number, is_initial}
 use Rattle.fond_ground.specs.Values.{known_value, opposite}
 
@@ -22,6 +22,6 @@ counted true count = count + 1
 counted false count = count
 
 -- the numbers of the atoms of predicates, counted from this number
-abbrev pub numbers_from : ℕ → List LPredicate → List (Option ℕ)
+abbrev pub numbers_from : ℕ → List PlainPredicate → List (Option ℕ)
 numbers_from count [] = []
 numbers_from count (predicate ∷ predicates) = numbered predicate.fluent count ∷ numbers_from (counted predicate.fluent count) predicates

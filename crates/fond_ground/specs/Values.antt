@@ -5,10 +5,10 @@ use Rattle.fond_task.specs.declared.form.Form.{Form}
 use Rattle.fond_task.specs.declared.form.Kleene.{Kleene}
 use Rattle.fond_task.specs.declared.form.Kleene.TheVariants.{No, Unknown, Yes}
 use Rattle.fond_task.specs.Values.{greater, least, greatest, literal_value, value}
-use Rattle.fond_ast.specs.declared.form.LCond.{LCond}
-use Rattle.fond_ast.specs.declared.form.LCond.TheOpen.{LCond-F, Truth, Holds, And, Or, Not, Imply}
-use Rattle.fond_ast.specs.declared.form.LCond.TheFolds.{fold-LCond}
-use Rattle.fond_ast.specs.declared.task.LiftedTask.{LiftedTask}
+use Rattle.fond_plain.specs.declared.form.PlainCond.{PlainCond}
+use Rattle.fond_plain.specs.declared.form.PlainCond.TheOpen.{PlainCond-F, Truth, Holds, And, Or, Not, Imply}
+use Rattle.fond_plain.specs.declared.form.PlainCond.TheFolds.{fold-PlainCond}
+use Rattle.fond_plain.specs.declared.task.PlainTask.{PlainTask}
 use Rattle.fond_ground.specs.Numbers.{atom_number, is_initial}
 
 -- the value of an atom on a cube: a fluent atom has the value that the cube gives it, a static atom its initial value
@@ -22,7 +22,7 @@ opposite No = Yes
 opposite Unknown = Unknown
 opposite Yes = No
 
-abbrev pub condition_value_step : LiftedTask → List (Option Bool) → LCond-F Kleene → Kleene
+abbrev pub condition_value_step : PlainTask → List (Option Bool) → PlainCond-F Kleene → Kleene
 condition_value_step task cube Truth = Yes
 condition_value_step task cube (Holds atom) = known_value (atom_number task atom.predicate) (is_initial task atom.predicate) cube
 condition_value_step task cube (And parts) = least parts.items
@@ -32,9 +32,9 @@ condition_value_step task cube (Imply part other) = greater (opposite part.value
 
 -- the value of a condition on a cube: a conjunction has the least value of its parts, a disjunction the greatest, a
 -- negation the opposite of its part, and an implication the greater of the opposite of its first part and its second
-abbrev pub condition_value : LiftedTask → List (Option Bool) → LCond → Kleene
-condition_value task cube = fold-LCond Kleene (condition_value_step task cube)
+abbrev pub condition_value : PlainTask → List (Option Bool) → PlainCond → Kleene
+condition_value task cube = fold-PlainCond Kleene (condition_value_step task cube)
 
 -- a ground condition stands for a condition if both have the same value on every cube
-abbrev pub StandsFor : LiftedTask → LCond → Form → Type 0
+abbrev pub StandsFor : PlainTask → PlainCond → Form → Type 0
 StandsFor task condition form = (cube : List (Option Bool)) → value cube form ≡ condition_value task cube condition

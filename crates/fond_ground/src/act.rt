@@ -1,6 +1,6 @@
 //! The actions of the ground task.
 
-ghost use Rattle.fond_ast.specs.Within.{is_fluent, is_effect_fluent, is_schema_fluent, is_effect_within, is_schema_within};
+ghost use Rattle.fond_plain.specs.Within.{is_fluent, is_effect_fluent, is_schema_fluent, is_effect_within, is_schema_within};
 ghost use Rattle.fond_ground.specs.Grounds.{is_kept, IsActOf, AreActsOf};
 ghost use Rattle.fond_ground.specs.Outcomes.{AreEntriesOf, AreOutcomesOf, IsEntryOf};
 ghost use Rattle.fond_ground.specs.Numbers.{fluent_numbers};
@@ -13,9 +13,9 @@ ghost use Rattle.std.specs.Prelude.{◌≡◌, ◌+◌, ◌<◌, ◌≤◌, ◌^
 
 use crate::table::Table;
 use crate::value::{form_of, is_possible};
-use fond_ast::form::LEffect;
-use fond_ast::task::LSchema;
 use fond_oneof::outcome::{Literal, outcomes};
+use fond_plain::form::PlainEffect;
+use fond_plain::task::PlainSchema;
 use fond_task::form::Form;
 use fond_task::task::{Act, Acts, Entry, Outcome, Outcomes};
 use fond_text::atom::{GroundAction, Objects};
@@ -52,7 +52,7 @@ fn entries_of(alloc: Global, table: &Table, literals: &[Literal]) -> Result<Outc
 }
 
 /// The outcomes of an effect, in order.
-fn outcomes_of(alloc: Global, table: &Table, effect: &LEffect) -> Result<Outcomes, NoMemory>
+fn outcomes_of(alloc: Global, table: &Table, effect: &PlainEffect) -> Result<Outcomes, NoMemory>
     requires fluent { is_effect_fluent table.now.task.now.predicates effect.now ≡ true }
     requires chooses { is_effect_within (length table.now.task.now.predicates) effect.now ≡ true }
     ensures outcomes { IfOk result (AreOutcomesOf table.now.task.now (outcome_lists effect.now)) }
@@ -68,7 +68,7 @@ fn outcomes_of(alloc: Global, table: &Table, effect: &LEffect) -> Result<Outcome
 }
 
 /// The action of a schema.
-fn act_of(alloc: Global, table: &Table, number: u32, schema: &LSchema) -> Result<Act, NoMemory>
+fn act_of(alloc: Global, table: &Table, number: u32, schema: &PlainSchema) -> Result<Act, NoMemory>
     requires fluent { is_schema_fluent table.now.task.now.predicates schema.now ≡ true }
     requires within { is_schema_within (length table.now.task.now.predicates) schema.now ≡ true }
     ensures act { IfOk result (IsActOf table.now.task.now number schema.now) }
@@ -93,7 +93,7 @@ fn put_act(
     acts: &mut Acts,
     table: &Table,
     number: u32,
-    schema: &LSchema,
+    schema: &PlainSchema,
 ) -> Result<(), NoMemory>
     requires fluent { is_schema_fluent table.now.task.now.predicates schema.now ≡ true }
     requires within { is_schema_within (length table.now.task.now.predicates) schema.now ≡ true }

@@ -6,14 +6,14 @@ ghost use Rattle.std.specs.Prelude.{◌≡◌, [], map, IfOk};
 use crate::act::acts_of;
 use crate::table::{Table, first_state, fluent_atoms};
 use crate::value::form_of;
-use fond_ast::task::LiftedTask;
+use fond_plain::task::PlainTask;
 use fond_task::task::{Labels, Task};
 use fond_text::fault::NoMemory;
 use fond_text::name::Names;
 use std::alloc::Global;
 
 /// The names of the predicates, in order.
-fn predicate_names(alloc: Global, task: &LiftedTask) -> Result<Names, NoMemory>
+fn predicate_names(alloc: Global, task: &PlainTask) -> Result<Names, NoMemory>
     ensures { IfOk result (λ names. names ≡ map (λ predicate. predicate.name) task.now.predicates) }
 {
     let mut names = Names::new(alloc);
@@ -24,7 +24,7 @@ fn predicate_names(alloc: Global, task: &LiftedTask) -> Result<Names, NoMemory>
 }
 
 /// The names of the schemas, in order.
-fn schema_names(alloc: Global, task: &LiftedTask) -> Result<Names, NoMemory>
+fn schema_names(alloc: Global, task: &PlainTask) -> Result<Names, NoMemory>
     ensures { IfOk result (λ names. names ≡ map (λ schema. schema.name) task.now.schemas) }
 {
     let mut names = Names::new(alloc);
@@ -35,7 +35,7 @@ fn schema_names(alloc: Global, task: &LiftedTask) -> Result<Names, NoMemory>
 }
 
 /// The names of a task without objects.
-fn labels_of(alloc: Global, task: &LiftedTask) -> Result<Labels, NoMemory>
+fn labels_of(alloc: Global, task: &PlainTask) -> Result<Labels, NoMemory>
     ensures { IfOk result (λ labels. (labels.predicates ≡ map (λ predicate. predicate.name) task.now.predicates)
         × (labels.schemas ≡ map (λ schema. schema.name) task.now.schemas) × (labels.objects ≡ [])) }
 {
@@ -50,7 +50,7 @@ fn labels_of(alloc: Global, task: &LiftedTask) -> Result<Labels, NoMemory>
 
 /// The ground task of a task. Takes time and memory in the sizes of the task and of the outcomes of its effects, which
 /// are copied once for each level of nesting.
-pub fn ground(alloc: Global, task: &LiftedTask) -> Result<Task, NoMemory>
+pub fn ground(alloc: Global, task: &PlainTask) -> Result<Task, NoMemory>
     ensures { IfOk result (IsGroundOf task.now) }
 {
     let table = Table::of(alloc, task)?;

@@ -1,12 +1,12 @@
 //! The atom of each predicate: its number in the ground task and its initial truth value.
 
-ghost use Rattle.fond_ast.specs.Within.{is_fluent};
+ghost use Rattle.fond_plain.specs.Within.{is_fluent};
 ghost use Rattle.fond_ground.specs.Numbers.{fluent_atoms as all_atoms, fluent_numbers, atom_number, is_initial as is_true_first};
 ghost use Rattle.fond_ground.specs.Tables.{numbered as numbered_by, counted as counted_by};
-ghost use Rattle.fond_meaning.specs.Successors.{atom_of_number};
+ghost use Rattle.fond_plain.specs.Successors.{atom_of_number};
 ghost use Rattle.std.specs.Prelude.{◌≡◌, ◌+◌, ◌<◌, ◌^◌, ◌++◌, ◌∷◌, [], ℕ, false, None, map, length, slice_index_or, if◌then◌else◌, IfOk, IfSome, IfNone, OnOk};
 
-use fond_ast::task::LiftedTask;
+use fond_plain::task::PlainTask;
 use fond_state::state::State;
 use fond_text::atom::{Atom, Atoms, Objects};
 use fond_text::fault::NoMemory;
@@ -16,7 +16,7 @@ use std::alloc::Global;
 /// fluent.
 #[derive(Drop)]
 pub(crate) struct Table<'a> {
-    pub(crate) task: &'a LiftedTask,
+    pub(crate) task: &'a PlainTask,
     numbers: Vec<Option<u32>>,
     values: Vec<bool>,
     ghost numbered: { (predicate : ℕ) → slice_index_or numbers.items predicate None ≡ atom_number task.now predicate },
@@ -25,7 +25,7 @@ pub(crate) struct Table<'a> {
 
 impl<'a> Table<'a> {
     /// The table of a task. Takes time and memory proportional to its predicates and initial atoms.
-    pub(crate) fn of(alloc: Global, task: &'a LiftedTask) -> Result<Table<'a>, NoMemory>
+    pub(crate) fn of(alloc: Global, task: &'a PlainTask) -> Result<Table<'a>, NoMemory>
         ensures { IfOk result (λ table. table.task.now ≡ task.now) }
     {
         let numbers = atom_numbers(alloc, task)?;
@@ -83,7 +83,7 @@ fn counted(fluent: bool, count: u32) -> u32
 }
 
 /// The number of the atom of each fluent predicate.
-fn atom_numbers(alloc: Global, task: &LiftedTask) -> Result<Vec<Option<u32>>, NoMemory>
+fn atom_numbers(alloc: Global, task: &PlainTask) -> Result<Vec<Option<u32>>, NoMemory>
     ensures { IfOk result (λ v. (predicate : ℕ) → slice_index_or v.items predicate None ≡ atom_number task.now predicate) }
 {
     let mut numbers = Vec::with_capacity(alloc, task.predicates.len())?;
@@ -110,7 +110,7 @@ fn put_atom(alloc: Global, atoms: &mut Atoms, predicate: u32, fluent: bool) -> R
 }
 
 /// The atoms of the fluent predicates, in order.
-pub(crate) fn fluent_atoms(alloc: Global, task: &LiftedTask) -> Result<Atoms, NoMemory>
+pub(crate) fn fluent_atoms(alloc: Global, task: &PlainTask) -> Result<Atoms, NoMemory>
     ensures named { IfOk result (λ atoms. atoms ≡ all_atoms task.now) }
     ensures few { IfOk result (λ atoms. length atoms < 2 ^ 32) }
 {
@@ -122,7 +122,7 @@ pub(crate) fn fluent_atoms(alloc: Global, task: &LiftedTask) -> Result<Atoms, No
 }
 
 /// Whether the atom of each predicate is true initially.
-fn initial_values(alloc: Global, task: &LiftedTask) -> Result<Vec<bool>, NoMemory>
+fn initial_values(alloc: Global, task: &PlainTask) -> Result<Vec<bool>, NoMemory>
     ensures { IfOk result (λ v. (predicate : ℕ) → slice_index_or v.items predicate false ≡ is_true_first task.now predicate) }
 {
     let mut values = vec![in alloc; false; task.predicates.len()]?;

@@ -10,7 +10,7 @@ ghost use Rattle.std.specs.List.{list_all};
 ghost use Rattle.std.specs.Prelude.{◌≡◌, [], ◌∷◌, ℕ, List, Bool, true, not, length, map, Option, None, replicate, IfOk};
 
 use crate::table::Table;
-use fond_ast::form::LCond;
+use fond_plain::form::PlainCond;
 use fond_task::form::{Form, Forms, Kleene};
 use fond_text::fault::NoMemory;
 use std::alloc::Global;
@@ -54,25 +54,25 @@ fn pair(alloc: Global, first: Form, second: Form) -> Result<Forms, NoMemory>
 fn signed_form(
     alloc: Global,
     table: &Table,
-    condition: &LCond,
+    condition: &PlainCond,
     sign: bool,
 ) -> Result<Form, NoMemory>
     ensures within { IfOk result (λ form. is_form_within (length (fluent_numbers table.now.task.now)) form ≡ true) }
     ensures value { IfOk result (λ form. (cube : List (Option Bool)) → value cube form ≡ signed sign (condition_value table.now.task.now cube condition.now)) }
 {
     match condition {
-        LCond::Truth => Ok(Form::Truth(sign)),
-        LCond::Holds(atom) => Ok(literal_form(table, atom.predicate, sign)),
-        LCond::And(members) => {
+        PlainCond::Truth => Ok(Form::Truth(sign)),
+        PlainCond::Holds(atom) => Ok(literal_form(table, atom.predicate, sign)),
+        PlainCond::And(members) => {
             let parts = signed_forms(alloc, table, members, sign)?;
             Ok(joined(parts, sign))
         }
-        LCond::Or(members) => {
+        PlainCond::Or(members) => {
             let parts = signed_forms(alloc, table, members, sign)?;
             Ok(joined(parts, !sign))
         }
-        LCond::Not(part) => signed_form(alloc, table, part, !sign),
-        LCond::Imply(part, other) => {
+        PlainCond::Not(part) => signed_form(alloc, table, part, !sign),
+        PlainCond::Imply(part, other) => {
             let first = signed_form(alloc, table, part, !sign)?;
             let second = signed_form(alloc, table, other, sign)?;
             Ok(joined(pair(alloc, first, second)?, !sign))
@@ -85,7 +85,7 @@ fn signed_form(
 fn signed_forms(
     alloc: Global,
     table: &Table,
-    members: &[LCond],
+    members: &[PlainCond],
     sign: bool,
 ) -> Result<Forms, NoMemory>
     ensures within { IfOk result (λ forms. list_all (is_form_within (length (fluent_numbers table.now.task.now))) forms.items ≡ true) }
@@ -100,7 +100,7 @@ fn signed_forms(
 
 /// The ground condition of a condition, in which each static atom is replaced by its initial value. Takes time and
 /// memory proportional to the size of the condition.
-pub(crate) fn form_of(alloc: Global, table: &Table, condition: &LCond) -> Result<Form, NoMemory>
+pub(crate) fn form_of(alloc: Global, table: &Table, condition: &PlainCond) -> Result<Form, NoMemory>
     ensures within { IfOk result (λ form. is_form_within (length (fluent_numbers table.now.task.now)) form ≡ true) }
     ensures value { IfOk result (λ form. (cube : List (Option Bool)) → value cube form ≡ condition_value table.now.task.now cube condition.now) }
 {
@@ -153,16 +153,16 @@ fn open_atom_value(table: &Table, predicate: u32) -> Kleene
 
 /// The value of a condition if no fluent atom is known. Takes time proportional to the size of the condition.
 #[cycle(opening)]
-fn open_value(table: &Table, condition: &LCond) -> Kleene
+fn open_value(table: &Table, condition: &PlainCond) -> Kleene
     ensures { result ≡ condition_value table.now.task.now [] condition.now }
 {
     match condition {
-        LCond::Truth => Kleene::Yes,
-        LCond::Holds(atom) => open_atom_value(table, atom.predicate),
-        LCond::And(members) => least_open_value(table, members),
-        LCond::Or(members) => greatest_open_value(table, members),
-        LCond::Not(part) => opposite(open_value(table, part)),
-        LCond::Imply(part, other) => {
+        PlainCond::Truth => Kleene::Yes,
+        PlainCond::Holds(atom) => open_atom_value(table, atom.predicate),
+        PlainCond::And(members) => least_open_value(table, members),
+        PlainCond::Or(members) => greatest_open_value(table, members),
+        PlainCond::Not(part) => opposite(open_value(table, part)),
+        PlainCond::Imply(part, other) => {
             let first = opposite(open_value(table, part));
             greater(first, open_value(table, other))
         }
@@ -171,7 +171,7 @@ fn open_value(table: &Table, condition: &LCond) -> Kleene
 
 /// The least value of these conditions if no fluent atom is known.
 #[cycle(opening)]
-fn least_open_value(table: &Table, members: &[LCond]) -> Kleene
+fn least_open_value(table: &Table, members: &[PlainCond]) -> Kleene
     ensures { result ≡ least (map (condition_value table.now.task.now []) members.now) }
 {
     let mut value = Kleene::Yes;
@@ -183,7 +183,7 @@ fn least_open_value(table: &Table, members: &[LCond]) -> Kleene
 
 /// The greatest value of these conditions if no fluent atom is known.
 #[cycle(opening)]
-fn greatest_open_value(table: &Table, members: &[LCond]) -> Kleene
+fn greatest_open_value(table: &Table, members: &[PlainCond]) -> Kleene
     ensures { result ≡ greatest (map (condition_value table.now.task.now []) members.now) }
 {
     let mut value = Kleene::No;
@@ -194,7 +194,7 @@ fn greatest_open_value(table: &Table, members: &[LCond]) -> Kleene
 }
 
 /// Whether a condition may be true: it is not surely false if no fluent atom is known.
-pub(crate) fn is_possible(table: &Table, condition: &LCond) -> bool
+pub(crate) fn is_possible(table: &Table, condition: &PlainCond) -> bool
     ensures { (count : ℕ) → result ≡ not (is_no (condition_value table.now.task.now (replicate count None) condition.now)) }
 {
     !matches!(open_value(table, condition), Kleene::No)

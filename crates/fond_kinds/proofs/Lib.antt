@@ -1,4 +1,6 @@
 pub mod Below
+pub mod Changes
+pub mod FaultAt
 pub mod Fresh
 pub mod Grow
 pub mod Growth

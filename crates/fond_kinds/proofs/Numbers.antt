@@ -1,24 +1,24 @@
 -- The tables of types: the numbers of names, first declarations and parents.
-use Rattle.std.proofs.Common.{◌≡◌, ◌≢◌, ◌⊎◌, ℕ, zero, suc, ◌+◌, ◌*◌, ◌<◌, ◌≤◌, ◌||◌, ◌&&◌, not, nat_lt, Bool, true, false, List, [], ◌∷◌, ◌++◌, Option, Some, None, is_some, length, get_or, slice_get, drop, replicate, cond, map, refl, sym, ap, ◌∙◌, subst, inl, inr, arith}
-use Rattle.std.specs.Prelude.{option_and_then, option_map, slice_index_or, slice_set, find, is_none, if◌then◌else◌}
-use Rattle.std.specs.List.{list_any, list_all, flat_map}
+use Rattle.std.proofs.Common.{◌≡◌, ◌≢◌, ◌⊎◌, ℕ, zero, suc, ◌+◌, ◌*◌, ◌<◌, ◌≤◌, ◌||◌, ◌&&◌, not, nat_lt, Bool, true, false, List, [], ◌∷◌, Option, Some, None, length, get_or, slice_get, drop, replicate, cond, map, refl, sym, ap, ◌∙◌, subst, zero-add, inl, inr, arith}
+use Rattle.std.specs.Prelude.{option_and_then, slice_index_or, slice_set, find, position, is_none, if◌then◌else◌}
+use Rattle.std.specs.List.{list_any, flat_map, position_from}
+use Rattle.std.proofs.lemmas.Iterator.Adapters.{position_from-zero}
 use Rattle.std.specs.Option.{option_or, option_map_or}
 use Rattle.std.specs.Str.{bytes_eq}
 use Rattle.std.specs.Cmp.Lexicographic.{bytes_decides}
 use Rattle.std.proofs.lemmas.Bool.{cases_eq, cases_order, lt-ltb}
 use Rattle.std.proofs.lemmas.List.{get_or-set_same, get_or-set_other, length-set, get_or_past, get_or-replicate, length-replicate}
-use Rattle.std.proofs.Math.ListN.{get_or-map, length-map}
+use Rattle.std.proofs.Math.ListN.{length-map}
 use Rattle.std.proofs.lemmas.List.Sums.{list_all-from_AllPass}
-use Rattle.std.proofs.lemmas.List.Concat.{length-flat_map}
 use Rattle.std.proofs.lemmas.Grind.{common_steps}
 use Rattle.std.proofs.lemmas.List.{at_drop_more}
 use Rattle.std.proofs.lemmas.Option.{slice_get_within, get_or_from_slice_get, slice_get-get_or}
 use Rattle.fond_ast.specs.declared.names.TypedName.{TypedName}
 use Rattle.fond_lookup.specs.Texts.{number_beside}
-use Rattle.fond_kinds.specs.Kinds.{root, only_kind, is_passed_over, type_of, parent_of}
+use Rattle.fond_kinds.specs.Kinds.{root, only_kind, is_passed_over, declares, type_of, parent_of}
 use Rattle.fond_kinds.specs.Parents.{are_within}
 use Rattle.fond_kinds.specs.Tables.{type_names, number_of, put_first, firsts_with}
-use Rattle.fond_kinds.proofs.Types.{named, number_within, same_name, known, some_is, or-true}
+use Rattle.fond_kinds.proofs.Types.{number_within, same_name, known, some_is, or-true, root_number}
 
 -- the names of a declaration among all names of types
 pub names_at : (types : List TypedName) (i : ℕ) (declared : TypedName) → slice_get types i ≡ Some declared
@@ -41,21 +41,16 @@ pub names_long : (types : List TypedName) → length (type_names types) ≡ 2 * 
 names_long [] = refl
 names_long (one ∷ types) = let later : length (type_names types) ≡ 2 * length types + 1 = names_long types in omega (arith, later)
 
--- the first declaration of a number
-abbrev pub first_at : List TypedName → List (Option ℕ) → ℕ → Option TypedName
-first_at types firsts number = option_and_then (λ at. slice_get types at) (slice_index_or firsts number None)
+-- the first index of a declaration of a type, among those from an index on
+abbrev pub first_from : List TypedName → ℕ → List ℕ → Option ℕ
+first_from types i name = position_from (declares name) i (drop i types)
 
--- the test of the first declarations of a type
-abbrev pub declares : List ℕ → TypedName → Bool
-declares name declared = bytes_eq declared.name name && not (is_passed_over declared)
-
--- the first declarations before an index, together with the rest, give the first declaration of each type
+-- the indexes of the first declarations before an index, together with the rest, are those of all
 pub record AreFirsts (types : List TypedName) (firsts : List (Option ℕ)) (i : ℕ) : Type 0 where
   pub over : length firsts ≡ length (type_names types)
-  pub within : (number at : ℕ) → slice_index_or firsts number None ≡ Some at → at < length types
-  pub whole : (name : List ℕ) (number : ℕ) → number_of types name ≡ Some number → option_or (first_at types firsts number) (find (declares name) (drop i types)) ≡ type_of types name
+  pub whole : (name : List ℕ) (number : ℕ) → number_of types name ≡ Some number → option_or (slice_index_or firsts number None) (first_from types i name) ≡ first_from types 0 name
 
-drop_at : {X : Type 0} (xs : List X) (i : ℕ) (x : X) → slice_get xs i ≡ Some x → drop i xs ≡ x ∷ drop (i + 1) xs
+pub drop_at : {X : Type 0} (xs : List X) (i : ℕ) (x : X) → slice_get xs i ≡ Some x → drop i xs ≡ x ∷ drop (i + 1) xs
 drop_at xs i x at = at_drop_more (λ rest. rest) xs i x (slice_get_within xs i x at) ∙ ap (λ y. y ∷ drop (i + 1) xs) (get_or_from_slice_get xs i x x at)
 
 bool_cases : (b : Bool) → (b ≡ true) ⊎ (b ≡ false)
@@ -67,13 +62,6 @@ none_or_some None = inl refl
 none_or_some (Some x) = inr (x, refl)
 
 module _ (types : List TypedName) (numbers : List (List ℕ × ℕ)) (numbered : (name : List ℕ) → number_beside numbers name ≡ number_of types name) where
-  -- a declaration that declares nothing changes no first declaration
-  passes : (name : List ℕ) (declared : TypedName) (rest : List TypedName) → declares name declared ≡ false → find (declares name) (declared ∷ rest) ≡ find (declares name) rest
-  passes name declared rest off = ap (λ b. cond b (Some declared) (find (declares name) rest)) off
-
-  takes : (name : List ℕ) (declared : TypedName) (rest : List TypedName) → declares name declared ≡ true → find (declares name) (declared ∷ rest) ≡ Some declared
-  takes name declared rest on = ap (λ b. cond b (Some declared) (find (declares name) rest)) on
-
   and-false : (b : Bool) → (b && false) ≡ false
   and-false true = refl
   and-false false = refl
@@ -83,16 +71,21 @@ module _ (types : List TypedName) (numbers : List (List ℕ × ℕ)) (numbered :
   and-true false = refl
 
   module _ (firsts : List (Option ℕ)) (i : ℕ) (declared : TypedName) (is : slice_get types i ≡ Some declared) (are : AreFirsts types firsts i) where
-    rest_is : (name : List ℕ) → find (declares name) (drop i types) ≡ find (declares name) (declared ∷ drop (i + 1) types)
-    rest_is name = ap (find (declares name)) (drop_at types i declared is)
+    rest_is : (name : List ℕ) → first_from types i name ≡ cond (declares name declared) (Some i) (first_from types (i + 1) name)
+    rest_is name = ap (position_from (declares name) i) (drop_at types i declared is)
+
+    passes : (name : List ℕ) → declares name declared ≡ false → first_from types i name ≡ first_from types (i + 1) name
+    passes name off = rest_is name ∙ ap (λ b. cond b (Some i) (first_from types (i + 1) name)) off
+
+    takes : (name : List ℕ) → declares name declared ≡ true → first_from types i name ≡ Some i
+    takes name on = rest_is name ∙ ap (λ b. cond b (Some i) (first_from types (i + 1) name)) on
 
     passed : is_passed_over declared ≡ true → AreFirsts types firsts (i + 1)
     passed over = record {
       over = are.over;
-      within = are.within;
       whole = λ name number known.
-        let off : declares name declared ≡ false = ap (λ b. bytes_eq declared.name name && not b) over ∙ and-false (bytes_eq declared.name name) in
-        ap (λ o. option_or (first_at types firsts number) o) (sym (rest_is name ∙ passes name declared (drop (i + 1) types) off)) ∙ are.whole name number known;
+          let off : declares name declared ≡ false = ap (λ b. bytes_eq declared.name name && not b) over ∙ and-false (bytes_eq declared.name name) in
+          ap (λ o. option_or (slice_index_or firsts number None) o) (sym (passes name off)) ∙ are.whole name number known;
     }
 
     module _ (on : is_passed_over declared ≡ false) (number : ℕ) (known : number_of types declared.name ≡ Some number) where
@@ -101,24 +94,22 @@ module _ (types : List TypedName) (numbers : List (List ℕ × ℕ)) (numbered :
 
       others : (name : List ℕ) (other : ℕ) → number_of types name ≡ Some other → other ≢ number → declares name declared ≡ false
       others name other other_known differ = elim (bool_cases (bytes_eq declared.name name)) [
-          | inl same ↦
-              let equal : declared.name ≡ name = (bytes_decides declared.name name).0 same in
-              let clash : Some other ≡ Some number = sym other_known ∙ ap (number_of types) (sym equal) ∙ known in
-              let is_same : other ≡ number = cc in absurd (differ is_same)
-          | inr off ↦ ap (λ b. b && not (is_passed_over declared)) off
-        ]
+        | inl same ↦
+            let equal : declared.name ≡ name = (bytes_decides declared.name name).0 same in
+            let clash : Some other ≡ Some number = sym other_known ∙ ap (number_of types) (sym equal) ∙ known in
+            let is_same : other ≡ number = cc in absurd (differ is_same)
+        | inr off ↦ ap (λ b. b && not (is_passed_over declared)) off
+      ]
 
       -- an earlier declaration stays the first
       kept : (at : ℕ) → slice_index_or firsts number None ≡ Some at → AreFirsts types firsts (i + 1)
       kept at there = record {
         over = are.over;
-        within = are.within;
         whole = λ name other other_known. elim (cases_eq other number) [
           | inl same ↦
-              let first : first_at types firsts other ≡ slice_get types at = ap (λ n. first_at types firsts n) same ∙ ap (λ o. option_and_then (λ k. slice_get types k) o) there in
-              let found : slice_get types at ≡ Some (get_or types at declared) = slice_get-get_or types at declared (are.within number at there) in
-              ap (λ o. option_or o (find (declares name) (drop (i + 1) types))) (first ∙ found) ∙ sym (ap (λ o. option_or o (find (declares name) (drop i types))) (first ∙ found)) ∙ are.whole name other other_known
-          | inr differ ↦ ap (λ o. option_or (first_at types firsts other) o) (sym (rest_is name ∙ passes name declared (drop (i + 1) types) (others name other other_known differ))) ∙ are.whole name other other_known
+              let first : slice_index_or firsts other None ≡ Some at = ap (λ n. slice_index_or firsts n None) same ∙ there in
+              ap (λ o. option_or o (first_from types (i + 1) name)) first ∙ sym (ap (λ o. option_or o (first_from types i name)) first) ∙ are.whole name other other_known
+          | inr differ ↦ ap (λ o. option_or (slice_index_or firsts other None) o) (sym (passes name (others name other other_known differ))) ∙ are.whole name other other_known
         ];
       }
 
@@ -126,24 +117,16 @@ module _ (types : List TypedName) (numbers : List (List ℕ × ℕ)) (numbered :
       put : slice_index_or firsts number None ≡ None → AreFirsts types (slice_set firsts number (Some i)) (i + 1)
       put none = record {
         over = length-set firsts number (Some i) ∙ are.over;
-        within = λ other at there. elim (cases_eq other number) [
-          | inl same ↦
-              let new : Some i ≡ Some at = sym (get_or-set_same firsts number (Some i) None inside) ∙ ap (λ n. slice_index_or (slice_set firsts number (Some i)) n None) (sym same) ∙ there in
-              let equal : i ≡ at = cc in subst (λ z. z < length types) equal (slice_get_within types i declared is)
-          | inr differ ↦ are.within other at (sym (get_or-set_other firsts number other (Some i) None differ) ∙ there)
-        ];
         whole = λ name other other_known. elim (cases_eq other number) [
           | inl same ↦
-              let first : first_at types (slice_set firsts number (Some i)) other ≡ Some declared =
-                ap (λ n. first_at types (slice_set firsts number (Some i)) n) same ∙ ap (λ o. option_and_then (λ k. slice_get types k) o) (get_or-set_same firsts number (Some i) None inside) ∙ is in
+              let first : slice_index_or (slice_set firsts number (Some i)) other None ≡ Some i = ap (λ n. slice_index_or (slice_set firsts number (Some i)) n None) same ∙ get_or-set_same firsts number (Some i) None inside in
               let equal : name ≡ declared.name = same_name types name declared.name number (other_known ∙ ap (λ n. Some n) same) known in
-              let before : find (declares name) (drop i types) ≡ Some declared = rest_is name ∙ takes name declared (drop (i + 1) types) (subst (λ z. declares z declared ≡ true) (sym equal) its) in
-              let empty : first_at types firsts other ≡ None = ap (λ n. first_at types firsts n) same ∙ ap (λ o. option_and_then (λ k. slice_get types k) o) none in
-              ap (λ o. option_or o (find (declares name) (drop (i + 1) types))) first ∙ sym before ∙ sym (ap (λ o. option_or o (find (declares name) (drop i types))) empty) ∙ are.whole name other other_known
+              let before : first_from types i name ≡ Some i = takes name (subst (λ z. declares z declared ≡ true) (sym equal) its) in
+              let empty : slice_index_or firsts other None ≡ None = ap (λ n. slice_index_or firsts n None) same ∙ none in
+              ap (λ o. option_or o (first_from types (i + 1) name)) first ∙ sym before ∙ sym (ap (λ o. option_or o (first_from types i name)) empty) ∙ are.whole name other other_known
           | inr differ ↦
-              let first : first_at types (slice_set firsts number (Some i)) other ≡ first_at types firsts other = ap (λ o. option_and_then (λ k. slice_get types k) o) (get_or-set_other firsts number other (Some i) None differ) in
-              ap (λ o. option_or o (find (declares name) (drop (i + 1) types))) first
-              ∙ ap (λ o. option_or (first_at types firsts other) o) (sym (rest_is name ∙ passes name declared (drop (i + 1) types) (others name other other_known differ))) ∙ are.whole name other other_known
+              ap (λ o. option_or o (first_from types (i + 1) name)) (get_or-set_other firsts number other (Some i) None differ)
+              ∙ ap (λ o. option_or (slice_index_or firsts other None) o) (sym (passes name (others name other other_known differ))) ∙ are.whole name other other_known
         ];
       }
         where
@@ -151,7 +134,7 @@ module _ (types : List TypedName) (numbers : List (List ℕ × ℕ)) (numbered :
           inside = let low : number < length (type_names types) = number_within types declared.name number known in let same : length firsts ≡ length (type_names types) = are.over in omega arith
 
 -- some item passes a test that an item passes
-any_at : {X : Type 0} (p : X → Bool) (xs : List X) (i : ℕ) (x : X) → slice_get xs i ≡ Some x → p x ≡ true → list_any p xs ≡ true
+pub any_at : {X : Type 0} (p : X → Bool) (xs : List X) (i : ℕ) (x : X) → slice_get xs i ≡ Some x → p x ≡ true → list_any p xs ≡ true
 any_at p [] i x is pass = cc
 any_at p (y ∷ ys) zero x is pass = let same : y ≡ x = cc in ap (λ b. b || list_any p ys) (ap p same ∙ pass)
 any_at p (y ∷ ys) (suc i) x is pass = ap (λ b. p y || b) (any_at p ys i x is pass) ∙ or-true (p y)
@@ -191,9 +174,9 @@ no_index = None
 -- before any declaration there is none
 nothing : (n number : ℕ) → slice_index_or (replicate n (no_index)) number None ≡ no_index
 nothing n number = elim (cases_order number n) [
-    | inl same ↦ past (omega arith)
-    | inr rest ↦ elim rest [ inl low ↦ get_or-replicate n number no_index None low | inr late ↦ past (omega arith) ]
-  ]
+  | inl same ↦ past (omega arith)
+  | inr rest ↦ elim rest [ inl low ↦ get_or-replicate n number no_index None low | inr late ↦ past (omega arith) ]
+]
   where
     past : n ≤ number → slice_index_or (replicate n no_index) number None ≡ no_index
     past late = let long : length (replicate n no_index) ≤ number = rw length-replicate late in get_or_past (replicate n no_index) number None long
@@ -201,40 +184,62 @@ nothing n number = elim (cases_order number n) [
 pub firsts_none : (types : List TypedName) (firsts : List (Option ℕ)) → firsts ≡ replicate (2 * length types + 1) None → AreFirsts types firsts 0
 firsts_none types firsts empty = record {
   over = ap length empty ∙ length-replicate (2 * length types + 1) None ∙ sym (names_long types);
-  within = λ number at there. let clash : None ≡ Some at = sym (ap (λ z. slice_index_or z number None) empty ∙ nothing (2 * length types + 1) number) ∙ there in cc;
-  whole = λ name number known. ap (λ o. option_or (option_and_then (λ k. slice_get types k) o) (find (declares name) types)) (ap (λ z. slice_index_or z number None) empty ∙ nothing (2 * length types + 1) number);
+  whole = λ name number known. ap (λ o. option_or o (first_from types 0 name)) (ap (λ z. slice_index_or z number None) empty ∙ nothing (2 * length types + 1) number);
 }
 
 -- after the last declaration each type has its first one
-pub firsts_all : (types : List TypedName) (firsts : List (Option ℕ)) (i : ℕ) → length types ≤ i → AreFirsts types firsts i → (name : List ℕ) (number : ℕ) → number_of types name ≡ Some number → first_at types firsts number ≡ type_of types name
+pub firsts_all : (types : List TypedName) (firsts : List (Option ℕ)) (i : ℕ) → length types ≤ i → AreFirsts types firsts i → (name : List ℕ) (number : ℕ) → number_of types name ≡ Some number → slice_index_or firsts number None ≡ position (declares name) types
 firsts_all types firsts i end are name number known =
     let none : drop i types ≡ [] = grind (arith, common_steps) in
-    sym (or_none (first_at types firsts number)) ∙ sym (ap (λ rest. option_or (first_at types firsts number) (find (declares name) rest)) none) ∙ are.whole name number known
+    sym (or_nothing (slice_index_or firsts number None)) ∙ sym (ap (λ rest. option_or (slice_index_or firsts number None) (position_from (declares name) i rest)) none) ∙ are.whole name number known
+    ∙ sym (position_from-zero (declares name) types)
   where
-    or_none : (first : Option TypedName) → option_or first None ≡ first
-    or_none None = refl
-    or_none (Some declared) = refl
+    or_nothing : (first : Option ℕ) → option_or first None ≡ first
+    or_nothing None = refl
+    or_nothing (Some declared) = refl
+
+-- what is found is at the first index
+module _ {X : Type 0} (p : X → Bool) (all : List X) where
+  found_from : (xs : List X) (i : ℕ) → ((k : ℕ) → slice_get all (i + k) ≡ slice_get xs k) → option_and_then (λ k. slice_get all k) (position_from p i xs) ≡ find p xs
+  found_from [] i at = refl
+  found_from (x ∷ xs) i at =
+      let first : slice_get all i ≡ Some x = ap (slice_get all) (omega arith) ∙ at zero in
+      by x xs i first (p x) (found_from xs (i + 1) (λ k. ap (slice_get all) (omega arith) ∙ at (suc k)))
+    where
+      by : (x : X) (xs : List X) (i : ℕ) → slice_get all i ≡ Some x → (b : Bool) → option_and_then (λ k. slice_get all k) (position_from p (i + 1) xs) ≡ find p xs
+          → option_and_then (λ k. slice_get all k) (cond b (Some i) (position_from p (i + 1) xs)) ≡ cond b (Some x) (find p xs)
+      by x xs i first true later = first
+      by x xs i first false later = later
+
+  pub find_at : option_and_then (λ k. slice_get all k) (position p all) ≡ find p all
+  find_at = ap (λ o. option_and_then (λ k. slice_get all k) o) (position_from-zero p all) ∙ found_from all 0 (λ k. ap (slice_get all) (zero-add k))
 
 -- the number of the parent in a first declaration
 abbrev pub parent_number : List TypedName → List (List ℕ × ℕ) → Option ℕ → Option ℕ
-parent_number types numbers first = option_and_then (λ declared. number_beside numbers (only_kind declared)) (option_and_then (λ at. slice_get types at) first)
+parent_number types numbers first = option_map_or (λ declared. number_beside numbers (only_kind declared)) (option_and_then (λ at. slice_get types at) first) (Some 0)
 
 -- the parents by number are the numbers of the parents
 pub parents_ascend : (types : List TypedName) (numbers : List (List ℕ × ℕ)) (firsts : List (Option ℕ)) → ((name : List ℕ) → number_beside numbers name ≡ number_of types name)
-    → ((name : List ℕ) (number : ℕ) → number_of types name ≡ Some number → first_at types firsts number ≡ type_of types name)
-    → (name : List ℕ) (number : ℕ) → number_of types name ≡ Some number → parent_number types numbers (slice_index_or firsts number None) ≡ option_and_then (number_of types) (parent_of types name)
+    → ((name : List ℕ) (number : ℕ) → number_of types name ≡ Some number → slice_index_or firsts number None ≡ position (declares name) types)
+    → (name : List ℕ) (number : ℕ) → number_of types name ≡ Some number → parent_number types numbers (slice_index_or firsts number None) ≡ number_of types (parent_of types name)
 parents_ascend types numbers firsts numbered declared name number known =
-    ap (λ o. option_and_then (λ one. number_beside numbers (only_kind one)) o) (declared name number known) ∙ by (type_of types name)
+    ap (λ o. option_map_or (λ one. number_beside numbers (only_kind one)) o (Some 0)) (ap (λ o. option_and_then (λ at. slice_get types at) o) (declared name number known) ∙ find_at (declares name) types) ∙ by (type_of types name)
   where
-    by : (o : Option TypedName) → option_and_then (λ one. number_beside numbers (only_kind one)) o ≡ option_and_then (number_of types) (option_map only_kind o)
-    by None = refl
+    by : (o : Option TypedName) → option_map_or (λ one. number_beside numbers (only_kind one)) o (Some 0) ≡ number_of types (option_map_or only_kind o root)
+    by None = sym (root_number types)
     by (Some one) = numbered (only_kind one)
 
 -- the number of a parent is one of the numbers of types
 parent_low : (types : List TypedName) (numbers : List (List ℕ × ℕ)) → ((name : List ℕ) → number_beside numbers name ≡ number_of types name) → (o : Option TypedName) (m : ℕ)
-    → option_and_then (λ one. number_beside numbers (only_kind one)) o ≡ Some m → m < length (type_names types)
-parent_low types numbers numbered None m off = cc
+    → option_map_or (λ one. number_beside numbers (only_kind one)) o (Some 0) ≡ Some m → m < length (type_names types)
+parent_low types numbers numbered None m is = number_within types root m (root_number types ∙ is)
 parent_low types numbers numbered (Some one) m is = number_within types (only_kind one) m (sym (numbered (only_kind one)) ∙ is)
+
+-- what is mapped at an index of a list
+pub map_at : {A B : Type 0} (of : A → B) (xs : List A) (k : ℕ) (d : B) (e : A) → k < length xs → get_or (map of xs) k d ≡ of (get_or xs k e)
+map_at of [] k d e low = absurd (omega arith)
+map_at of (x ∷ xs) zero d e low = refl
+map_at of (x ∷ xs) (suc k) d e low = map_at of xs k d e (omega arith)
 
 -- each parent is one of the numbers
 pub parents_within : (types : List TypedName) (numbers : List (List ℕ × ℕ)) (firsts : List (Option ℕ)) → ((name : List ℕ) → number_beside numbers name ≡ number_of types name) → length firsts ≡ length (type_names types)
@@ -245,7 +250,9 @@ parents_within types numbers firsts numbered long parents all = list_all-from_Al
     by k d within None is = refl
     by k d within (Some m) is =
         let same : get_or parents k None ≡ get_or parents k d = get_or_from_slice_get parents k (get_or parents k d) None (slice_get-get_or parents k d within) in
-        let its : parent_number types numbers (get_or firsts k None) ≡ Some m = sym (get_or-map (parent_number types numbers) firsts k None) ∙ ap (λ z. get_or z k None) (sym all) ∙ same ∙ is in
+        let same_long : length parents ≡ length firsts = ap length all ∙ rw length-map refl in
+        let inside : k < length firsts = omega arith in
+        let its : parent_number types numbers (get_or firsts k None) ≡ Some m = sym (map_at (parent_number types numbers) firsts k None None inside) ∙ ap (λ z. get_or z k None) (sym all) ∙ same ∙ is in
         let low : m < length (type_names types) = parent_low types numbers numbered (option_and_then (λ at. slice_get types at) (get_or firsts k None)) m its in
         let count : length parents ≡ length firsts = ap length all ∙ rw length-map refl in
         lt-ltb m (length parents) (omega arith)

@@ -1,9 +1,9 @@
 //! What is above a number among numbers with parents, which may form cycles.
 
 ghost use Rattle.fond_kinds.specs.Forests.{IsWhole};
-ghost use Rattle.fond_kinds.specs.Parents.{IsBelow, are_within};
+ghost use Rattle.fond_kinds.specs.Parents.{IsBelow, are_within, parent_of};
 ghost use Rattle.std.specs.Bool.{Decides};
-ghost use Rattle.std.specs.Prelude.{◌≡◌, ◌<◌, ◌^◌, true, length, IfOk};
+ghost use Rattle.std.specs.Prelude.{◌≡◌, ◌<◌, ◌^◌, true, length, IfOk, IfSome};
 
 use crate::grower::grown;
 use crate::links::{Links, parent_at};
@@ -54,5 +54,13 @@ impl Ancestry {
             None => false,
             Some(lost) => self.links.is_under(lost, above),
         }
+    }
+
+    /// The parent of a number, if it has one.
+    pub(crate) fn parent(&self, number: u32) -> Option<u32>
+        ensures parent { result ≡ parent_of self.now number }
+        ensures within { IfSome result (λ parent. parent < length self.now) }
+    {
+        parent_at(&self.parents, number)
     }
 }

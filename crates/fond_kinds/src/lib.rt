@@ -3,6 +3,7 @@
 #![tactic(auto)]
 
 mod ancestry;
+pub mod fault;
 mod grower;
 mod links;
 pub mod table;

@@ -1,16 +1,17 @@
 //! Declared types by their numbers.
 
-ghost use Rattle.fond_kinds.specs.Kinds.{is_passed_over, is_type, only_kind as only_kind_of, parent_of as parent_of_type, type_of, IsSubtype};
+ghost use Rattle.fond_kinds.specs.Kinds.{declares, IsAncestor, is_passed_over, is_type, only_kind as only_kind_of, parent_of as parent_of_type, IsSubtype};
 ghost use Rattle.fond_kinds.specs.Parents.{are_within, parent_of};
 ghost use Rattle.fond_kinds.specs.Tables.{IsNumber, firsts_with, number_of, type_names};
 ghost use Rattle.fond_lookup.specs.Texts.{number_beside, with_text};
 ghost use Rattle.fond_text.specs.declared.code.TheConstants.{LONGEST_TEXT};
 ghost use Rattle.std.specs.Bool.{Decides};
 ghost use Rattle.std.specs.List.{list_all};
-ghost use Rattle.std.specs.Option.{is_some};
-ghost use Rattle.std.specs.Prelude.{◌≡◌, ◌<◌, ◌≤◌, ◌^◌, ℕ, List, IsTrue, Some, None, true, length, option_and_then, replicate, slice_get, slice_index_or, vec_len, IfOk, OnOk};
+ghost use Rattle.std.specs.Option.{is_some, option_map_or};
+ghost use Rattle.std.specs.Prelude.{◌≡◌, ◌<◌, ◌≤◌, ◌^◌, ℕ, List, IsTrue, Some, None, true, length, option_and_then, position, replicate, slice_get, slice_index_or, vec_len, IfOk, OnOk};
 
 use crate::ancestry::Ancestry;
+use crate::links::parent_at;
 use fond_ast::names::{TypedName, TypedNames};
 use fond_lookup::text_index::TextIndex;
 use fond_text::fault::NoMemory;
@@ -25,9 +26,9 @@ pub struct TypeTable<'a> {
     ancestry: Ancestry,
     ghost numbered: { (name : List ℕ) → number_beside numbers name ≡ number_of types.now name },
     pub(crate) ghost declared: { (name : List ℕ) (number : ℕ) → number_of types.now name ≡ Some number
-        → option_and_then (λ at. slice_get types.now at) (slice_index_or firsts.items number None) ≡ type_of types.now name },
+        → slice_index_or firsts.items number None ≡ position (declares name) types.now },
     ghost ascends: { (name : List ℕ) (number : ℕ) → number_of types.now name ≡ Some number
-        → parent_of ancestry number ≡ option_and_then (number_of types.now) (parent_of_type types.now name) },
+        → parent_of ancestry number ≡ number_of types.now (parent_of_type types.now name) },
     ghost over: { length ancestry ≡ length (type_names types.now) },
 }
 
@@ -90,15 +91,13 @@ fn put_first(firsts: &mut Vec<Option<u32>>, numbers: &TextIndex, declared: &Type
     }
 }
 
-/// The number of the parent in the declaration at an index, if there is one.
+/// The number of the parent in the declaration at an index, or that of `object` if there is none.
 fn parent_number(types: &TypedNames, numbers: &TextIndex, first: Option<u32>) -> Option<u32>
-    ensures { result ≡ option_and_then (λ declared. number_beside numbers.now (only_kind_of declared)) (option_and_then (λ at. slice_get types.now at) first) }
+    ensures { result ≡ option_map_or (λ declared. number_beside numbers.now (only_kind_of declared)) (option_and_then (λ at. slice_get types.now at) first) (Some 0) }
 {
-    let at = first? as usize;
-    if at < types.len() {
-        numbers.find(only_kind(types.get(at)))
-    } else {
-        None
+    match first {
+        Some(at) if (at as usize) < types.len() => numbers.find(only_kind(types.get(at as usize))),
+        _ => Some(0),
     }
 }
 
@@ -118,7 +117,7 @@ fn firsts_of(
     requires few { length types.now ≤ LONGEST_TEXT }
     requires numbered { (name : List ℕ) → number_beside numbers.now name ≡ number_of types.now name }
     ensures declared { IfOk result (λ firsts. (name : List ℕ) (number : ℕ) → number_of types.now name ≡ Some number
-        → option_and_then (λ at. slice_get types.now at) (slice_index_or firsts.items number None) ≡ type_of types.now name) }
+        → slice_index_or firsts.items number None ≡ position (declares name) types.now) }
     ensures over { IfOk result (λ firsts. length firsts.items ≡ length (type_names types.now)) }
 {
     let mut firsts = nothing(alloc, 2 * types.len() + 1)?;
@@ -137,11 +136,12 @@ fn parents_of(
 ) -> Result<Vec<Option<u32>>, NoMemory>
     requires numbered { (name : List ℕ) → number_beside numbers.now name ≡ number_of types.now name }
     requires declared { (name : List ℕ) (number : ℕ) → number_of types.now name ≡ Some number
-        → option_and_then (λ at. slice_get types.now at) (slice_index_or firsts.now number None) ≡ type_of types.now name }
+        → slice_index_or firsts.now number None ≡ position (declares name) types.now }
+    requires over { length firsts.now ≡ length (type_names types.now) }
     ensures ascends { IfOk result (λ parents. (name : List ℕ) (number : ℕ) → number_of types.now name ≡ Some number
-        → parent_of parents.items number ≡ option_and_then (number_of types.now) (parent_of_type types.now name)) }
+        → parent_of parents.items number ≡ number_of types.now (parent_of_type types.now name)) }
     ensures over { IfOk result (λ parents. length parents.items ≡ length firsts.now) }
-    ensures within { IfOk result (λ parents. length firsts.now ≡ length (type_names types.now) → are_within parents.items ≡ true) }
+    ensures within { IfOk result (λ parents. are_within parents.items ≡ true) }
 {
     let mut parents = Vec::with_capacity(alloc, firsts.len())?;
     for first in firsts {
@@ -185,5 +185,30 @@ impl<'a> TypeTable<'a> {
             → Decides result (IsSubtype self.now.types.now name above) }
     {
         other == 0 || self.ancestry.is_below(number, other)
+    }
+
+    /// The index of the first declaration of a type.
+    pub(crate) fn first(&self, name: &[u8]) -> Option<u32>
+        requires { (number : ℕ) × (number_of self.now.types.now name.now ≡ Some number) }
+        ensures { result ≡ position (declares name.now) self.now.types.now }
+    {
+        match self.numbers.find(name) {
+            Some(number) => parent_at(&self.firsts, number),
+            None => unreachable!(),
+        }
+    }
+
+    /// Whether a type is its own ancestor.
+    pub(crate) fn is_own_ancestor(&self, name: &[u8]) -> bool
+        requires { (number : ℕ) × (number_of self.now.types.now name.now ≡ Some number) }
+        ensures { Decides result (IsAncestor self.now.types.now name.now name.now) }
+    {
+        match self.numbers.find(name) {
+            Some(number) => match self.ancestry.parent(number) {
+                Some(parent) => self.ancestry.is_below(parent, number),
+                None => false,
+            },
+            None => unreachable!(),
+        }
     }
 }

@@ -10,15 +10,15 @@ use Rattle.std.proofs.lemmas.List.Folds.{flat_map-map}
 use Rattle.std.proofs.lemmas.List.FromFn.{get_or-map-range_with_len, length-map-range_with_len}
 use Rattle.std.proofs.lemmas.Bool.Decides.{nat_tests}
 use Rattle.indexmap.specs.IndexSet.{insert_key}
-use Rattle.fond_ast.specs.Within.{is_atom_within}
-use Rattle.fond_ast.specs.declared.task.LPredicate.{LPredicate}
-use Rattle.fond_ast.specs.declared.task.LSchema.{LSchema}
-use Rattle.fond_ast.specs.declared.task.LiftedTask.{LiftedTask}
+use Rattle.fond_plain.specs.Within.{is_atom_within}
+use Rattle.fond_plain.specs.declared.task.PlainPredicate.{PlainPredicate}
+use Rattle.fond_plain.specs.declared.task.PlainSchema.{PlainSchema}
+use Rattle.fond_plain.specs.declared.task.PlainTask.{PlainTask}
 use Rattle.fond_text.specs.declared.atom.Atom.{Atom}
-use Rattle.fond_meaning.specs.States.{State, is_atom, atoms_of}
-use Rattle.fond_meaning.specs.Effects.{after}
-use Rattle.fond_meaning.specs.Choices.{choices}
-use Rattle.fond_meaning.specs.Successors.{initial, atom_of_number, is_same_state, successors}
+use Rattle.fond_plain.specs.States.{State, is_atom, atoms_of}
+use Rattle.fond_plain.specs.Effects.{after}
+use Rattle.fond_plain.specs.Choices.{choices}
+use Rattle.fond_plain.specs.Successors.{initial, atom_of_number, is_same_state, successors}
 use Rattle.fond_text.specs.Bools.{is_same}
 use Rattle.fond_oneof.specs.declared.outcome.Literal.{Literal}
 use Rattle.fond_oneof.specs.Changes.{change_of}
@@ -76,7 +76,7 @@ initial-at atoms count number (object ∷ objects) within =
     ap (λ b. b && get_or (values_of count (atoms_of atoms)) number false) some ∙ sym (none_with_objects atoms count number object objects within)
 initial-at atoms count number [] within = initial-by atoms count number within (nat_lt number count) refl
 
-pub state-initial : (task : LiftedTask) → state_of (values_of (length task.predicates) (initial task)) ≡ initial task
+pub state-initial : (task : PlainTask) → state_of (values_of (length task.predicates) (initial task)) ≡ initial task
 state-initial task = λ i atom. initial-at task.init (length task.predicates) atom.predicate atom.objects task.init_within i
 
 -- distinct values are those of distinct states
@@ -86,11 +86,11 @@ same-beq true false = refl
 same-beq false true = refl
 same-beq false false = refl
 
-same-values : (items : List LPredicate) (from : ℕ) (s t : ℕ → Bool) → pointwise beq (map s (range_with_len from (length items))) (map t (range_with_len from (length items))) ≡ list_all (λ item. is_same (s item.0) (t item.0)) (enumerate_from from items)
+same-values : (items : List PlainPredicate) (from : ℕ) (s t : ℕ → Bool) → pointwise beq (map s (range_with_len from (length items))) (map t (range_with_len from (length items))) ≡ list_all (λ item. is_same (s item.0) (t item.0)) (enumerate_from from items)
 same-values [] from s t = refl
 same-values (item ∷ items) from s t = λ i. same-beq (s from) (t from) i && same-values items (from + 1) s t i
 
-same-state : (predicates : List LPredicate) (s t : State) → pointwise beq (values_of (length predicates) s) (values_of (length predicates) t) ≡ is_same_state predicates s t
+same-state : (predicates : List PlainPredicate) (s t : State) → pointwise beq (values_of (length predicates) s) (values_of (length predicates) t) ≡ is_same_state predicates s t
 same-state predicates s t = same-values predicates 0 (λ k. s (atom_of_number k)) (λ k. t (atom_of_number k))
 
 any-map : {X Y : Type 0} (p : Y → Bool) (f : X → Y) (xs : List X) → list_any p (map f xs) ≡ list_any (λ x. p (f x)) xs
@@ -101,32 +101,32 @@ added : {X Y : Type 0} (f : X → Y) (b : Bool) (xs : List X) (x : X) → (if b 
 added f true xs x = refl
 added f false xs x = sym (map-append f xs (x ∷ []))
 
-add-values : (predicates : List LPredicate) (seen : List State) (s : State) → add_values (map (values_of (length predicates)) seen) (values_of (length predicates) s)
+add-values : (predicates : List PlainPredicate) (seen : List State) (s : State) → add_values (map (values_of (length predicates)) seen) (values_of (length predicates) s)
     ≡ map (values_of (length predicates)) (if list_any (is_same_state predicates s) seen then seen else seen ++ s ∷ [])
 add-values predicates seen s =
     let V = values_of (length predicates) in
     let test = any-map (pointwise beq (V s)) V seen ∙ (λ i. list_any (λ t. same-state predicates s t i) seen) in
     ap (λ b. if b then map V seen else map V seen ++ V s ∷ []) test ∙ added V (list_any (is_same_state predicates s) seen) seen s
 
-fold-once : (predicates : List LPredicate) (states seen : List State) → fold add_values (map (values_of (length predicates)) seen) (map (values_of (length predicates)) states)
+fold-once : (predicates : List PlainPredicate) (states seen : List State) → fold add_values (map (values_of (length predicates)) seen) (map (values_of (length predicates)) states)
     ≡ map (values_of (length predicates)) (fold (λ before state. if list_any (is_same_state predicates state) before then before else before ++ state ∷ []) seen states)
 fold-once predicates [] seen = refl
 fold-once predicates (s ∷ states) seen =
     ap (λ w. fold add_values w (map (values_of (length predicates)) states)) (add-values predicates seen s) ∙ fold-once predicates states (if list_any (is_same_state predicates s) seen then seen else seen ++ s ∷ [])
 
 -- the text of a state by its values
-text-values : (items : List LPredicate) (from : ℕ) (s t : State) → ((k : ℕ) → from ≤ k → k < from + length items → s (atom_of_number k) ≡ t (atom_of_number k))
+text-values : (items : List PlainPredicate) (from : ℕ) (s t : State) → ((k : ℕ) → from ≤ k → k < from + length items → s (atom_of_number k) ≡ t (atom_of_number k))
     → flat_map (λ item. if item.1.fluent && s (atom_of_number item.0) then atom_line item.1 else []) (enumerate_from from items)
     ≡ flat_map (λ item. if item.1.fluent && t (atom_of_number item.0) then atom_line item.1 else []) (enumerate_from from items)
 text-values [] from s t h = refl
 text-values (item ∷ items) from s t h =
     λ i. (if item.fluent && h from (omega arith) (omega arith) i then atom_line item else []) ++ text-values items (from + 1) s t (λ k le lt. h k (omega arith) (omega arith)) i
 
-state-text : (predicates : List LPredicate) (s : State) → state_text predicates (state_of (values_of (length predicates) s)) ≡ state_text predicates s
+state-text : (predicates : List PlainPredicate) (s : State) → state_text predicates (state_of (values_of (length predicates) s)) ≡ state_text predicates s
 state-text predicates s = ap (λ w. codes "state\n" ++ w) (text-values predicates 0 (state_of (values_of (length predicates) s)) s (λ k le lt. values-at (length predicates) s k (omega arith)))
 
 -- the values that are kept of the outcomes are printed as the successors
-pub successors-told : (task : LiftedTask) (schema : LSchema) (values : List Bool) (all : List (List Literal)) (keys : List (Vec Bool Global)) → values ≡ values_of (length task.predicates) (initial task) → map change_of all ≡ choices schema.effect
+pub successors-told : (task : PlainTask) (schema : PlainSchema) (values : List Bool) (all : List (List Literal)) (keys : List (Vec Bool Global)) → values ≡ values_of (length task.predicates) (initial task) → map change_of all ≡ choices schema.effect
     → map (λ v. v.items) keys ≡ distinct_values (length values) (map (after (state_of values)) (map change_of all))
     → flat_map (λ v. state_text task.predicates (state_of v.items)) keys ≡ successors_text task schema
 successors-told task schema values all keys e a d =
@@ -161,12 +161,12 @@ enumerate_more F (y ∷ ys) zero from x h = let same : y ≡ x = cc in ap (λ z.
 enumerate_more F (y ∷ ys) (suc i) from x h = enumerate_more F ys i from x h
 
 -- one more predicate
-pub state-more : (predicates : List LPredicate) (values : List Bool) (i : ℕ) (predicate : LPredicate) (value : Bool) (out next whole : List ℕ) → slice_get predicates i ≡ Some predicate → value ≡ get_or values i false
+pub state-more : (predicates : List PlainPredicate) (values : List Bool) (i : ℕ) (predicate : PlainPredicate) (value : Bool) (out next whole : List ℕ) → slice_get predicates i ≡ Some predicate → value ≡ get_or values i false
     → next ≡ out ++ (if predicate.fluent && value then atom_line predicate else [])
     → out ++ flat_map (λ item. if item.1.fluent && state_of values (atom_of_number item.0) then atom_line item.1 else []) (enumerate_from i (drop i predicates)) ≡ whole
     → next ++ flat_map (λ item. if item.1.fluent && state_of values (atom_of_number item.0) then atom_line item.1 else []) (enumerate_from (i + 1) (drop (i + 1) predicates)) ≡ whole
 state-more predicates values i predicate value out next whole h v e before =
-    let F : ℕ × LPredicate → List ℕ = λ item. if item.1.fluent && state_of values (atom_of_number item.0) then atom_line item.1 else [] in
+    let F : ℕ × PlainPredicate → List ℕ = λ item. if item.1.fluent && state_of values (atom_of_number item.0) then atom_line item.1 else [] in
     let rest = flat_map F (enumerate_from (i + 1) (drop (i + 1) predicates)) in
     let split : flat_map F (enumerate_from i (drop i predicates)) ≡ F (i, predicate) ++ rest = enumerate_more F predicates i i predicate h ∙ ap (λ n. F (i, predicate) ++ flat_map F (enumerate_from (i + 1) (drop n predicates))) (sym (add-one i)) in
     ap (λ w. w ++ rest) (e ∙ ap (λ b. out ++ (if predicate.fluent && b then atom_line predicate else [])) v) ∙ append_assoc out (F (i, predicate)) rest ∙ ap (λ w. out ++ w) (sym split) ∙ before

@@ -6,11 +6,11 @@ use Rattle.std.specs.List.{list_all, fold}
 use Rattle.std.proofs.lemmas.List.{get_or-set_same, get_or-set_other, length-set}
 use Rattle.std.proofs.lemmas.List.FromFn.{fill_by_all}
 use Rattle.std.proofs.lemmas.Bool.Decides.{nat_tests}
-use Rattle.fond_ast.specs.Within.{is_atom_within}
+use Rattle.fond_plain.specs.Within.{is_atom_within}
 use Rattle.fond_text.specs.declared.atom.Atom.{Atom}
-use Rattle.fond_meaning.specs.States.{State, is_atom, atoms_of}
-use Rattle.fond_meaning.specs.Effects.{after}
-use Rattle.fond_meaning.specs.Successors.{atom_of_number}
+use Rattle.fond_plain.specs.States.{State, is_atom, atoms_of}
+use Rattle.fond_plain.specs.Effects.{after}
+use Rattle.fond_plain.specs.Successors.{atom_of_number}
 use Rattle.fond_oneof.specs.declared.outcome.Literal.{Literal}
 use Rattle.fond_oneof.specs.Changes.{atoms_with, change_of}
 use Rattle.fond_lifted.specs.Values.{state_of, values_of}

@@ -3,8 +3,8 @@ use Rattle.std.specs.Prelude.{ℕ, ◌==◌, ◌&&◌, Bool, false, List, [], �
 use Rattle.std.specs.Bool.{beq}
 use Rattle.std.specs.Cmp.Lexicographic.{pointwise}
 use Rattle.std.specs.List.{list_any, range_with_len}
-use Rattle.fond_meaning.specs.States.{State}
-use Rattle.fond_meaning.specs.Successors.{atom_of_number}
+use Rattle.fond_plain.specs.States.{State}
+use Rattle.fond_plain.specs.Successors.{atom_of_number}
 
 -- the state of truth values: it has the atoms without objects whose predicate has the value true
 abbrev pub state_of : List Bool → State

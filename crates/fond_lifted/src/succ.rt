@@ -4,21 +4,25 @@ ghost use Rattle.fond_oneof.specs.Changes.{change_of};
 ghost use Rattle.fond_lifted.specs.Lists.{Grew};
 ghost use Rattle.fond_lifted.specs.Texts.{atom_line, state_text, successors_text};
 ghost use Rattle.fond_lifted.specs.Values.{state_of, distinct_values};
-ghost use Rattle.fond_meaning.specs.Conditions.{holds};
-ghost use Rattle.fond_meaning.specs.Effects.{after};
-ghost use Rattle.fond_meaning.specs.Successors.{initial};
+ghost use Rattle.fond_plain.specs.Conditions.{holds};
+ghost use Rattle.fond_plain.specs.Effects.{after};
+ghost use Rattle.fond_plain.specs.Successors.{initial};
 ghost use Rattle.std.specs.Prelude.{◌≡◌, ◌&&◌, [], ◌++◌, if◌then◌else◌, length, map, IfOk, OnOk, OnErr, Contains};
 ghost use Rattle.std.specs.List.{flat_map};
 
 use crate::values::{initial_values, is_true, next_values, value};
-use fond_ast::task::{LPredicate, LPredicates, LSchema, LiftedTask};
 use fond_oneof::outcome::{Outcome, outcomes};
+use fond_plain::task::{PlainPredicate, PlainPredicates, PlainSchema, PlainTask};
 use fond_text::fault::NoMemory;
 use indexmap::IndexSet;
 use std::alloc::Global;
 
 /// Whether the action is applicable in the initial state.
-pub fn is_applicable(alloc: Global, task: &LiftedTask, schema: &LSchema) -> Result<bool, NoMemory>
+pub fn is_applicable(
+    alloc: Global,
+    task: &PlainTask,
+    schema: &PlainSchema,
+) -> Result<bool, NoMemory>
     requires { Contains task.now.schemas schema.now }
     ensures { IfOk result (λ answer. answer ≡ holds (initial task.now) schema.now.pre) }
 {
@@ -43,7 +47,7 @@ fn distinct_states(
 }
 
 /// Appends the line of a predicate's atom if the predicate is fluent and the atom true.
-fn put_atom(out: &mut Vec<u8>, predicate: &LPredicate, is_true: bool) -> Result<(), NoMemory>
+fn put_atom(out: &mut Vec<u8>, predicate: &PlainPredicate, is_true: bool) -> Result<(), NoMemory>
     ensures ok { OnOk result (out.new.items ≡ out.old.items ++ (if predicate.now.fluent && is_true then atom_line predicate.now else [])) }
     ensures grew { Grew out.old.items out.new.items }
 {
@@ -57,7 +61,11 @@ fn put_atom(out: &mut Vec<u8>, predicate: &LPredicate, is_true: bool) -> Result<
 }
 
 /// Appends the text of a state.
-fn put_state(out: &mut Vec<u8>, predicates: &LPredicates, values: &[bool]) -> Result<(), NoMemory>
+fn put_state(
+    out: &mut Vec<u8>,
+    predicates: &PlainPredicates,
+    values: &[bool],
+) -> Result<(), NoMemory>
     ensures ok { OnOk result (out.new.items ≡ out.old.items ++ state_text predicates.now (state_of values.now)) }
     ensures grew { Grew out.old.items out.new.items }
 {
@@ -71,7 +79,7 @@ fn put_state(out: &mut Vec<u8>, predicates: &LPredicates, values: &[bool]) -> Re
 /// Appends the texts of states, in order.
 fn put_states(
     out: &mut Vec<u8>,
-    predicates: &LPredicates,
+    predicates: &PlainPredicates,
     states: &[Vec<bool>],
 ) -> Result<(), NoMemory>
     ensures ok { OnOk result (out.new.items ≡ out.old.items ++ flat_map (λ v. state_text predicates.now (state_of v.items)) states.now) }
@@ -88,8 +96,8 @@ fn put_states(
 /// distinct state, one value for each predicate.
 pub fn put_successors(
     alloc: Global,
-    task: &LiftedTask,
-    schema: &LSchema,
+    task: &PlainTask,
+    schema: &PlainSchema,
     out: &mut Vec<u8>,
 ) -> Result<(), NoMemory>
     requires { Contains task.now.schemas schema.now }

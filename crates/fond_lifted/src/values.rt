@@ -2,20 +2,20 @@
 
 ghost use Rattle.fond_oneof.specs.Changes.{atoms_with, change_of};
 ghost use Rattle.fond_lifted.specs.Values.{state_of, values_of};
-ghost use Rattle.fond_meaning.specs.Conditions.{holds};
-ghost use Rattle.fond_meaning.specs.Effects.{after};
-ghost use Rattle.fond_meaning.specs.Successors.{initial, atom_of_number};
+ghost use Rattle.fond_plain.specs.Conditions.{holds};
+ghost use Rattle.fond_plain.specs.Effects.{after};
+ghost use Rattle.fond_plain.specs.Successors.{initial, atom_of_number};
 ghost use Rattle.std.specs.List.{list_all, list_any};
 ghost use Rattle.std.specs.Prelude.{◌≡◌, ◌<◌, ℕ, false, map, length, slice_index_or, IfOk, if◌then◌else◌};
 
-use fond_ast::form::LCond;
-use fond_ast::task::LiftedTask;
 use fond_oneof::outcome::{Literal, Outcome};
+use fond_plain::form::PlainCond;
+use fond_plain::task::PlainTask;
 use fond_text::fault::NoMemory;
 use std::alloc::Global;
 
 /// The values of the initial state.
-pub(crate) fn initial_values(alloc: Global, task: &LiftedTask) -> Result<Vec<bool>, NoMemory>
+pub(crate) fn initial_values(alloc: Global, task: &PlainTask) -> Result<Vec<bool>, NoMemory>
     ensures { IfOk result (λ v. v.items ≡ values_of (length task.now.predicates) (initial task.now)) }
 {
     let mut values = vec![in alloc; false; task.predicates.len()]?;
@@ -35,22 +35,22 @@ pub(crate) fn value(values: &[bool], number: usize) -> bool
 
 /// Whether a condition holds.
 #[cycle(truth)]
-pub(crate) fn is_true(values: &[bool], condition: &LCond) -> bool
+pub(crate) fn is_true(values: &[bool], condition: &PlainCond) -> bool
     ensures { result ≡ holds (state_of values.now) condition.now }
 {
     match condition {
-        LCond::Truth => true,
-        LCond::Holds(atom) => value(values, atom.predicate as usize),
-        LCond::And(parts) => are_all_true(values, parts),
-        LCond::Or(parts) => is_any_true(values, parts),
-        LCond::Not(part) => !is_true(values, part),
-        LCond::Imply(part, other) => !is_true(values, part) || is_true(values, other),
+        PlainCond::Truth => true,
+        PlainCond::Holds(atom) => value(values, atom.predicate as usize),
+        PlainCond::And(parts) => are_all_true(values, parts),
+        PlainCond::Or(parts) => is_any_true(values, parts),
+        PlainCond::Not(part) => !is_true(values, part),
+        PlainCond::Imply(part, other) => !is_true(values, part) || is_true(values, other),
     }
 }
 
 /// Whether each condition holds.
 #[cycle(truth)]
-fn are_all_true(values: &[bool], parts: &[LCond]) -> bool
+fn are_all_true(values: &[bool], parts: &[PlainCond]) -> bool
     ensures { result ≡ list_all (λ part. part) (map (holds (state_of values.now)) parts.now) }
 {
     let mut all = true;
@@ -62,7 +62,7 @@ fn are_all_true(values: &[bool], parts: &[LCond]) -> bool
 
 /// Whether some condition holds.
 #[cycle(truth)]
-fn is_any_true(values: &[bool], parts: &[LCond]) -> bool
+fn is_any_true(values: &[bool], parts: &[PlainCond]) -> bool
     ensures { result ≡ list_any (λ part. part) (map (holds (state_of values.now)) parts.now) }
 {
     let mut any = false;

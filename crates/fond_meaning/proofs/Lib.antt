@@ -1,7 +1,6 @@
-pub mod Choices
-pub mod Come
-pub mod Distinct
-pub mod Given
+pub mod Atoms
+pub mod Bools
+pub mod Local
 pub mod Members
-pub mod Quiet
-pub mod Worked
+pub mod Occurs
+pub mod Tuples

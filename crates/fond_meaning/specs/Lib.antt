@@ -1,6 +1,5 @@
 pub mod States
 pub mod Conditions
 pub mod Effects
-pub mod Choices
-pub mod Successors
+pub mod Solutions
 pub mod Laws

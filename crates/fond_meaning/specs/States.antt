@@ -1,33 +1,31 @@
--- Sets of ground atoms, and states.
-use Rattle.std.specs.Prelude.{◌==◌, ◌&&◌, ◌||◌, List, Bool, false}
-use Rattle.std.specs.List.{list_any}
-use Rattle.std.specs.Str.{bytes_eq}
+-- Finite sets of ground atoms, and states.
+use Rattle.std.specs.Prelude.{List, ◌∷◌}
+use Rattle.std.specs.Ordering.{nat_cmp}
+use Rattle.std.specs.Cmp.Lexicographic.{slice_cmp}
+use Rattle.std.specs.FinSet as set
+use Rattle.std.specs.declared.cmp.Ordering.{Ordering}
 use Rattle.fond_text.specs.declared.atom.Atom.{Atom}
 
--- a set of atoms, as the test whether an atom is in it
+-- the order of atoms: by the predicate, and then by the objects in order
+abbrev pub atom_cmp : Atom → Atom → Ordering
+atom_cmp atom other = slice_cmp nat_cmp (atom.predicate ∷ atom.objects) (other.predicate ∷ other.objects)
+
+-- a finite set of ground atoms
 abbrev pub AtomSet : Type 0
-AtomSet = Atom → Bool
+AtomSet = set.FinSet atom_cmp
 
 -- a state is the set of its true atoms
 abbrev pub State : Type 0
 State = AtomSet
 
--- whether two atoms have the same predicate and the same objects, in order
-abbrev pub is_atom : Atom → Atom → Bool
-is_atom atom other = atom.predicate == other.predicate && bytes_eq atom.objects other.objects
-
 -- the empty set
 abbrev pub no_atoms : AtomSet
-no_atoms atom = false
+no_atoms = set.empty
 
 -- the set of one atom
 abbrev pub only : Atom → AtomSet
-only one atom = is_atom atom one
-
--- the union of two sets
-abbrev pub union : AtomSet → AtomSet → AtomSet
-union a b atom = a atom || b atom
+only atom = set.insert no_atoms atom
 
 -- the set of the atoms of a list
 abbrev pub atoms_of : List Atom → AtomSet
-atoms_of atoms atom = list_any (is_atom atom) atoms
+atoms_of atoms = set.from_list atoms

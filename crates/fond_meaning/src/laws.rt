@@ -1,18 +1,18 @@
 //! The laws of the meaning of tasks, each as the contract of a function that does nothing.
 
-ghost use Rattle.fond_meaning.specs.Laws.{ChoicesAreGiven, SuccessorsComeNext, SuccessorsAreDistinct};
+ghost use Rattle.fond_meaning.specs.Laws.{StatesAreTheirAtoms, TruthIsLocal, TuplesLieInRanges};
 
-/// The choices of an effect are exactly the changes that it may give.
-pub fn choices_are_given()
-    ensures { ChoicesAreGiven }
+/// The truth of a condition depends only on the variables and the predicates that occur in it.
+pub fn truth_is_local()
+    ensures { TruthIsLocal }
 {}
 
-/// The successors of the initial state by an applicable schema are exactly the states that may come next.
-pub fn successors_come_next()
-    ensures { SuccessorsComeNext }
+/// States with the same atoms are equal.
+pub fn states_are_their_atoms()
+    ensures { StatesAreTheirAtoms }
 {}
 
-/// No state occurs twice among the successors.
-pub fn successors_are_distinct()
-    ensures { SuccessorsAreDistinct }
+/// The lists of one object of each range are those whose objects lie in the ranges, place by place.
+pub fn tuples_lie_in_ranges()
+    ensures { TuplesLieInRanges }
 {}

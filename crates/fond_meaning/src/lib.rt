@@ -1,5 +1,5 @@
-//! The meaning of tasks: which conditions hold in a state, what effects give, and which states may come next. It
-//! speaks of sets of atoms; lists occur only to fix the order in which successors are printed.
+//! The meaning of tasks: which conditions hold in a state, what effects give, which states may come next, and what
+//! policies, traps and solutions are. It speaks of finite sets of ground atoms.
 #![tactic(auto)]
 
 pub mod laws;

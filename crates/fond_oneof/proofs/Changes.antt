@@ -2,9 +2,9 @@
 use Rattle.std.proofs.Common.{◌≡◌, ℕ, ◌||◌, Bool, true, false, List, [], ◌∷◌, ◌++◌, map, refl}
 use Rattle.std.proofs.lemmas.List.Folds.{list_any-append}
 use Rattle.fond_text.specs.declared.atom.Atom.{Atom}
-use Rattle.fond_meaning.specs.States.{no_atoms, only}
-use Rattle.fond_meaning.specs.Effects.{Change, both}
-use Rattle.fond_meaning.specs.Successors.{atom_of_number}
+use Rattle.fond_plain.specs.States.{no_atoms, only}
+use Rattle.fond_plain.specs.Effects.{Change, both}
+use Rattle.fond_plain.specs.Successors.{atom_of_number}
 use Rattle.fond_oneof.specs.declared.outcome.Literal.{Literal}
 use Rattle.fond_oneof.specs.Changes.{change_of}
 

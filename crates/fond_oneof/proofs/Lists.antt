@@ -4,39 +4,39 @@ use Rattle.std.specs.List.{flat_map}
 use Rattle.std.proofs.lemmas.List.{map-append, append-nil, same_lists, places, append_assoc}
 use Rattle.std.proofs.lemmas.Grind.{flat_map-append}
 use Rattle.std.proofs.Math.Seq.{drop-cons}
-use Rattle.fond_ast.specs.declared.form.LAtom.{LAtom}
-use Rattle.fond_ast.specs.declared.form.LEffect.{LEffect, Nothing, Add, Delete, And, And', OneOf', Row_of-LEffect}
-use Rattle.fond_ast.specs.declared.form.LEffect.TheBlock.{items-the_row-LEffect, items_shown-the_row-LEffect-0}
-use Rattle.fond_ast.specs.declared.form.LEffect.TheOpen as open_effect
-use Rattle.fond_ast.specs.declared.form.LEffect.TheViews.{rolls-Nothing, rolls-Add, rolls-Delete, rolls-And, outs-And', outs-OneOf'}
-use Rattle.fond_ast.specs.declared.form.LEffect.TheFolds.{fold-roll-LEffect, fold_out-LEffect, map-LEffect}
+use Rattle.fond_plain.specs.declared.form.PlainAtom.{PlainAtom}
+use Rattle.fond_plain.specs.declared.form.PlainEffect.{PlainEffect, Nothing, Add, Delete, And, And', OneOf', Row_of-PlainEffect}
+use Rattle.fond_plain.specs.declared.form.PlainEffect.TheBlock.{items-the_row-PlainEffect, items_shown-the_row-PlainEffect-0}
+use Rattle.fond_plain.specs.declared.form.PlainEffect.TheOpen as open_effect
+use Rattle.fond_plain.specs.declared.form.PlainEffect.TheViews.{rolls-Nothing, rolls-Add, rolls-Delete, rolls-And, outs-And', outs-OneOf'}
+use Rattle.fond_plain.specs.declared.form.PlainEffect.TheFolds.{fold-roll-PlainEffect, fold_out-PlainEffect, map-PlainEffect}
 use Rattle.fond_oneof.specs.declared.outcome.Literal.{Literal}
 use Rattle.fond_oneof.specs.Outcomes.{outcome_lists, outcomes_step, concatenations, pairs}
 
 -- ---- the outcomes of each form
 
 pub outcome_lists-Nothing : outcome_lists Nothing ≡ [] ∷ []
-outcome_lists-Nothing = ap outcome_lists (sym rolls-Nothing) ∙ fold-roll-LEffect (List (List Literal)) outcomes_step open_effect.Nothing
+outcome_lists-Nothing = ap outcome_lists (sym rolls-Nothing) ∙ fold-roll-PlainEffect (List (List Literal)) outcomes_step open_effect.Nothing
 
-pub outcome_lists-Add : (atom : LAtom) → outcome_lists (Add atom) ≡ (record { predicate = atom.predicate; add = true } ∷ []) ∷ []
-outcome_lists-Add atom = ap outcome_lists (sym (rolls-Add atom)) ∙ fold-roll-LEffect (List (List Literal)) outcomes_step (open_effect.Add atom)
+pub outcome_lists-Add : (atom : PlainAtom) → outcome_lists (Add atom) ≡ (record { predicate = atom.predicate; add = true } ∷ []) ∷ []
+outcome_lists-Add atom = ap outcome_lists (sym (rolls-Add atom)) ∙ fold-roll-PlainEffect (List (List Literal)) outcomes_step (open_effect.Add atom)
 
-pub outcome_lists-Delete : (atom : LAtom) → outcome_lists (Delete atom) ≡ (record { predicate = atom.predicate; add = false } ∷ []) ∷ []
-outcome_lists-Delete atom = ap outcome_lists (sym (rolls-Delete atom)) ∙ fold-roll-LEffect (List (List Literal)) outcomes_step (open_effect.Delete atom)
+pub outcome_lists-Delete : (atom : PlainAtom) → outcome_lists (Delete atom) ≡ (record { predicate = atom.predicate; add = false } ∷ []) ∷ []
+outcome_lists-Delete atom = ap outcome_lists (sym (rolls-Delete atom)) ∙ fold-roll-PlainEffect (List (List Literal)) outcomes_step (open_effect.Delete atom)
 
-pub outcome_lists-And : (parts : Vec LEffect Global) → outcome_lists (And parts) ≡ concatenations (map outcome_lists parts.items)
-outcome_lists-And parts = ap outcome_lists (sym (rolls-And parts)) ∙ fold-roll-LEffect (List (List Literal)) outcomes_step (open_effect.And parts)
+pub outcome_lists-And : (parts : Vec PlainEffect Global) → outcome_lists (And parts) ≡ concatenations (map outcome_lists parts.items)
+outcome_lists-And parts = ap outcome_lists (sym (rolls-And parts)) ∙ fold-roll-PlainEffect (List (List Literal)) outcomes_step (open_effect.And parts)
 
 -- the outcomes of the forms with parts, at the rows of a match
-pub outcome_lists-And' : (shape : _) (row : Row_of-LEffect _) → outcome_lists (And' shape row) ≡ concatenations (map outcome_lists (items-the_row-LEffect _ row))
+pub outcome_lists-And' : (shape : _) (row : Row_of-PlainEffect _) → outcome_lists (And' shape row) ≡ concatenations (map outcome_lists (items-the_row-PlainEffect _ row))
 outcome_lists-And' shape row =
-    fold_out-LEffect (List (List Literal)) outcomes_step (And' shape row) ∙ ap (λ layer. outcomes_step (map-LEffect LEffect (List (List Literal)) outcome_lists layer)) (outs-And' shape row)
-    ∙ ap (λ parts. concatenations (map outcome_lists parts)) (items_shown-the_row-LEffect-0 shape row)
+    fold_out-PlainEffect (List (List Literal)) outcomes_step (And' shape row) ∙ ap (λ layer. outcomes_step (map-PlainEffect PlainEffect (List (List Literal)) outcome_lists layer)) (outs-And' shape row)
+    ∙ ap (λ parts. concatenations (map outcome_lists parts)) (items_shown-the_row-PlainEffect-0 shape row)
 
-pub outcome_lists-OneOf' : (shape : _) (row : Row_of-LEffect _) → outcome_lists (OneOf' shape row) ≡ flat_map (λ part. part) (map outcome_lists (items-the_row-LEffect _ row))
+pub outcome_lists-OneOf' : (shape : _) (row : Row_of-PlainEffect _) → outcome_lists (OneOf' shape row) ≡ flat_map (λ part. part) (map outcome_lists (items-the_row-PlainEffect _ row))
 outcome_lists-OneOf' shape row =
-    fold_out-LEffect (List (List Literal)) outcomes_step (OneOf' shape row) ∙ ap (λ layer. outcomes_step (map-LEffect LEffect (List (List Literal)) outcome_lists layer)) (outs-OneOf' shape row)
-    ∙ ap (λ parts. flat_map (λ part. part) (map outcome_lists parts)) (items_shown-the_row-LEffect-0 shape row)
+    fold_out-PlainEffect (List (List Literal)) outcomes_step (OneOf' shape row) ∙ ap (λ layer. outcomes_step (map-PlainEffect PlainEffect (List (List Literal)) outcome_lists layer)) (outs-OneOf' shape row)
+    ∙ ap (λ parts. flat_map (λ part. part) (map outcome_lists parts)) (items_shown-the_row-PlainEffect-0 shape row)
 
 -- ---- joining lists of outcomes
 
@@ -100,7 +100,7 @@ joined-more all next first second i one whole lt at e before =
     ap (λ w. w ++ rest) e ∙ append_assoc all (map (λ o. one ++ o) second) rest ∙ ap (λ w. all ++ pairs w second) (sym (drop_more first i one lt at)) ∙ before
 
 -- one more member of a conjunction
-pub members-more : (all next second : List (List Literal)) (parts : List LEffect) (i : ℕ) (part : LEffect) (whole : List (List Literal)) → i < length parts → part ≡ get_or parts i part
+pub members-more : (all next second : List (List Literal)) (parts : List PlainEffect) (i : ℕ) (part : PlainEffect) (whole : List (List Literal)) → i < length parts → part ≡ get_or parts i part
     → second ≡ outcome_lists part → next ≡ pairs all second
     → pairs all (concatenations (map outcome_lists (drop i parts))) ≡ whole
     → pairs next (concatenations (map outcome_lists (drop (i + 1) parts))) ≡ whole

@@ -2,9 +2,9 @@
 use Rattle.std.specs.Prelude.{◌&&◌, Bool, true, false, List}
 use Rattle.std.specs.List.{list_any}
 use Rattle.fond_text.specs.Bools.{is_same}
-use Rattle.fond_meaning.specs.States.{AtomSet, is_atom}
-use Rattle.fond_meaning.specs.Effects.{Change}
-use Rattle.fond_meaning.specs.Successors.{atom_of_number}
+use Rattle.fond_plain.specs.States.{AtomSet, is_atom}
+use Rattle.fond_plain.specs.Effects.{Change}
+use Rattle.fond_plain.specs.Successors.{atom_of_number}
 use Rattle.fond_oneof.specs.declared.outcome.Literal.{Literal}
 
 -- the atoms of the literals of this sign

@@ -3,7 +3,7 @@
 ghost use Rattle.fond_oneof.specs.Outcomes.{outcome_lists, pairs};
 ghost use Rattle.std.specs.Prelude.{◌≡◌, [], ◌∷◌, ◌++◌, map, IfOk, OnOk};
 
-use fond_ast::form::{LAtom, LEffect};
+use fond_plain::form::{PlainAtom, PlainEffect};
 use fond_text::fault::NoMemory;
 use fond_text::list::List;
 use std::alloc::Global;
@@ -28,7 +28,7 @@ fn alone(alloc: Global, outcome: Outcome) -> Result<Vec<Outcome>, NoMemory>
 }
 
 /// The list of the one outcome of a literal.
-fn alone_literal(alloc: Global, atom: LAtom, add: bool) -> Result<Vec<Outcome>, NoMemory>
+fn alone_literal(alloc: Global, atom: PlainAtom, add: bool) -> Result<Vec<Outcome>, NoMemory>
     ensures { IfOk result (λ v. v.items ≡ (record { predicate = atom.predicate; add = add } ∷ []) ∷ []) }
 {
     let mut outcome = Outcome::new(alloc);
@@ -91,14 +91,14 @@ fn joined(alloc: Global, first: Vec<Outcome>, second: &[Outcome]) -> Result<Vec<
 /// The outcomes of an effect, in order: the last member of a conjunction varies fastest, and a choice lists those of
 /// its members. Takes memory proportional to the sum of their lengths, and time proportional to that sum for each level
 /// of nesting.
-pub fn outcomes(alloc: Global, effect: &LEffect) -> Result<Vec<Outcome>, NoMemory>
+pub fn outcomes(alloc: Global, effect: &PlainEffect) -> Result<Vec<Outcome>, NoMemory>
     ensures { IfOk result (λ v. v.items ≡ outcome_lists effect.now) }
 {
     match effect {
-        LEffect::Nothing => alone(alloc, Outcome::new(alloc)),
-        LEffect::Add(atom) => alone_literal(alloc, *atom, true),
-        LEffect::Delete(atom) => alone_literal(alloc, *atom, false),
-        LEffect::And(parts) => {
+        PlainEffect::Nothing => alone(alloc, Outcome::new(alloc)),
+        PlainEffect::Add(atom) => alone_literal(alloc, *atom, true),
+        PlainEffect::Delete(atom) => alone_literal(alloc, *atom, false),
+        PlainEffect::And(parts) => {
             let mut all = alone(alloc, Outcome::new(alloc))?;
             for part in parts {
                 let second = outcomes(alloc, part)?;
@@ -106,7 +106,7 @@ pub fn outcomes(alloc: Global, effect: &LEffect) -> Result<Vec<Outcome>, NoMemor
             }
             Ok(all)
         }
-        LEffect::OneOf(parts) => {
+        PlainEffect::OneOf(parts) => {
             let mut all = Vec::new(alloc);
             for part in parts {
                 let mut more = outcomes(alloc, part)?;

@@ -2,27 +2,27 @@
 
 /// An atom by the number of its predicate.
 #[derive(Clone, Copy, Debug, PartialEq, Eq)]
-pub struct LAtom {
+pub struct PlainAtom {
     pub predicate: u32,
 }
 
 /// A condition.
 #[derive(Drop)]
-pub enum LCond {
+pub enum PlainCond {
     Truth,
-    Holds(LAtom),
-    And(Vec<LCond>),
-    Or(Vec<LCond>),
-    Not(Box<LCond>),
-    Imply(Box<LCond>, Box<LCond>),
+    Holds(PlainAtom),
+    And(Vec<PlainCond>),
+    Or(Vec<PlainCond>),
+    Not(Box<PlainCond>),
+    Imply(Box<PlainCond>, Box<PlainCond>),
 }
 
 /// An effect. Exactly one member of a `OneOf` takes place; it has at least one.
 #[derive(Drop)]
-pub enum LEffect {
+pub enum PlainEffect {
     Nothing,
-    Add(LAtom),
-    Delete(LAtom),
-    And(Vec<LEffect>),
-    OneOf(Vec<LEffect>),
+    Add(PlainAtom),
+    Delete(PlainAtom),
+    And(Vec<PlainEffect>),
+    OneOf(Vec<PlainEffect>),
 }

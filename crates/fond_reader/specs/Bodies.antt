@@ -1,5 +1,5 @@
 -- Which atoms, conditions and effects a tree is read as.
-use Rattle.std.specs.Prelude.{ℕ, ◌==◌, ◌&&◌, Bool, false, not, List, [], ◌∷◌, map, length, Option, Some, None, codes, if◌then◌else◌}
+use Rattle.std.specs.Prelude.{◌==◌, ◌&&◌, Bool, false, not, List, [], ◌∷◌, map, length, Option, Some, None, codes, if◌then◌else◌}
 use Rattle.fond_text.specs.Bools.{is_same}
 use Rattle.fond_text.specs.Lists.{each_passes}
 use Rattle.fond_tree.specs.declared.tree.Tree.{Tree}

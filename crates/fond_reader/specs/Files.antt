@@ -1,5 +1,5 @@
 -- Which domain and which problem a tree is read as.
-use Rattle.std.specs.Prelude.{◌≡◌, ℕ, ◌==◌, ◌&&◌, ◌≤◌, Bool, true, false, List, [], ◌∷◌, map, filter, length, Contains, Option, Some, None, codes, if◌then◌else◌}
+use Rattle.std.specs.Prelude.{◌≡◌, ℕ, ◌&&◌, ◌≤◌, Bool, true, false, List, [], ◌∷◌, map, filter, length, Contains, Option, Some, None, codes, if◌then◌else◌}
 use Rattle.std.specs.List.{AllZip, list_all, flat_map}
 use Rattle.fond_text.specs.Lists.{each_passes}
 use Rattle.fond_tree.specs.declared.tree.Tree.{Tree}

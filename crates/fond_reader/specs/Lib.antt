@@ -1,5 +1,7 @@
 pub mod Forms
 pub mod Typed
+pub mod Sorts
 pub mod Bodies
 pub mod Files
+pub mod Nodes
 pub mod Laws

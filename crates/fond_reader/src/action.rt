@@ -1,17 +1,20 @@
 //! Reading actions that have no fault.
 
-ghost use Rattle.fond_reader.specs.CleanFiles.{is_none_or_one, fits_pairs, fits_action};
-ghost use Rattle.fond_reader.specs.CleanForms.{fits_condition, fits_whole_effect};
-ghost use Rattle.fond_reader.specs.Files.{is_name_leaf, values, IsPrecondition, IsWholeEffect, IsSchemaOf};
+ghost use Rattle.fond_grammar.specs.Faults.{Fits};
+ghost use Rattle.fond_grammar.specs.Words.{has_head};
+ghost use Rattle.fond_grammar.specs.declared.role.Role.TheVariants.{Condition as ConditionRole, DomainSection as DomainSectionRole, Effect as EffectRole, Name as NameRole, Variables as VariablesRole};
+ghost use Rattle.fond_reader.specs.Files.{values, AreParameters, IsPrecondition, IsKeyedEffect, IsSchemaOf};
+ghost use Rattle.fond_reader.specs.Nodes.{FitsOnce, FitsPairs};
 ghost use Rattle.fond_tree.specs.Trees.{members_of};
 ghost use Rattle.fond_tree.specs.declared.tree.Tree.{Tree};
 ghost use Rattle.std.specs.Option.{option_copied};
 ghost use Rattle.std.specs.Prelude.{◌≡◌, ◌∷◌, Some, true, codes, slice_get, IfOk};
 
-use crate::atom::name_of;
 use crate::condition::read_condition;
-use crate::effect::read_whole_effect;
+use crate::effect::read_effect;
+use crate::node::read_leaf;
 use crate::section::after;
+use crate::typed::read_variables;
 use fond_ast::files::Schema;
 use fond_ast::names::TypedNames;
 use fond_ast::syntax::{Cond, Effect};
@@ -34,9 +37,20 @@ fn value_of<'a>(pairs: &'a [Tree], key: &[u8]) -> Option<&'a Tree>
     None
 }
 
+/// The parameters among pairs, or none if there are no parameters.
+fn read_parameters(alloc: Global, pairs: &[Tree]) -> Result<TypedNames, NoMemory>
+    requires { FitsOnce VariablesRole (values (codes ":parameters") pairs.now) }
+    ensures { IfOk result (AreParameters (values (codes ":parameters") pairs.now)) }
+{
+    match value_of(pairs, b":parameters") {
+        None => Ok(TypedNames::new(alloc)),
+        Some(tree) => read_variables(alloc, tree),
+    }
+}
+
 /// The precondition among pairs, or the true condition if there is none.
 fn read_precondition(alloc: Global, pairs: &[Tree]) -> Result<Cond, NoMemory>
-    requires { is_none_or_one fits_condition (values (codes ":precondition") pairs.now) ≡ true }
+    requires { FitsOnce ConditionRole (values (codes ":precondition") pairs.now) }
     ensures { IfOk result (IsPrecondition (values (codes ":precondition") pairs.now)) }
 {
     match value_of(pairs, b":precondition") {
@@ -47,27 +61,29 @@ fn read_precondition(alloc: Global, pairs: &[Tree]) -> Result<Cond, NoMemory>
 
 /// The effect among pairs, or the empty effect if there is none.
 fn read_keyed_effect(alloc: Global, pairs: &[Tree]) -> Result<Effect, NoMemory>
-    requires { is_none_or_one fits_whole_effect (values (codes ":effect") pairs.now) ≡ true }
-    ensures { IfOk result (IsWholeEffect (values (codes ":effect") pairs.now)) }
+    requires { FitsOnce EffectRole (values (codes ":effect") pairs.now) }
+    ensures { IfOk result (IsKeyedEffect (values (codes ":effect") pairs.now)) }
 {
     match value_of(pairs, b":effect") {
         None => Ok(Effect::Nothing),
-        Some(tree) => read_whole_effect(alloc, tree),
+        Some(tree) => read_effect(alloc, tree),
     }
 }
 
 /// The schema of this name and these pairs.
 fn schema_of(alloc: Global, name: &Tree, pairs: &[Tree]) -> Result<Schema, NoMemory>
-    requires named { is_name_leaf name.now ≡ true }
-    requires paired { fits_pairs pairs.now ≡ true }
+    requires named { Fits NameRole name.now }
+    requires pairs { FitsPairs pairs.now }
     ensures { IfOk result (λ schema. (tree head : Tree) → members_of tree ≡ Some (head ∷ name.now ∷ pairs.now) → IsSchemaOf tree schema) }
 {
+    let (place, name) = read_leaf(alloc, name)?;
+    let parameters = read_parameters(alloc, pairs)?;
     let pre = read_precondition(alloc, pairs)?;
     let effect = read_keyed_effect(alloc, pairs)?;
     Ok(Schema {
-        place: name.place(),
-        name: name_of(name).copy(alloc)?,
-        parameters: TypedNames::new(alloc),
+        place,
+        name,
+        parameters,
         pre,
         effect,
     })
@@ -75,7 +91,8 @@ fn schema_of(alloc: Global, name: &Tree, pairs: &[Tree]) -> Result<Schema, NoMem
 
 /// The schema that a section is read as.
 pub(crate) fn read_action(alloc: Global, section: &Tree) -> Result<Schema, NoMemory>
-    requires { fits_action section.now ≡ true }
+    requires fits { Fits DomainSectionRole section.now }
+    requires headed { has_head (codes ":action") section.now ≡ true }
     ensures { IfOk result (IsSchemaOf section.now) }
 {
     match after(section) {

@@ -1,50 +1,62 @@
 //! Reading effects that have no fault.
 
+ghost use Rattle.fond_grammar.specs.Faults.{Fits};
+ghost use Rattle.fond_grammar.specs.declared.role.Role.TheVariants.{Condition as ConditionRole, Effect as EffectRole, Variables as VariablesRole};
+ghost use Rattle.fond_reader.specs.Bodies.{is_condition, is_effect};
+ghost use Rattle.fond_reader.specs.Typed.{is_variable_list};
 ghost use Rattle.fond_text.specs.Lists.{each_passes};
-ghost use Rattle.fond_reader.specs.CleanForms.{fits_effect, fits_choice, fits_whole_effect, seen_effect};
-ghost use Rattle.fond_reader.specs.Forms.{is_effect, is_atom, inner};
-ghost use Rattle.std.specs.List.{list_all};
-ghost use Rattle.std.specs.Prelude.{◌≡◌, ◌==◌, ◌&&◌, ◌∷◌, [], true, false, length, map, IfOk};
+ghost use Rattle.std.specs.List.{AllByRecursion, AllZip};
+ghost use Rattle.std.specs.Prelude.{◌≡◌, ◌∷◌, [], true, map, IfOk};
 
-use crate::atom::read_atom;
-use fond_ast::names::ReadAtom;
-use fond_ast::syntax::Effect;
+use crate::atom::{read_atom, read_only_atom};
+use crate::condition::read_condition;
+use crate::node::word_of;
+use crate::typed::read_variables;
+use fond_ast::names::TypedNames;
+use fond_ast::syntax::{Cond, Effect};
 use fond_grammar::leaves::is_word;
 use fond_text::fault::NoMemory;
 use fond_tree::tree::Tree;
 use std::alloc::Global;
 
-/// The effect without a choice that a tree is read as.
+/// The effect that a tree is read as.
 #[cycle(effect)]
 pub(crate) fn read_effect(alloc: Global, tree: &Tree) -> Result<Effect, NoMemory>
-    requires { fits_effect tree.now ≡ true }
-    ensures inner { IfOk result (λ effect. is_effect effect false tree.now ≡ true) }
-    ensures whole { IfOk result (λ effect. is_effect effect true tree.now ≡ true) }
+    requires fits { Fits EffectRole tree.now }
+    ensures { IfOk result (λ effect. is_effect effect tree.now ≡ true) }
 {
-    match tree {
-        Tree::Leaf(_, _) => unreachable!(),
-        Tree::Node(_, members) => match members.as_slice() {
-            [] => Ok(Effect::Nothing),
-            [Tree::Node(_, _), ..] => unreachable!(),
-            [Tree::Leaf(_, head), after @ ..] => {
-                if is_word(head.bytes(), b"and") {
-                    return Ok(Effect::And(read_effects(alloc, after)?));
-                }
-                if is_word(head.bytes(), b"not") {
-                    return Ok(Effect::Delete(read_only_atom(alloc, after)?));
-                }
-                Ok(Effect::Add(read_atom(alloc, tree)?))
-            }
-        },
+    let Tree::Node(_, members) = tree else {
+        unreachable!()
+    };
+    let [head, after @ ..] = members.as_slice() else {
+        return Ok(Effect::Nothing);
+    };
+    let word = word_of(head);
+    if is_word(word, b"and") {
+        return Ok(Effect::And(read_effects(alloc, after)?));
     }
+    if is_word(word, b"not") {
+        return Ok(Effect::Delete(read_only_atom(alloc, after)?));
+    }
+    if is_word(word, b"forall") {
+        let (names, part) = read_quantified(alloc, after)?;
+        return Ok(Effect::Forall(names, part));
+    }
+    if is_word(word, b"when") {
+        let (condition, part) = read_conditional(alloc, after)?;
+        return Ok(Effect::When(condition, part));
+    }
+    if is_word(word, b"oneof") {
+        return Ok(Effect::OneOf(read_effects(alloc, after)?));
+    }
+    Ok(Effect::Add(read_atom(alloc, tree)?))
 }
 
-/// The effects without a choice that trees are read as, one by one.
+/// The effects that trees are read as, one by one.
 #[cycle(effect)]
 fn read_effects(alloc: Global, trees: &[Tree]) -> Result<Vec<Effect>, NoMemory>
-    requires { list_all (λ seen. seen.fits) (map seen_effect trees.now) ≡ true }
-    ensures read { IfOk result (λ parts. each_passes (inner (map is_effect parts.items)) trees.now ≡ true) }
-    ensures counted { IfOk result (λ parts. length parts.items ≡ length trees.now) }
+    requires fit { AllByRecursion (Fits EffectRole) trees.now }
+    ensures { IfOk result (λ parts. each_passes (map is_effect parts.items) trees.now ≡ true) }
 {
     let mut parts = Vec::with_capacity(alloc, trees.len())?;
     for tree in trees {
@@ -53,53 +65,34 @@ fn read_effects(alloc: Global, trees: &[Tree]) -> Result<Vec<Effect>, NoMemory>
     Ok(parts)
 }
 
-/// The atom that the only one of these trees is read as.
-fn read_only_atom(alloc: Global, trees: &[Tree]) -> Result<ReadAtom, NoMemory>
-    requires { (length trees.now == 1 && list_all (λ seen. seen.atom) (map seen_effect trees.now)) ≡ true }
-    ensures { IfOk result (λ atom. each_passes (is_atom atom ∷ []) trees.now ≡ true) }
+/// The variables and the effect that these two trees are read as.
+#[cycle(effect)]
+fn read_quantified(alloc: Global, trees: &[Tree]) -> Result<(TypedNames, Box<Effect>), NoMemory>
+    requires fit { AllZip Fits (VariablesRole ∷ EffectRole ∷ []) trees.now }
+    ensures { IfOk result (λ parts. each_passes (is_variable_list parts.0 ∷ is_effect parts.1.value ∷ []) trees.now ≡ true) }
 {
     match trees {
-        [tree] => read_atom(alloc, tree),
+        [variables, tree] => {
+            let names = read_variables(alloc, variables)?;
+            let part = Box::new(alloc, read_effect(alloc, tree)?)?;
+            Ok((names, part))
+        }
         _ => unreachable!(),
     }
 }
 
-/// Whether a tree is a choice, by its head.
-fn is_choice(tree: &Tree) -> bool
-    requires { fits_whole_effect tree.now ≡ true }
-    ensures { result ≡ fits_choice tree.now }
+/// The condition and the effect that these two trees are read as.
+#[cycle(effect)]
+fn read_conditional(alloc: Global, trees: &[Tree]) -> Result<(Cond, Box<Effect>), NoMemory>
+    requires fit { AllZip Fits (ConditionRole ∷ EffectRole ∷ []) trees.now }
+    ensures { IfOk result (λ parts. each_passes (is_condition parts.0 ∷ is_effect parts.1.value ∷ []) trees.now ≡ true) }
 {
-    match tree {
-        Tree::Leaf(_, _) => false,
-        Tree::Node(_, members) => match members.as_slice() {
-            [Tree::Leaf(_, head), ..] => is_word(head.bytes(), b"oneof"),
-            _ => false,
-        },
-    }
-}
-
-/// The choice that a tree is read as.
-fn read_choice(alloc: Global, tree: &Tree) -> Result<Effect, NoMemory>
-    requires { fits_choice tree.now ≡ true }
-    ensures { IfOk result (λ effect. is_effect effect true tree.now ≡ true) }
-{
-    match tree {
-        Tree::Leaf(_, _) => unreachable!(),
-        Tree::Node(_, members) => match members.as_slice() {
-            [] => unreachable!(),
-            [_, after @ ..] => Ok(Effect::OneOf(read_effects(alloc, after)?)),
-        },
-    }
-}
-
-/// The whole effect that a tree is read as: a choice, or an effect without one.
-pub(crate) fn read_whole_effect(alloc: Global, tree: &Tree) -> Result<Effect, NoMemory>
-    requires { fits_whole_effect tree.now ≡ true }
-    ensures { IfOk result (λ effect. is_effect effect true tree.now ≡ true) }
-{
-    if is_choice(tree) {
-        read_choice(alloc, tree)
-    } else {
-        read_effect(alloc, tree)
+    match trees {
+        [first, tree] => {
+            let condition = read_condition(alloc, first)?;
+            let part = Box::new(alloc, read_effect(alloc, tree)?)?;
+            Ok((condition, part))
+        }
+        _ => unreachable!(),
     }
 }

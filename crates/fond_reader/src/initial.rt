@@ -1,15 +1,17 @@
 //! Reading initial atoms and declared predicates that have no fault.
 
-ghost use Rattle.fond_text.specs.Lists.{each_passes};
-ghost use Rattle.fond_reader.specs.CleanForms.{fits_atom, fits_initial};
+ghost use Rattle.fond_grammar.specs.Faults.{Fits};
+ghost use Rattle.fond_grammar.specs.declared.role.Role.TheVariants.{Initial as InitialRole, Predicate as PredicateRole};
+ghost use Rattle.fond_reader.specs.Bodies.{is_initial};
 ghost use Rattle.fond_reader.specs.Files.{is_declared};
-ghost use Rattle.fond_reader.specs.Forms.{is_initial};
-ghost use Rattle.std.specs.List.{list_all};
+ghost use Rattle.fond_text.specs.Lists.{each_passes};
+ghost use Rattle.std.specs.List.{AllByRecursion};
 ghost use Rattle.std.specs.Prelude.{◌≡◌, true, map, IfOk};
 
-use crate::atom::read_atom;
+use crate::atom::{read_atom, read_only_atom};
+use crate::node::{head_and_rest, read_leaf, word_of};
+use crate::typed::{Sort, read_typed};
 use fond_ast::files::{Declared, DeclaredList, InitAtom, InitAtoms};
-use fond_ast::names::TypedNames;
 use fond_grammar::leaves::is_word;
 use fond_text::fault::NoMemory;
 use fond_tree::tree::Tree;
@@ -17,30 +19,27 @@ use std::alloc::Global;
 
 /// The initial atom that a tree is read as.
 fn read_initial(alloc: Global, tree: &Tree) -> Result<InitAtom, NoMemory>
-    requires { fits_initial tree.now ≡ true }
+    requires { Fits InitialRole tree.now }
     ensures { IfOk result (λ initial. is_initial initial tree.now ≡ true) }
 {
-    let Tree::Node(_, members) = tree else {
-        unreachable!()
-    };
-    match members.as_slice() {
-        [Tree::Leaf(_, head), after @ ..] if is_word(head.bytes(), b"not") => match after {
-            [atom] => Ok(InitAtom {
-                positive: false,
-                atom: read_atom(alloc, atom)?,
-            }),
-            _ => unreachable!(),
-        },
-        _ => Ok(InitAtom {
-            positive: true,
-            atom: read_atom(alloc, tree)?,
-        }),
+    let (head, after) = head_and_rest(tree);
+    if is_word(word_of(head), b"not") {
+        let atom = read_only_atom(alloc, after)?;
+        return Ok(InitAtom {
+            positive: false,
+            atom,
+        });
     }
+    let atom = read_atom(alloc, tree)?;
+    Ok(InitAtom {
+        positive: true,
+        atom,
+    })
 }
 
 /// The initial atoms that trees are read as, one by one.
 pub(crate) fn read_initials(alloc: Global, trees: &[Tree]) -> Result<InitAtoms, NoMemory>
-    requires { list_all fits_initial trees.now ≡ true }
+    requires { AllByRecursion (Fits InitialRole) trees.now }
     ensures { IfOk result (λ init. each_passes (map is_initial init) trees.now ≡ true) }
 {
     let mut init = InitAtoms::new(alloc);
@@ -52,25 +51,22 @@ pub(crate) fn read_initials(alloc: Global, trees: &[Tree]) -> Result<InitAtoms, 
 
 /// The predicate that a tree is read as.
 fn read_predicate(alloc: Global, tree: &Tree) -> Result<Declared, NoMemory>
-    requires { fits_atom tree.now ≡ true }
+    requires { Fits PredicateRole tree.now }
     ensures { IfOk result (λ declared. is_declared declared tree.now ≡ true) }
 {
-    match tree {
-        Tree::Leaf(_, _) => unreachable!(),
-        Tree::Node(_, members) => match members.as_slice() {
-            [Tree::Leaf(place, name)] => Ok(Declared {
-                place: *place,
-                name: name.copy(alloc)?,
-                parameters: TypedNames::new(alloc),
-            }),
-            _ => unreachable!(),
-        },
-    }
+    let (head, after) = head_and_rest(tree);
+    let (place, name) = read_leaf(alloc, head)?;
+    let parameters = read_typed(alloc, Sort::Variables, after)?;
+    Ok(Declared {
+        place,
+        name,
+        parameters,
+    })
 }
 
 /// The predicates that trees are read as, one by one.
 pub(crate) fn read_predicates(alloc: Global, trees: &[Tree]) -> Result<DeclaredList, NoMemory>
-    requires { list_all fits_atom trees.now ≡ true }
+    requires { AllByRecursion (Fits PredicateRole) trees.now }
     ensures { IfOk result (λ predicates. each_passes (map is_declared predicates) trees.now ≡ true) }
 {
     let mut predicates = DeclaredList::new(alloc);

@@ -1,5 +1,6 @@
-//! From trees to declarations: the domain or the problem that a tree without a fault of form is read as. The crates
-//! above learn what was read, or the first fault. What names mean is left to them.
+//! From trees to declarations: the domain or the problem that a tree without a fault of form is read as. A tree is first
+//! checked against the grammar, and then read by functions that rely on that. The crates above learn what was read, or
+//! the first fault. What names mean is left to them.
 #![tactic(auto)]
 
 mod action;
@@ -9,5 +10,7 @@ pub mod domain;
 mod effect;
 mod initial;
 pub mod laws;
+mod node;
 pub mod problem;
 mod section;
+mod typed;

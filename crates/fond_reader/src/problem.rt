@@ -1,20 +1,22 @@
 //! Reading a tree as a problem.
 
-ghost use Rattle.fond_text.specs.Lists.{each_passes};
-ghost use Rattle.fond_reader.specs.CleanFiles.{sections_of as sections_of_file, IsCleanProblem};
-ghost use Rattle.fond_reader.specs.CleanForms.{fits_condition};
-ghost use Rattle.fond_grammar.specs.Faults.{StandsInProblem};
+ghost use Rattle.fond_grammar.specs.Faults.{Fits, StandsInProblem};
+ghost use Rattle.fond_grammar.specs.declared.role.Role.TheVariants.{Condition as ConditionRole, ProblemFile as ProblemRole};
+ghost use Rattle.fond_reader.specs.Bodies.{is_condition};
 ghost use Rattle.fond_reader.specs.Files.{IsProblemOf};
-ghost use Rattle.fond_reader.specs.Forms.{is_condition, is_only};
 ghost use Rattle.fond_text.specs.Faults.{IsClean, IsLeastIn, Refuses};
+ghost use Rattle.fond_text.specs.Lists.{each_passes};
+ghost use Rattle.fond_text.specs.declared.code.TheConstants.{LONGEST_TEXT};
 ghost use Rattle.fond_text.specs.declared.place.FileKind.TheVariants.{Problem as ProblemKind};
-ghost use Rattle.std.specs.Prelude.{◌≡◌, ◌∷◌, [], Some, true, IfOk, IfErr, OnOk};
+ghost use Rattle.fond_tree.specs.Spelling.{spelling};
+ghost use Rattle.std.specs.List.{AllZip};
+ghost use Rattle.std.specs.Prelude.{◌≡◌, ◌≤◌, ◌∷◌, [], true, length, IfOk, IfErr, OnOk};
 
 use crate::condition::read_condition;
 use crate::initial::read_initials;
 use crate::section::{contents_of, sections_of};
+use crate::typed::{Sort, read_typed};
 use fond_ast::files::Problem;
-use fond_ast::names::TypedNames;
 use fond_ast::syntax::Cond;
 use fond_grammar::fault::first_fault;
 use fond_grammar::role::Role;
@@ -25,7 +27,7 @@ use std::alloc::Global;
 
 /// The condition that the only one of these trees is read as.
 fn read_goal(alloc: Global, trees: &[Tree]) -> Result<Cond, NoMemory>
-    requires { is_only fits_condition (Some trees.now) ≡ true }
+    requires fit { AllZip Fits (ConditionRole ∷ []) trees.now }
     ensures { IfOk result (λ goal. each_passes (is_condition goal ∷ []) trees.now ≡ true) }
 {
     match trees {
@@ -36,23 +38,27 @@ fn read_goal(alloc: Global, trees: &[Tree]) -> Result<Cond, NoMemory>
 
 /// The problem that a tree without a fault is read as.
 fn problem_of(alloc: Global, tree: &Tree) -> Result<Problem, NoMemory>
-    requires { IsCleanProblem tree.now (sections_of_file tree.now) }
+    requires fits { Fits ProblemRole tree.now }
+    requires short { length (spelling tree.now) ≤ LONGEST_TEXT }
     ensures { IfOk result (IsProblemOf tree.now) }
 {
     let sections = sections_of(tree);
+    let objects = read_typed(alloc, Sort::Names, contents_of(sections, b":objects"))?;
     let init = read_initials(alloc, contents_of(sections, b":init"))?;
     let goal = read_goal(alloc, contents_of(sections, b":goal"))?;
     Ok(Problem {
         place: tree.place(),
-        objects: TypedNames::new(alloc),
+        objects,
         init,
         goal,
     })
 }
 
-/// The problem that a tree is read as. A tree with a fault is refused with the first one, F7 to F12 or F24
-/// (docs/FAULTS.md). Takes time and memory in the size of the tree.
+/// The problem that a tree is read as. A tree with a fault is refused with the first one, F7 to F12 (docs/FAULTS.md).
+/// Takes time and memory in the size of the tree, but for the types of an `either`, of which each variable that has
+/// them gets a copy.
 pub fn read_problem(alloc: Global, t: &Tree) -> Result<Problem, FrontError>
+    requires { length (spelling t.now) ≤ LONGEST_TEXT }
     ensures read { IfOk result (IsProblemOf t.now) }
     ensures clean { OnOk result (IsClean (StandsInProblem t.now)) }
     ensures refused { IfErr result (Refuses (IsLeastIn ProblemKind (StandsInProblem t.now))) }

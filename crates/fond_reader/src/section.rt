@@ -1,10 +1,8 @@
 //! The sections of a file that has no fault, by their heads.
 
-ghost use Rattle.fond_reader.specs.CleanFiles.{sections_of as sections_of_file};
-ghost use Rattle.fond_reader.specs.Files.{headed, content, contents};
 ghost use Rattle.fond_grammar.specs.Words.{has_head};
-ghost use Rattle.fond_grammar.specs.Words.{is_word as is_word_leaf};
-ghost use Rattle.fond_tree.specs.Trees.{leaf_of};
+ghost use Rattle.fond_reader.specs.Files.{headed, content, contents};
+ghost use Rattle.fond_reader.specs.Nodes.{sections_of as sections_of_file};
 ghost use Rattle.std.specs.Prelude.{◌≡◌, ◌≤◌, length};
 
 use fond_grammar::leaves::begins;

@@ -1,1 +1,4 @@
 pub mod First
+pub mod Linked
+pub mod SureTargets
+pub mod Earlier

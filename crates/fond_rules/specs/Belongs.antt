@@ -1,10 +1,15 @@
--- Rules that belong to a task.
-use Rattle.std.specs.Prelude.{◌<◌, List, All, length, ⊤}
+-- Rules and pairs that belong to a task.
+use Rattle.std.specs.Prelude.{◌≡◌, ℕ, ◌<◌, List, All, length, ⊤}
 use Rattle.fond_task.specs.declared.task.Task.{Task}
+use Rattle.fond_game.specs.declared.rule.Pair.{Pair}
 use Rattle.fond_game.specs.declared.rule.Rule.{Rule}
 use Rattle.fond_game.specs.declared.rule.Targets.{Targets}
 use Rattle.fond_game.specs.declared.rule.Targets.TheVariants.{One, All as Each}
 use Rattle.fond_rules.specs.Select.{AreOver}
+
+-- the conditions of all pairs are over this many atoms
+abbrev pub ArePairsOver : ℕ → List Pair → Type 0
+ArePairsOver atoms pairs = All (λ pair. length pair.cond ≡ atoms) pairs
 
 -- the task has the actions of all rules
 abbrev pub AreActsThere : Task → List Rule → Type 0

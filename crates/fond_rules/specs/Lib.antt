@@ -1,3 +1,5 @@
 pub mod Select
 pub mod Belongs
+pub mod Links
+pub mod Targets
 pub mod Laws

@@ -1,7 +1,13 @@
-//! Ordered lists of rules over partial states, and the rule that holds first in a state (Muise, McIlraith and Beck,
-//! Improved non-deterministic planning by exploiting state relevance, 2012). Rules that belong to a task can be
-//! stepped through its states; that is left to the crate above.
+//! Ordered lists of rules over partial states, forbidden pairs of a partial state and an action, and the rule that
+//! holds first in a state (Muise, McIlraith and Beck, Improved non-deterministic planning by exploiting state
+//! relevance, 2012). Rules and pairs are tested for being sure and lean. Stepping through the states of a task, and
+//! reading and writing certificates, are left to the crates above.
 #![tactic(auto)]
 
 pub mod laws;
+pub mod pad;
+pub mod pairs;
 pub mod rules;
+mod setting;
+pub mod sure_pairs;
+pub mod sure_rules;

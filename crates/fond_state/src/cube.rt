@@ -1,7 +1,7 @@
 //! Cubes: partial states, given by the literals that hold in them.
 
-ghost use Rattle.std.specs.Prelude.{◌≡◌, ◌<◌, ◌^◌, List, Bool, Option, Some, None, length, replicate, slice_set, IfOk};
-ghost use Rattle.fond_state.specs.Cubes.{literal_at, full_cube, without_literal, agrees, lies_in};
+ghost use Rattle.std.specs.Prelude.{◌≡◌, ◌<◌, ◌^◌, List, Bool, not, Option, Some, None, length, replicate, slice_set, Decides, IfOk};
+ghost use Rattle.fond_state.specs.Cubes.{literal_at, full_cube, without_literal, agrees, lies_in, CubeLiesIn, Contradicts};
 
 use crate::state::State;
 use fond_text::fault::NoMemory;
@@ -29,6 +29,26 @@ fn agrees_with(value: bool, known: Option<bool>) -> bool
     match known {
         Some(sign) => value == sign,
         None => true,
+    }
+}
+
+/// Whether an atom of which this is known has the literal, if there is one.
+fn has_literal(known: Option<bool>, literal: Option<bool>) -> bool
+    ensures { Decides result ((sign : Bool) → literal ≡ Some sign → known ≡ Some sign) }
+{
+    match literal {
+        Some(sign) => known == Some(sign),
+        None => true,
+    }
+}
+
+/// Whether there are two literals, of opposite signs.
+fn are_opposite(known: Option<bool>, other: Option<bool>) -> bool
+    ensures { Decides result ((sign : Bool) × (known ≡ Some sign) × (other ≡ Some (not sign))) }
+{
+    match (known, other) {
+        (Some(sign), Some(opposite)) => sign != opposite,
+        _ => false,
     }
 }
 
@@ -93,6 +113,41 @@ impl Cube {
         if (atom as usize) < self.literals.len() {
             self.literals[atom as usize] = None;
         }
+    }
+
+    /// Copies the literals of another cube over as many atoms. Takes no memory.
+    pub fn copy_from(&mut self, other: &Cube)
+        requires { length self.old ≡ length other.now }
+        ensures { self.new ≡ other.now }
+    {
+        self.literals.copy_from_slice(other.literals.as_slice());
+    }
+
+    /// Whether `d` lies in this cube: it has each literal of this one. Takes time in the number of atoms.
+    pub fn covers(&self, d: &Cube) -> bool
+        requires { length self.now ≡ length d.now }
+        ensures { Decides result (CubeLiesIn d.now self.now) }
+    {
+        for atom in 0..self.len() as u32 {
+            if !has_literal(d.literal(atom), self.literal(atom)) {
+                return false;
+            }
+        }
+        true
+    }
+
+    /// Whether the two cubes contradict each other: one has a literal of which the other has the opposite. Takes time
+    /// in the number of atoms.
+    pub fn contradicts(&self, d: &Cube) -> bool
+        requires { length self.now ≡ length d.now }
+        ensures { Decides result (Contradicts self.now d.now) }
+    {
+        for atom in 0..self.len() as u32 {
+            if are_opposite(self.literal(atom), d.literal(atom)) {
+                return true;
+            }
+        }
+        false
     }
 
     /// Whether all literals of the cube hold in the state. Takes time in the number of atoms.

@@ -1,10 +1,16 @@
 //! States: a truth value for each atom.
 
 ghost use Rattle.std.specs.Prelude.{◌≡◌, ◌<◌, ◌^◌, List, Bool, false, length, replicate, slice_set, IfOk};
+ghost use Rattle.std.specs.Cmp.{bool_eq_equiv, booleans_Decides, partial_equiv_from_equiv};
+ghost use Rattle.std.specs.Cmp.Lexicographic.{pointwise, lists_equiv};
+ghost use Rattle.std.specs.Hash as fed;
+ghost use Rattle.std.specs.Hash.{items_Alike, same_Alike};
+ghost use Rattle.std.specs.Bool.{beq};
 ghost use Rattle.fond_state.specs.Cubes.{truth_at};
 
 use fond_text::fault::NoMemory;
 use std::alloc::Global;
+use std::hash::{Hash, Hasher};
 use std::marker::Model;
 
 /// The truth values of all atoms.
@@ -78,5 +84,30 @@ impl State {
         ensures few { length self.now < 2 ^ 32 }
     {
         self.values.as_slice()
+    }
+}
+
+/// States are equal if they give each atom the same truth value.
+impl PartialEq for State {
+    ghost eq = { pointwise beq };
+
+    ghost laws = { partial_equiv_from_equiv (lists_equiv bool_eq_equiv) };
+
+    fn eq(&self, other: &State) -> bool {
+        self.values() == other.values()
+    }
+}
+
+impl Eq for State {
+    ghost laws = { lists_equiv bool_eq_equiv };
+}
+
+impl Hash for State {
+    ghost hash_input = { fed.slice fed.bool };
+
+    ghost respects_eq = { (items_Alike (same_Alike fed.bool booleans_Decides)).fed };
+
+    fn hash<H: Hasher>(&self, state: &mut H) {
+        self.values().hash(state);
     }
 }

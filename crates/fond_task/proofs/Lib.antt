@@ -5,3 +5,5 @@ pub mod Exact
 pub mod Forms
 pub mod Found
 pub mod Puts
+pub mod Images
+pub mod Folded

@@ -32,6 +32,16 @@ after_adds Unknown (Some true) = Some true
 after_adds Unknown (Some false) = None
 after_adds Yes known = Some true
 
+-- the greatest value, on the cube, of the conditions of the entries that add the atom, or of those that delete it
+abbrev pub changed_value : Bool → List (Option Bool) → List Entry → ℕ → Kleene
+changed_value true cube outcome atom = added_value cube outcome atom
+changed_value false cube outcome atom = deleted_value cube outcome atom
+
+-- what is known of an atom after the adds, or after the deletes
+abbrev pub after_changes : Bool → Kleene → Option Bool → Option Bool
+after_changes true greatest known = after_adds greatest known
+after_changes false greatest known = after_deletes greatest known
+
 -- the image of a cube under an outcome: the cube of what is known of each atom after its deletes and then its adds
 abbrev pub image : List (Option Bool) → List Entry → List (Option Bool)
 image cube outcome = by_index (λ atom known. after_adds (added_value cube outcome atom) (after_deletes (deleted_value cube outcome atom) known)) cube

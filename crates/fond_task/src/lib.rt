@@ -4,6 +4,7 @@
 #![tactic(auto)]
 
 pub mod form;
+pub mod image;
 pub mod laws;
 pub mod parts;
 pub mod step;
@@ -11,3 +12,4 @@ pub mod task;
 pub mod task_index;
 pub mod text;
 pub mod truth;
+pub mod value;

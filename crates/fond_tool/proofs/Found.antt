@@ -3,8 +3,8 @@ use Rattle.std.proofs.Common.{◌≡◌, ℕ, List, [], ◌∷◌, ◌++◌, ref
 use Rattle.std.specs.List.{flat_map}
 use Rattle.std.proofs.lemmas.Option.{slice_get_within, get_or_from_slice_get, slice_get-get_or}
 use Rattle.fond_text.specs.declared.place.Place.{Place}
-use Rattle.fond_ast.specs.declared.task.LSchema.{LSchema}
-use Rattle.fond_ast.specs.declared.task.LiftedTask.{LiftedTask}
+use Rattle.fond_plain.specs.declared.task.PlainSchema.{PlainSchema}
+use Rattle.fond_plain.specs.declared.task.PlainTask.{PlainTask}
 use Rattle.fond_tree.specs.declared.tree.Tree.{Tree}
 use Rattle.fond_tree.specs.Tokens.{Token, Opens, Closes, Names}
 use Rattle.fond_tree.specs.Spelling.{IsReadAs, spelling}
@@ -92,25 +92,25 @@ alone_spelled tree name e = from (cases_of tree)
         let inner = alone_tokens node.members name (sym (ap (λ some. name_alone (unwrap_or some [])) node.some) ∙ e) in
         record { place = node.place; other = inner.0; spelled = node.spelled ∙ ap (λ ts. Opens node.place ∷ ts) inner.1 }
 
-module _ (schemas : List LSchema) (action : Tree) where
+module _ (schemas : List PlainSchema) (action : Tree) where
   -- if the action is no name alone, it names no schema
-  pub none_named : name_alone (members_or_none action) ≡ None → (schema : LSchema) → Contains schemas schema → ¬ SpellName (spelling action) schema.name
+  pub none_named : name_alone (members_or_none action) ≡ None → (schema : PlainSchema) → Contains schemas schema → ¬ SpellName (spelling action) schema.name
   none_named none schema has names = let never : None ≡ Some schema.name = sym none ∙ spelled_alone action schema.name names in cc
 
   -- if no schema has the name, the action names none
-  pub none_found : (name : List ℕ) → name_alone (members_or_none action) ≡ Some name → ((number : ℕ) (schema : LSchema) → slice_get schemas number ≡ Some schema → ¬ schema.name ≡ name) →
-      (schema : LSchema) → Contains schemas schema → ¬ SpellName (spelling action) schema.name
+  pub none_found : (name : List ℕ) → name_alone (members_or_none action) ≡ Some name → ((number : ℕ) (schema : PlainSchema) → slice_get schemas number ≡ Some schema → ¬ schema.name ≡ name) →
+      (schema : PlainSchema) → Contains schemas schema → ¬ SpellName (spelling action) schema.name
   none_found name alone none schema has names =
       none has.0 schema (number_of schemas schema has) (some_is _ _ (sym (spelled_alone action schema.name names) ∙ alone))
 
   -- if a schema has the name, the action names it
-  pub found_named : (name : List ℕ) → name_alone (members_or_none action) ≡ Some name → (schema : LSchema) → schema.name ≡ name → SpellName (spelling action) schema.name
+  pub found_named : (name : List ℕ) → name_alone (members_or_none action) ≡ Some name → (schema : PlainSchema) → schema.name ≡ name → SpellName (spelling action) schema.name
   found_named name alone schema same = alone_spelled action schema.name (alone ∙ ap (λ n. Some n) (sym same))
 
 -- a schema that the tree of an action word names is named by the word
-pub found_by_word : (task : LiftedTask) (word : List ℕ) (action : Tree) → IsReadAs word action → (found : Option (Bor LSchema))
+pub found_by_word : (task : PlainTask) (word : List ℕ) (action : Tree) → IsReadAs word action → (found : Option (Bor PlainSchema))
     → IfSome found (λ schema. Contains task.schemas schema.now × SpellName (spelling action) schema.now.name)
-    → IfNone found ((schema : LSchema) → Contains task.schemas schema → ¬ SpellName (spelling action) schema.name)
+    → IfNone found ((schema : PlainSchema) → Contains task.schemas schema → ¬ SpellName (spelling action) schema.name)
     → MatchOption found (NamesNone task word) (λ schema. Contains task.schemas schema.now × NamesSchema word schema.now)
 found_by_word task word action read (Some schema) some none =
     (some.0, subst (λ (pieces : List Token). SpellName pieces schema.now.name) (sym read.spelled) some.1)

@@ -2,7 +2,7 @@
 use Rattle.std.specs.Prelude.{◌≡◌, ℕ, ◌==◌, ◌&&◌, not, Bool, true, false, is_some, unwrap_or, List, [], ◌∷◌, length, Option, Some, None}
 use Rattle.std.specs.List.{list_all}
 use Rattle.fond_text.specs.declared.place.Place.{Place}
-use Rattle.fond_ast.specs.declared.task.LSchema.{LSchema}
+use Rattle.fond_plain.specs.declared.task.PlainSchema.{PlainSchema}
 use Rattle.fond_tree.specs.declared.tree.Tree.{Tree}
 use Rattle.fond_tree.specs.Spelling.{IsReadAs}
 use Rattle.fond_tree.specs.Marks.{tokens}
@@ -38,5 +38,5 @@ pub record SpellName (pieces : List Token) (name : List ℕ) : Type 0 where
   pub spelled : pieces ≡ Opens place ∷ Names other name ∷ Closes ∷ []
 
 -- an action word names a schema: its tokens are the schema's name between parentheses
-abbrev pub NamesSchema : List ℕ → LSchema → Type 0
+abbrev pub NamesSchema : List ℕ → PlainSchema → Type 0
 NamesSchema action schema = SpellName (tokens action) schema.name

@@ -1,6 +1,6 @@
 //! The action word of a command line, and the schema that it names.
 
-ghost use Rattle.fond_ast.specs.declared.task.LSchema.{LSchema};
+ghost use Rattle.fond_plain.specs.declared.task.PlainSchema.{PlainSchema};
 ghost use Rattle.fond_tree.specs.Trees.{leaf_of};
 ghost use Rattle.fond_tool.specs.Actions.{IsAction, NamesSchema, SpellName, is_leaf_node, name_alone, members_or_none};
 ghost use Rattle.fond_tool.specs.Successors.{NamesNone};
@@ -9,7 +9,7 @@ ghost use Rattle.std.specs.List.{list_all};
 ghost use Rattle.std.specs.Option.{option_copied};
 ghost use Rattle.std.specs.Prelude.{◌≡◌, ℕ, true, is_some, Contains, Some, slice_get, IfOk, IfSome, IfNone, MatchOption};
 
-use fond_ast::task::{LSchema, LSchemas, LiftedTask};
+use fond_plain::task::{PlainSchema, PlainSchemas, PlainTask};
 use fond_text::fault::{FrontError, NoMemory};
 use fond_text::place::FileKind;
 use fond_text::word::Word;
@@ -71,9 +71,9 @@ fn schema_name(action: &Tree) -> Option<&[u8]>
 }
 
 /// The number of the schema of this name, if there is one.
-fn find_schema(schemas: &LSchemas, name: &[u8]) -> Option<usize>
-    ensures found { IfSome result (λ number. (schema : LSchema) × (slice_get schemas.now number ≡ Some schema) × (schema.name ≡ name.now)) }
-    ensures none { IfNone result ((number : ℕ) (schema : LSchema) → slice_get schemas.now number ≡ Some schema → ¬ schema.name ≡ name.now) }
+fn find_schema(schemas: &PlainSchemas, name: &[u8]) -> Option<usize>
+    ensures found { IfSome result (λ number. (schema : PlainSchema) × (slice_get schemas.now number ≡ Some schema) × (schema.name ≡ name.now)) }
+    ensures none { IfNone result ((number : ℕ) (schema : PlainSchema) → slice_get schemas.now number ≡ Some schema → ¬ schema.name ≡ name.now) }
 {
     for i in 0..schemas.len() {
         if schemas.get(i).name.bytes() == name {
@@ -84,9 +84,9 @@ fn find_schema(schemas: &LSchemas, name: &[u8]) -> Option<usize>
 }
 
 /// The schema that the tree of an action names, if there is one.
-fn find_named<'a>(task: &'a LiftedTask, action: &Tree) -> Option<&'a LSchema>
+fn find_named<'a>(task: &'a PlainTask, action: &Tree) -> Option<&'a PlainSchema>
     ensures found { IfSome result (λ schema. Contains task.now.schemas schema.now × SpellName (spelling action.now) schema.now.name) }
-    ensures none { IfNone result ((schema : LSchema) → Contains task.now.schemas schema → ¬ SpellName (spelling action.now) schema.name) }
+    ensures none { IfNone result ((schema : PlainSchema) → Contains task.now.schemas schema → ¬ SpellName (spelling action.now) schema.name) }
 {
     let number = find_schema(&task.schemas, schema_name(action)?)?;
     Some(task.schemas.get(number))
@@ -95,9 +95,9 @@ fn find_named<'a>(task: &'a LiftedTask, action: &Tree) -> Option<&'a LSchema>
 /// The schema that an action word names, if there is one.
 pub fn find_action<'a>(
     alloc: Global,
-    task: &'a LiftedTask,
+    task: &'a PlainTask,
     word: &Word,
-) -> Result<Option<&'a LSchema>, NoMemory>
+) -> Result<Option<&'a PlainSchema>, NoMemory>
     requires { IsAction word.now }
     ensures { IfOk result (λ found. MatchOption found (NamesNone task.now word.now) (λ schema. Contains task.now.schemas schema.now × NamesSchema word.now schema.now)) }
 {

@@ -1,7 +1,7 @@
 //! The command `succ`: the states to which an action may lead from the initial state.
 
-ghost use Rattle.fond_meaning.specs.Effects.{IsApplicable};
-ghost use Rattle.fond_meaning.specs.Successors.{initial};
+ghost use Rattle.fond_plain.specs.Effects.{IsApplicable};
+ghost use Rattle.fond_plain.specs.Successors.{initial};
 ghost use Rattle.fond_tool.specs.Actions.{IsAction};
 ghost use Rattle.fond_tool.specs.Rejections.{Rejects};
 ghost use Rattle.fond_tool.specs.Successors.{SuccReply, inapplicable_reply, successors_reply};
@@ -9,18 +9,18 @@ ghost use Rattle.std.specs.Prelude.{◌≡◌, ◌⊎◌, Contains, IfOk, IfErr}
 
 use crate::action::find_action;
 use crate::answer::{Answer, line};
+use crate::plain_task::read_plain;
 use crate::rejection::Rejection;
 use crate::status::Status;
-use fond_ast::task::{LSchema, LiftedTask};
-use fond_front::task::read_task;
 use fond_front::texts::TaskTexts;
 use fond_lifted::succ::{is_applicable, put_successors};
+use fond_plain::task::{PlainSchema, PlainTask};
 use fond_text::fault::NoMemory;
 use fond_text::word::Word;
 use std::alloc::Global;
 
 /// The successors of the initial state by a schema.
-fn successors(alloc: Global, task: &LiftedTask, schema: &LSchema) -> Result<Answer, NoMemory>
+fn successors(alloc: Global, task: &PlainTask, schema: &PlainSchema) -> Result<Answer, NoMemory>
     requires { Contains task.now.schemas schema.now }
     ensures { IfOk result (λ answer. ((¬ IsApplicable (initial task.now) schema.now) × (answer ≡ inapplicable_reply))
         ⊎ (IsApplicable (initial task.now) schema.now × (answer ≡ successors_reply task.now schema.now))) }
@@ -39,7 +39,7 @@ pub fn succ(alloc: Global, texts: &TaskTexts, action: &Word) -> Result<Answer, R
     ensures replied { IfOk result (SuccReply texts.now action.now) }
     ensures rejected { IfErr result (Rejects (SuccReply texts.now action.now)) }
 {
-    let task = read_task(alloc, texts)?;
+    let task = read_plain(alloc, texts)?;
     let Some(schema) = find_action(alloc, &task, action)? else {
         return Err(Rejection::UnknownAction);
     };

@@ -5,6 +5,7 @@ pub mod Faults
 pub mod Reading
 pub mod Trees
 pub mod Scanning
+pub mod Short
 pub mod Spelling
 pub mod Tokens
 pub mod Unique

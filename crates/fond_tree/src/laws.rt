@@ -1,6 +1,7 @@
 //! Laws of texts and trees.
 
 ghost use Rattle.fond_tree.specs.Alike.{EachTextSpellsOneTree};
+ghost use Rattle.fond_tree.specs.Short.{ReadTreesAreShort};
 ghost use Rattle.fond_tree.specs.Unique.{EachTextHasOneFault, NoTreeHasAFault};
 
 /// Two trees that one text spells are alike, place by place and leaf by leaf. So the tree that is read from a text is
@@ -18,4 +19,9 @@ pub fn no_tree_has_a_fault()
 /// only one.
 pub fn one_fault()
     ensures { EachTextHasOneFault }
+{}
+
+/// A tree that is read from a text has no more tokens than a text may have bytes.
+pub fn read_trees_are_short()
+    ensures { ReadTreesAreShort }
 {}

@@ -2,7 +2,7 @@ use Rattle.std.proofs.Common.{◌≡◌, length, [], drop, filter, sym, subst, a
 use Rattle.std.specs.List.{enumerate_from}
 use Rattle.std.proofs.lemmas.Grind.{common_steps}
 use Rattle.std.proofs.lemmas.List.{append-nil}
-use Rattle.fond_ast.specs.Within.{is_schema_fluent, is_schema_within}
+use Rattle.fond_plain.specs.Within.{is_schema_fluent, is_schema_within}
 use Rattle.fond_ground.proofs.Withins.{all_get}
 use Rattle.fond_ground.specs.Grounds.{is_kept, AreActsOf}
 use Rattle.fond_ground.proofs.Acts.{acts-more}

@@ -3,7 +3,7 @@ use Rattle.std.proofs.lemmas.Grind.{common_steps}
 use Rattle.std.proofs.lemmas.List.{append-nil}
 use Rattle.fond_text.specs.declared.atom.Atom.{Atom}
 use Rattle.std.specs.Prelude.{List}
-use Rattle.fond_meaning.specs.Successors.{atom_of_number}
+use Rattle.fond_plain.specs.Successors.{atom_of_number}
 use Rattle.fond_ground.specs.Numbers.{fluent_atoms}
 use Rattle.fond_ground.proofs.Atoms.{atoms-more, fluents, few_fluent}
 use Rattle.fond_ground.proofs.table.fluent_atoms.Goals as goal

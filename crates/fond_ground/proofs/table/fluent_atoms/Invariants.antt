@@ -1,5 +1,5 @@
 use Rattle.std.proofs.Common.{◌≡◌, ◌++◌, map, drop}
-use Rattle.fond_meaning.specs.Successors.{atom_of_number}
+use Rattle.fond_plain.specs.Successors.{atom_of_number}
 use Rattle.fond_ground.specs.Numbers.{fluent_atoms}
 use Rattle.fond_ground.proofs.Atoms.{fluents}
 use Rattle.fond_ground.proofs.table.fluent_atoms.Given as goal

@@ -1,4 +1,4 @@
-use Rattle.std.proofs.Common.{◌≡◌, ◌≤◌, ◌+◌, ◌*◌, ℕ, List, [], Some, length, slice_get, refl, sym, ap, ◌∙◌, subst, arith}
+use Rattle.std.proofs.Common.{◌≡◌, ◌+◌, ◌*◌, ℕ, List, [], refl, ap, ◌∙◌, subst, arith}
 use Rattle.fond_lookup.proofs.Firsts.{HasFirsts, has_all, has_more}
 use Rattle.fond_lookup.specs.Texts.{with_text}
 use Rattle.fond_kinds.specs.Kinds.{root, only_kind}
@@ -14,8 +14,8 @@ loop-i-init c =
 pub loop-i-preserved : goal.loop-i-preserved
 loop-i-preserved c =
     let first : HasFirsts (λ (name : List ℕ). name) (type_names c.args.types.now) c.put-in-loop-i.new.numbers (2 * c.loop-i.i + 1 + 1) =
-      has_more (λ (name : List ℕ). name) (type_names c.args.types.now) c.loop-i.numbers c.put-in-loop-i.new.numbers (2 * c.loop-i.i + 1) c.get-declared.result.now.name c.get-declared.result.now.name
-      (name_at c.args.types.now c.loop-i.i c.get-declared.result.now c.get-declared.ensures) refl (c.in_ok-put-2.ensures ∙ ap (λ z. with_text c.loop-i.numbers z (2 * c.loop-i.i + 1)) c.bytes.ensures.value) c.loop-i.invariant in
+    has_more (λ (name : List ℕ). name) (type_names c.args.types.now) c.loop-i.numbers c.put-in-loop-i.new.numbers (2 * c.loop-i.i + 1) c.get-declared.result.now.name c.get-declared.result.now.name
+    (name_at c.args.types.now c.loop-i.i c.get-declared.result.now c.get-declared.ensures) refl (c.in_ok-put-2.ensures ∙ ap (λ z. with_text c.loop-i.numbers z (2 * c.loop-i.i + 1)) c.bytes.ensures.value) c.loop-i.invariant in
     let number : 2 * c.loop-i.i + 2 ≡ 2 * c.loop-i.i + 1 + 1 = omega arith in
     let next : 2 * c.loop-i.i + 1 + 1 + 1 ≡ 2 * (c.loop-i.i + 1) + 1 = omega arith in
     subst (λ z. HasFirsts (λ (name : List ℕ). name) (type_names c.args.types.now) c.put-in-loop-i-2.new.numbers z) next

@@ -1,7 +1,7 @@
 use Rattle.std.proofs.Common.{map}
 use Rattle.fond_oneof.specs.Changes.{change_of}
 use Rattle.fond_lifted.specs.Values.{state_of, distinct_values}
-use Rattle.fond_meaning.specs.Effects.{after}
+use Rattle.fond_plain.specs.Effects.{after}
 use Rattle.std.proofs.Common.{length}
 use Rattle.fond_lifted.proofs.Told.{distinct-more}
 use Rattle.fond_lifted.proofs.succ.distinct_states.Goals as goal

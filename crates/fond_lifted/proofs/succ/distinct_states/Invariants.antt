@@ -2,7 +2,7 @@ use Rattle.std.proofs.Common.{◌≡◌, map, drop, length}
 use Rattle.std.specs.List.{fold}
 use Rattle.fond_oneof.specs.Changes.{change_of}
 use Rattle.fond_lifted.specs.Values.{state_of, values_of, add_values, distinct_values}
-use Rattle.fond_meaning.specs.Effects.{after}
+use Rattle.fond_plain.specs.Effects.{after}
 use Rattle.fond_lifted.proofs.succ.distinct_states.Given as goal
 
 abbrev pub invariant-loop-outcome : goal.invariant-loop-outcome

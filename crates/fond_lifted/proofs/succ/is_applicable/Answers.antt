@@ -1,5 +1,5 @@
 use Rattle.std.proofs.Common.{◌∙◌, ap}
-use Rattle.fond_meaning.specs.Conditions.{holds}
+use Rattle.fond_plain.specs.Conditions.{holds}
 use Rattle.fond_lifted.specs.Values.{state_of}
 use Rattle.fond_lifted.proofs.Told.{state-initial}
 use Rattle.fond_lifted.proofs.succ.is_applicable.Goals as goal

@@ -1,7 +1,7 @@
 use Rattle.std.proofs.Common.{◌≡◌, ◌++◌, [], drop}
 use Rattle.std.specs.Prelude.{◌&&◌, if◌then◌else◌}
 use Rattle.std.specs.List.{flat_map, enumerate_from}
-use Rattle.fond_meaning.specs.Successors.{atom_of_number}
+use Rattle.fond_plain.specs.Successors.{atom_of_number}
 use Rattle.fond_lifted.specs.Lists.{Grew}
 use Rattle.fond_lifted.specs.Texts.{atom_line}
 use Rattle.fond_lifted.specs.Values.{state_of}

@@ -1,7 +1,7 @@
 use Rattle.std.proofs.Common.{◌≡◌, ◌&&◌, ◌||◌, map, drop}
 use Rattle.std.specs.List.{list_all, list_any}
 use Rattle.fond_lifted.specs.Values.{state_of}
-use Rattle.fond_meaning.specs.Conditions.{holds}
+use Rattle.fond_plain.specs.Conditions.{holds}
 use Rattle.fond_lifted.proofs.values.+truth.Given as goal
 
 abbrev pub invariant-are_all_true-loop-part : goal.invariant-are_all_true-loop-part

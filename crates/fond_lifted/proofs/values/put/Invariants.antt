@@ -1,7 +1,7 @@
 use Rattle.std.proofs.Common.{◌≡◌, ℕ, ◌<◌, false, length, drop, slice_index_or}
 use Rattle.std.specs.Prelude.{if◌then◌else◌}
 use Rattle.fond_oneof.specs.Changes.{atoms_with}
-use Rattle.fond_meaning.specs.Successors.{atom_of_number}
+use Rattle.fond_plain.specs.Successors.{atom_of_number}
 use Rattle.fond_lifted.proofs.values.put.Given as goal
 
 abbrev pub invariant-loop-literal : goal.invariant-loop-literal

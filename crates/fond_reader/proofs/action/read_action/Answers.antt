@@ -1,15 +1,26 @@
-use Rattle.std.proofs.Common.{◌≡◌, Some, List, ◌∷◌, length, ◌∙◌, ◌-◌, sym, take, drop}
-use Rattle.fond_tree.specs.declared.tree.Tree.{Tree}
-use Rattle.fond_reader.specs.Files.{IsSchemaOf, but_first}
-use Rattle.fond_tree.specs.Trees.{members_of}
-use Rattle.fond_reader.proofs.ReadLists.{first_and_rest}
-use Rattle.fond_reader.proofs.ReadSchemas.{with_head}
-use Rattle.fond_reader.proofs.ReadValues.{if_ok}
+use Rattle.fond_grammar.proofs.FittingActions.{action_there}
+use Rattle.fond_reader.specs.Files.{IsSchemaOf}
+use Rattle.fond_reader.proofs.Actions.{after_some, name_fits_here, pairs_fit_here, whole_here}
+use Rattle.fond_reader.proofs.Through.{if_ok}
 use Rattle.fond_reader.proofs.action.read_action.Goals as goal
+
+pub unreachable-requires : goal.unreachable-requires
+unreachable-requires c =
+    let action = action_there c.args.section.now c.requires.fits c.requires.headed in
+    after_some c.args.section.now action _ c.after.ensures c.in-empty.len_below
+
+pub schema_of-requires-clause-named : goal.schema_of-requires-clause-named
+schema_of-requires-clause-named c =
+    let action = action_there c.args.section.now c.requires.fits c.requires.headed in
+    name_fits_here c.args.section.now action _ c.after.ensures _ c.in-len1-up.len_at_least c.name-item.is
+
+pub schema_of-requires-clause-pairs : goal.schema_of-requires-clause-pairs
+schema_of-requires-clause-pairs c =
+    let action = action_there c.args.section.now c.requires.fits c.requires.headed in
+    pairs_fit_here c.args.section.now action _ c.after.ensures _ c.in-len1-up.len_at_least c.name-item.is
 
 pub returns : goal.returns
 returns c =
-    let pairs : List Tree = take (length c.after.result.now - 1) (drop 1 c.after.result.now) in
-    let split : but_first (members_of c.args.section.now) ≡ c.name-item.result ∷ pairs = sym c.after.ensures ∙ first_and_rest c.after.result.now c.name-item.result c.in-len1-up.len_at_least c.name-item.is in
-    let whole : (head : Tree) × (members_of c.args.section.now ≡ Some (head ∷ c.name-item.result ∷ pairs)) = with_head (members_of c.args.section.now) c.name-item.result pairs split in
-    if_ok _ (IsSchemaOf c.args.section.now) c.schema_of.result (λ schema read. read c.args.section.now whole.0 whole.1) c.schema_of.ensures
+    let action = action_there c.args.section.now c.requires.fits c.requires.headed in
+    let whole = whole_here c.args.section.now action _ c.after.ensures _ c.in-len1-up.len_at_least c.name-item.is in
+    if_ok _ (IsSchemaOf c.args.section.now) c.schema_of.result (λ schema read. read c.args.section.now action.head whole) c.schema_of.ensures

@@ -1,13 +1,26 @@
-use Rattle.std.proofs.Common.{◌≡◌, true, map, take, drop}
-use Rattle.std.specs.List.{list_all}
-use Rattle.fond_text.specs.Lists.{each_passes}
-use Rattle.fond_reader.specs.CleanForms.{seen_condition}
-use Rattle.fond_reader.specs.Forms.{is_condition}
+use Rattle.std.proofs.Common.{◌+◌, ◌*◌, drop}
+use Rattle.fond_grammar.specs.declared.role.Role.TheVariants.{Condition}
+use Rattle.fond_grammar.specs.Faults.{Fits}
+use Rattle.fond_reader.specs.Bodies.{is_condition}
+use Rattle.fond_reader.proofs.Through.{Through}
+use Rattle.fond_reader.proofs.Weights.{weight, weights}
 use Rattle.fond_reader.proofs.condition.+condition.Given as goal
 
--- the trees so far were read, and those that are left have no fault
+abbrev pub decreases-read_condition : goal.decreases-read_condition
+decreases-read_condition l = 2 * weight l.tree.now
+
+abbrev pub decreases-read_conditions : goal.decreases-read_conditions
+decreases-read_conditions l = 2 * weights l.trees.now + 1
+
+abbrev pub decreases-read_only : goal.decreases-read_only
+decreases-read_only l = 2 * weights l.trees.now + 1
+
+abbrev pub decreases-read_both : goal.decreases-read_both
+decreases-read_both l = 2 * weights l.trees.now + 1
+
+abbrev pub decreases-read_quantified : goal.decreases-read_quantified
+decreases-read_quantified l = 2 * weights l.trees.now + 1
+
+-- the conditions so far were read, and the trees that are left fit
 abbrev pub invariant-read_conditions-loop-tree : goal.invariant-read_conditions-loop-tree
-invariant-read_conditions-loop-tree l = record {
-  read : each_passes (map is_condition l.parts.items) (take l.tree-index l.trees) ≡ true;
-  clean : list_all (λ seen. seen.fits) (map seen_condition (drop l.tree-index l.trees)) ≡ true;
-}
+invariant-read_conditions-loop-tree l = Through is_condition (Fits Condition) l.trees (drop l.tree-index l.trees) l.parts.items

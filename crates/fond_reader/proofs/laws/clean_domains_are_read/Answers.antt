@@ -1,6 +1,6 @@
-use Rattle.fond_reader.proofs.LawBuiltFiles.{clean_domain_is_read}
-use Rattle.fond_reader.proofs.LawFiles.{read_domain_is_clean}
+use Rattle.fond_reader.proofs.BuiltFiles.{domain_built}
+use Rattle.fond_reader.proofs.ReadFiles.{domain_fits}
 use Rattle.fond_reader.proofs.laws.clean_domains_are_read.Goals as goal
 
 pub returns : goal.returns
-returns c = λ tree. (clean_domain_is_read tree, read_domain_is_clean tree)
+returns c = λ tree short. (λ fits. domain_built tree short fits, λ read. domain_fits tree read.0 read.1)

@@ -1,6 +1,6 @@
-use Rattle.fond_reader.proofs.LawBuiltFiles.{clean_problem_is_read}
-use Rattle.fond_reader.proofs.LawFiles.{read_problem_is_clean}
+use Rattle.fond_reader.proofs.BuiltFiles.{problem_built}
+use Rattle.fond_reader.proofs.ReadFiles.{problem_fits}
 use Rattle.fond_reader.proofs.laws.clean_problems_are_read.Goals as goal
 
 pub returns : goal.returns
-returns c = λ tree. (clean_problem_is_read tree, read_problem_is_clean tree)
+returns c = λ tree short. (λ fits. problem_built tree short fits, λ read. problem_fits tree read.0 read.1)

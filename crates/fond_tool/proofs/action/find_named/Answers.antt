@@ -1,6 +1,6 @@
 use Rattle.std.proofs.Common.{◌≡◌, ◌∙◌, ap, sym}
 use Rattle.std.proofs.lemmas.Option.{slice_get_within}
-use Rattle.fond_ast.specs.declared.task.LSchema.{LSchema}
+use Rattle.fond_plain.specs.declared.task.PlainSchema.{PlainSchema}
 use Rattle.fond_tool.proofs.Found.{contains_at, found_named, none_found, some_is}
 use Rattle.fond_tool.proofs.action.find_named.Goals as goal
 
@@ -20,5 +20,5 @@ returns-clause-found c =
     let schemas = c.args.task.now.schemas in
     let schema = c.get.result.now in
     let name = c.in_ok-schema_name.field-0.now in
-    let same : schema.name ≡ name = ap (λ (s : LSchema). s.name) (some_is _ _ (sym c.get.ensures ∙ found.1)) ∙ found.2 in
+    let same : schema.name ≡ name = ap (λ (s : PlainSchema). s.name) (some_is _ _ (sym c.get.ensures ∙ found.1)) ∙ found.2 in
     (contains_at schemas c.in_ok-number.number schema c.get.ensures, found_named schemas c.args.action.now name (sym c.in_ok-schema_name.ensures) schema same)

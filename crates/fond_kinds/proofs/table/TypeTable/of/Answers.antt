@@ -1,13 +1,13 @@
-use Rattle.std.proofs.Common.{◌≡◌, ◌<◌, ◌≤◌, ◌+◌, ◌*◌, ℕ, List, Option, Some, None, length, refl, sym, ap, ◌∙◌, subst, arith}
-use Rattle.std.specs.Prelude.{option_and_then, slice_get, slice_index_or}
-use Rattle.fond_kinds.specs.Kinds.{type_of}
+use Rattle.std.proofs.Common.{◌≡◌, ◌≤◌, ◌+◌, ◌*◌, ℕ, List, Some, None, length, sym, ap, ◌∙◌, subst, arith}
+use Rattle.std.specs.Prelude.{position, slice_index_or}
+use Rattle.fond_kinds.specs.Kinds.{declares}
 use Rattle.fond_kinds.specs.Tables.{number_of, type_names}
 use Rattle.fond_kinds.proofs.Numbers.{names_long}
 use Rattle.fond_kinds.proofs.table.TypeTable.of.Goals as goal
 
 pub parents_of-requires-clause-declared : goal.parents_of-requires-clause-declared
 parents_of-requires-clause-declared c =
-    subst (λ z. (name : List ℕ) (number : ℕ) → number_of c.args.types.now name ≡ Some number → option_and_then (λ at. slice_get c.args.types.now at) (slice_index_or z number None) ≡ type_of c.args.types.now name)
+    subst (λ z. (name : List ℕ) (number : ℕ) → number_of c.args.types.now name ≡ Some number → slice_index_or z number None ≡ position (declares name) c.args.types.now)
     (sym c.deref.ensures.value) c.in_ok-firsts.ensures.declared
 
 pub of-requires-clause-few : goal.of-requires-clause-few
@@ -18,3 +18,6 @@ of-requires-clause-few c =
     let four : length (type_names c.args.types.now) ≡ 2 * length c.args.types.now + 1 = names_long c.args.types.now in
     let few : length c.args.types.now ≤ 16777216 = c.requires in
     omega arith
+
+pub parents_of-requires-clause-over : goal.parents_of-requires-clause-over
+parents_of-requires-clause-over c = ap length c.deref.ensures.value ∙ c.in_ok-firsts.ensures.over

@@ -1,0 +1,51 @@
+use Rattle.std.proofs.Common.{List, subst, refl, arith, Decides}
+use Rattle.std.specs.Prelude.{Contains}
+use Rattle.std.proofs.lemmas.Bool.{false≢true}
+use Rattle.fond_task.specs.declared.task.Entry.{Entry}
+use Rattle.fond_task.specs.Images.{image}
+use Rattle.fond_game.specs.Layers.{CubeView, Leads, LiesInLayer}
+use Rattle.fond_layers.specs.Leads.{LiesInSome}
+use Rattle.fond_layers.proofs.Tried.{read_Contains, all_more, some_more, each_more}
+use Rattle.fond_layers.proofs.Forced.{forced_by_some, forced_by_each, forced_earlier}
+use Rattle.fond_layers.proofs.force.forces.Goals as goal
+
+pub returns-then-lies_in_some-clause-decides : goal.returns-then-lies_in_some-clause-decides
+returns-then-lies_in_some-clause-decides c =
+    let outcome = c.outcome-item.result in
+    let items = c.as_slice-outcome-items.result.now in
+    let P : List (List Entry) → Type 0 = λ os. Contains os outcome in
+    let Q : CubeView → Type 0 = λ cube. LiesInSome cube c.args.earlier.now in
+    let has = subst P c.as_slice-outcome-items.ensures (read_Contains items c.loop-outcome.outcome-index outcome c.loop-outcome-test.true c.outcome-item.is) in
+    let lies = subst Q c.image_of.ensures.image (c.if-lies_in_some.ensures.0 refl) in
+    (λ e. forced_earlier c.args.earlier.now c.args.layer.now c.args.cube.now c.args.act.now outcome has lies, λ forced. refl)
+
+pub loop-outcome-preserved : goal.loop-outcome-preserved
+loop-outcome-preserved c =
+    let cube = c.args.cube.now in
+    let earlier = c.args.earlier.now in
+    let layer = c.args.layer.now in
+    let items = c.as_slice-outcome-items.result.now in
+    let i = c.loop-outcome.outcome-index in
+    let outcome = c.outcome-item.result in
+    let Misses : List Entry → Type 0 = λ outcome. ¬ LiesInSome (image cube outcome) earlier in
+    let InLayer : List Entry → Type 0 = λ outcome. Leads cube outcome layer in
+    let Q : CubeView → Type 0 = λ cube. Decides c.lies_in_layer-leads.result (LiesInLayer cube layer) in
+    let R : CubeView → Type 0 = λ cube. ¬ LiesInSome cube earlier in
+    let tested = subst Q c.image_of.ensures.image c.lies_in_layer-leads.ensures in
+    let missed = subst R c.image_of.ensures.image (λ lies. false≢true (c.if-lies_in_some.ensures.1 lies)) in
+    record {
+      long = c.image_of.ensures.same_length;
+      misses = all_more items Misses i outcome c.loop-outcome-test.true c.outcome-item.is missed c.loop-outcome.invariant.misses;
+      some_tried = some_more items InLayer i outcome c.loop-outcome-test.true c.outcome-item.is c.loop-outcome.some_leads c.lies_in_layer-leads.result tested c.loop-outcome.invariant.some_tried;
+      each_tried = each_more items InLayer i outcome c.loop-outcome-test.true c.outcome-item.is c.loop-outcome.each_leads c.lies_in_layer-leads.result tested c.loop-outcome.invariant.each_tried;
+    }
+
+pub returns-then-act-clause-decides : goal.returns-then-act-clause-decides
+returns-then-act-clause-decides c =
+    forced_by_some c.args.earlier.now c.args.layer.now c.args.cube.now c.args.act.now c.as_slice-outcome-items.result.now c.as_slice-outcome-items.ensures
+    c.loop-outcome.outcome-index c.loop-outcome.auto.outcome-index-end (omega arith) c.loop-outcome.invariant.misses c.loop-outcome.some_leads c.if-act.true c.loop-outcome.invariant.some_tried
+
+pub returns-else-act-clause-decides : goal.returns-else-act-clause-decides
+returns-else-act-clause-decides c =
+    forced_by_each c.args.earlier.now c.args.layer.now c.args.cube.now c.args.act.now c.as_slice-outcome-items.result.now c.as_slice-outcome-items.ensures
+    c.loop-outcome.outcome-index c.loop-outcome.auto.outcome-index-end (omega arith) c.loop-outcome.invariant.misses c.loop-outcome.each_leads c.if-act.false c.loop-outcome.invariant.each_tried

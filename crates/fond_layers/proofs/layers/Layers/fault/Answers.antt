@@ -1,0 +1,15 @@
+use Rattle.std.proofs.Common.{◌≡◌, ◌∙◌, List, take, ap, subst}
+use Rattle.std.specs.Prelude.{MatchOption}
+use Rattle.fond_game.specs.Layers.{CubeView, IsSureLayer}
+use Rattle.fond_game.proofs.Lists.{same_numbered}
+use Rattle.fond_layers.specs.Faults.{IsSpot}
+use Rattle.fond_layers.proofs.layers.Layers.fault.Goals as goal
+
+pub returns-clause-spot : goal.returns-clause-spot
+returns-clause-spot c = λ layer at.
+    let task = c.args.t.now in
+    let layers = c.args.self.now in
+    let own : c.get.result.now ≡ layer = same_numbered layers c.args.at c.get.result.now layer c.get.ensures.layer at in
+    let P : List CubeView → Type 0 = λ layer. MatchOption c.spot.result (IsSureLayer task (take c.args.at layers) layer) (IsSpot task (take c.args.at layers) layer) in
+    let Q : List (List CubeView) → Type 0 = λ earlier. MatchOption c.spot.result (IsSureLayer task earlier c.get.result.now) (IsSpot task earlier c.get.result.now) in
+    subst P own (subst Q (ap (take c.args.at) (c.deref.ensures.value ∙ c.self.view_is)) c.spot.ensures.spot)

@@ -1,0 +1,4 @@
+pub mod Over
+pub mod Leads
+pub mod Deads
+pub mod Faults

@@ -1,0 +1,68 @@
+//! Whether an action leads from a cube into a layer or an earlier one.
+
+ghost use Rattle.fond_game.specs.Layers.{LiesInLayer, Forces};
+ghost use Rattle.fond_layers.specs.Over.{IsOver, AreOver};
+ghost use Rattle.fond_layers.specs.Leads.{LiesInSome};
+ghost use Rattle.fond_task.specs.Within.{is_act_within};
+ghost use Rattle.std.specs.Prelude.{◌≡◌, length, Decides, IsTrue};
+
+use crate::layers::Layer;
+use fond_state::cube::Cube;
+use fond_task::image::image_of;
+use fond_task::task::Act;
+
+/// Whether the cube lies in one of the layer's cubes. Takes time in their number times that of the atoms.
+fn lies_in_layer(cube: &Cube, layer: &Layer) -> bool
+    requires { IsOver (length cube.now) layer.now }
+    ensures { Decides result (LiesInLayer cube.now layer.now) }
+{
+    for other in layer.as_slice() {
+        if other.covers(cube) {
+            return true;
+        }
+    }
+    false
+}
+
+/// Whether the cube lies in a cube of one of the layers.
+fn lies_in_some(cube: &Cube, layers: &[Layer]) -> bool
+    requires { AreOver (length cube.now) layers.now }
+    ensures { Decides result (LiesInSome cube.now layers.now) }
+{
+    for layer in layers {
+        if lies_in_layer(cube, layer) {
+            return true;
+        }
+    }
+    false
+}
+
+/// Whether taking the action in the cube may lead into the layer again or into an earlier one. Computes the image under
+/// each outcome once, in `image`.
+pub(crate) fn forces(
+    earlier: &[Layer],
+    layer: &Layer,
+    cube: &Cube,
+    act: &Act,
+    image: &mut Cube,
+) -> bool
+    requires within { IsTrue (is_act_within (length cube.now) act.now) }
+    requires earlier_over { AreOver (length cube.now) earlier.now }
+    requires layer_over { IsOver (length cube.now) layer.now }
+    requires long { length image.old ≡ length cube.now }
+    ensures same_length { length image.new ≡ length image.old }
+    ensures decides { Decides result (Forces earlier.now layer.now cube.now act.now) }
+{
+    let mut some_leads = false;
+    let mut each_leads = true;
+    for outcome in act.outcomes.as_slice() {
+        image_of(cube, outcome, image);
+        if lies_in_some(image, earlier) {
+            return true;
+        }
+        let leads = lies_in_layer(image, layer);
+        some_leads |= leads;
+        each_leads &= leads;
+    }
+    if act.unfair { some_leads } else { each_leads }
+}

@@ -1,0 +1,165 @@
+//! Lists of layers.
+
+ghost use Rattle.fond_game.specs.Certificates.{LiesInLayers};
+ghost use Rattle.fond_game.specs.Layers.{CubeView, IsSureLayer, AreSureLayers};
+ghost use Rattle.fond_layers.specs.Deads.{IsFirstCube, IsFirstDead};
+ghost use Rattle.fond_layers.specs.Faults.{IsSpot, IsLayerFault};
+ghost use Rattle.fond_layers.specs.Over.{IsOver, AreOver};
+ghost use Rattle.fond_state.specs.Cubes.{LiesIn};
+ghost use Rattle.std.specs.Prelude.{◌≡◌, ◌<◌, ◌-◌, ◌^◌, List, [], ◌∷◌, ◌++◌, length, take, slice_get, Some, Contains, Decides, MatchOption, IfErr, OnOk, OnErr};
+
+use crate::fault::{LayerFault, Spot};
+use crate::sure::spot;
+use fond_state::cube::Cube;
+use fond_state::state::State;
+use fond_task::task::Task;
+use fond_text::fault::NoMemory;
+use fond_text::list::List;
+use std::alloc::Global;
+use std::marker::Model;
+
+/// The cubes of a layer, in order.
+pub type Layer = List<Cube>;
+
+/// Fewer than 2^32 layers, each of fewer than 2^32 cubes, in order. Contracts see them as the list of the lists of their
+/// cubes.
+#[derive(Drop)]
+pub struct Layers {
+    items: Vec<Layer>,
+}
+
+impl Model for Layers {
+    ghost use Rattle.fond_game.specs.Layers.{CubeView};
+    ghost use Rattle.std.specs.Prelude.{List, ◌<◌, ◌^◌, All, length};
+
+    ghost Value = { List (List CubeView) };
+
+    ghost view = { λ l. l.items.items };
+
+    ghost invariant = { λ l. (length l.items.items < 2 ^ 32) × All (λ layer. length layer < 2 ^ 32) l.items.items };
+}
+
+/// Whether the cubes of the layer are over this many atoms. Takes time in their number.
+pub fn is_over(layer: &Layer, atoms: usize) -> bool
+    ensures { Decides result (IsOver atoms layer.now) }
+{
+    for cube in layer.as_slice() {
+        if cube.len() != atoms {
+            return false;
+        }
+    }
+    true
+}
+
+/// The number of the layer's first cube in which the state lies, if there is one.
+fn first_cube(layer: &Layer, s: &State) -> Option<u32>
+    requires few { length layer.now < 2 ^ 32 }
+    requires over { IsOver (length s.now) layer.now }
+    ensures { MatchOption result ((cube : CubeView) → Contains layer.now cube → ¬ LiesIn s.now cube) (IsFirstCube s.now layer.now) }
+{
+    for (number, cube) in layer.as_slice().iter().enumerate() {
+        if cube.holds(s) {
+            return Some(number as u32);
+        }
+    }
+    None
+}
+
+impl Layers {
+    /// A list of no layers. It takes no memory until a layer is added.
+    pub fn new(alloc: Global) -> Layers
+        ensures { result ≡ [] }
+    {
+        Layers {
+            items: Vec::new(alloc),
+        }
+    }
+
+    /// The number of layers.
+    pub fn len(&self) -> u32
+        ensures { result ≡ length self.now }
+    {
+        self.items.len() as u32
+    }
+
+    /// The layer of this number.
+    pub fn get(&self, i: u32) -> &Layer
+        requires { i < length self.now }
+        ensures layer { slice_get self.now i ≡ Some result.now }
+        ensures few { length result.now < 2 ^ 32 }
+    {
+        &self.items[i as usize]
+    }
+
+    /// Appends a layer, which may be any.
+    pub fn add_raw(&mut self, l: Layer) -> Result<(), NoMemory>
+        requires few_layers { length self.old < 2 ^ 32 - 1 }
+        requires few_cubes { length l < 2 ^ 32 }
+        ensures ok { OnOk result (self.new ≡ self.old ++ l ∷ []) }
+        ensures err { OnErr result (self.new ≡ self.old) }
+    {
+        self.items.push(l)?;
+        Ok(())
+    }
+
+    /// Whether the cubes of all layers are over this many atoms. Takes time in their number.
+    pub fn are_over(&self, atoms: usize) -> bool
+        ensures { Decides result (AreOver atoms self.now) }
+    {
+        for layer in self.items.as_slice() {
+            if !is_over(layer, atoms) {
+                return false;
+            }
+        }
+        true
+    }
+
+    /// The numbers of the first layer with a cube in which the state lies, and of the first such cube of it. Takes time
+    /// in the number of cubes times that of the atoms.
+    pub fn dead(&self, s: &State) -> Option<(u32, u32)>
+        requires { AreOver (length s.now) self.now }
+        ensures { MatchOption result (¬ LiesInLayers s.now self.now) (λ r. IsFirstDead s.now self.now r.0 r.1) }
+    {
+        for (number, layer) in self.items.as_slice().iter().enumerate() {
+            if let Some(cube) = first_cube(layer, s) {
+                return Some((number as u32, cube));
+            }
+        }
+        None
+    }
+
+    /// What is wrong with the layer of this number, if it is not sure above those before it: the first cube that is not
+    /// sure, and whether that is for the goal or, if not, for which first action. Takes, for each cube, time in the size
+    /// of the goal and the preconditions, and for each outcome of an action that may be applicable, time in its size and
+    /// in that of the layers. `image` is overwritten.
+    pub fn fault(&self, t: &Task, at: u32, image: &mut Cube) -> Option<Spot>
+        requires there { at < length self.now }
+        requires over { AreOver (length t.now.atoms) self.now }
+        requires long { length image.old ≡ length t.now.atoms }
+        ensures same_length { length image.new ≡ length image.old }
+        ensures spot { (layer : List CubeView) → slice_get self.now at ≡ Some layer →
+            MatchOption result (IsSureLayer t.now (take at self.now) layer) (IsSpot t.now (take at self.now) layer) }
+    {
+        spot(t, &self.items[..at as usize], self.get(at), image)
+    }
+
+    /// Appends a layer that is sure above those that are there. Takes the time of `fault`. `image` is overwritten.
+    pub fn push(&mut self, t: &Task, l: Layer, image: &mut Cube) -> Result<(), LayerFault>
+        requires few_layers { length self.old < 2 ^ 32 - 1 }
+        requires few_cubes { length l < 2 ^ 32 }
+        requires over { AreOver (length t.now.atoms) self.old }
+        requires layer_over { IsOver (length t.now.atoms) l }
+        requires long { length image.old ≡ length t.now.atoms }
+        ensures same_length { length image.new ≡ length image.old }
+        ensures ok { OnOk result ((self.new ≡ self.old ++ l ∷ []) × IsSureLayer t.now self.old l) }
+        ensures fault { IfErr result (IsLayerFault t.now self.old l) }
+        ensures err { OnErr result (self.new ≡ self.old) }
+        ensures sure { AreSureLayers t.now self.old → AreSureLayers t.now self.new }
+    {
+        if let Some(spot) = spot(t, self.items.as_slice(), &l, image) {
+            return Err(LayerFault::from(spot));
+        }
+        self.add_raw(l)?;
+        Ok(())
+    }
+}

@@ -1,0 +1,102 @@
+//! Whether a layer is sure above earlier ones.
+
+ghost use Rattle.fond_game.specs.Layers.{Forces, IsSureCube, IsSureLayer};
+ghost use Rattle.fond_layers.specs.Faults.{Escapes, IsFirstEscape, IsWrong, IsSpot, cube_number};
+ghost use Rattle.fond_layers.specs.Over.{IsOver, AreOver};
+ghost use Rattle.fond_task.specs.Values.{value};
+ghost use Rattle.fond_task.specs.Within.{is_act_within};
+ghost use Rattle.fond_task.specs.declared.task.Act.{Act};
+ghost use Rattle.fond_task.specs.declared.form.Kleene.TheVariants.{No};
+ghost use Rattle.std.specs.Prelude.{◌≡◌, ◌<◌, ◌^◌, length, Contains, MatchBool, MatchOption, IfSome, IsTrue};
+
+use crate::fault::Spot;
+use crate::force::forces;
+use crate::layers::Layer;
+use fond_state::cube::Cube;
+use fond_task::form::Kleene;
+use fond_task::task::{Act, Task};
+use fond_task::value::value;
+
+/// Whether the action escapes from the cube of the layer.
+fn escapes(earlier: &[Layer], layer: &Layer, cube: &Cube, act: &Act, image: &mut Cube) -> bool
+    requires within { IsTrue (is_act_within (length cube.now) act.now) }
+    requires earlier_over { AreOver (length cube.now) earlier.now }
+    requires layer_over { IsOver (length cube.now) layer.now }
+    requires long { length image.old ≡ length cube.now }
+    ensures same_length { length image.new ≡ length image.old }
+    ensures answer { MatchBool result (Escapes earlier.now layer.now cube.now act.now) (¬ value cube.now act.now.pre ≡ No → Forces earlier.now layer.now cube.now act.now) }
+{
+    if let Kleene::No = value(&act.pre, cube) {
+        return false;
+    }
+    !forces(earlier, layer, cube, act, image)
+}
+
+/// The number of the first action that escapes from the cube of the layer, if there is one.
+fn first_escape(
+    t: &Task,
+    earlier: &[Layer],
+    layer: &Layer,
+    cube: &Cube,
+    image: &mut Cube,
+) -> Option<u32>
+    requires cube_long { length cube.now ≡ length t.now.atoms }
+    requires earlier_over { AreOver (length t.now.atoms) earlier.now }
+    requires layer_over { IsOver (length t.now.atoms) layer.now }
+    requires long { length image.old ≡ length t.now.atoms }
+    ensures same_length { length image.new ≡ length image.old }
+    ensures first { MatchOption result ((act : Act) → Contains t.now.acts act → ¬ value cube.now act.pre ≡ No → Forces earlier.now layer.now cube.now act)
+        (IsFirstEscape t.now.acts earlier.now layer.now cube.now) }
+{
+    for (number, act) in t.acts.as_slice().iter().enumerate() {
+        if escapes(earlier, layer, cube, act, image) {
+            return Some(number as u32);
+        }
+    }
+    None
+}
+
+/// What is wrong with the cube of this number, if it is not sure. Tries the goal before the actions.
+fn wrong(
+    t: &Task,
+    earlier: &[Layer],
+    layer: &Layer,
+    number: u32,
+    cube: &Cube,
+    image: &mut Cube,
+) -> Option<Spot>
+    requires cube_long { length cube.now ≡ length t.now.atoms }
+    requires earlier_over { AreOver (length t.now.atoms) earlier.now }
+    requires layer_over { IsOver (length t.now.atoms) layer.now }
+    requires long { length image.old ≡ length t.now.atoms }
+    ensures same_length { length image.new ≡ length image.old }
+    ensures numbered { IfSome result (λ spot. cube_number spot ≡ number) }
+    ensures wrong { MatchOption result (IsSureCube t.now earlier.now layer.now cube.now) (IsWrong t.now earlier.now layer.now cube.now) }
+{
+    match value(&t.goal, cube) {
+        Kleene::No => {
+            let act = first_escape(t, earlier, layer, cube, image)?;
+            Some(Spot::NotSure { cube: number, act })
+        }
+        _ => Some(Spot::Goal { cube: number }),
+    }
+}
+
+/// What is wrong with the layer, if it is not sure above the earlier ones. Takes, for each cube, time in the size of
+/// the goal and the preconditions, and for each outcome of an action that may be applicable, time in its size and in
+/// that of all layers.
+pub(crate) fn spot(t: &Task, earlier: &[Layer], layer: &Layer, image: &mut Cube) -> Option<Spot>
+    requires few { length layer.now < 2 ^ 32 }
+    requires earlier_over { AreOver (length t.now.atoms) earlier.now }
+    requires layer_over { IsOver (length t.now.atoms) layer.now }
+    requires long { length image.old ≡ length t.now.atoms }
+    ensures same_length { length image.new ≡ length image.old }
+    ensures spot { MatchOption result (IsSureLayer t.now earlier.now layer.now) (IsSpot t.now earlier.now layer.now) }
+{
+    for (number, cube) in layer.as_slice().iter().enumerate() {
+        if let Some(spot) = wrong(t, earlier, layer, number as u32, cube, image) {
+            return Some(spot);
+        }
+    }
+    None
+}

@@ -1,0 +1,10 @@
+pub mod Choices
+pub mod Come
+pub mod Distinct
+pub mod Effects
+pub mod Given
+pub mod Lifted
+pub mod Members
+pub mod Parts
+pub mod Quiet
+pub mod Worked

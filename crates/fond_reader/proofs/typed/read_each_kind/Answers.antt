@@ -1,0 +1,19 @@
+use Rattle.std.proofs.Common.{arith}
+use Rattle.std.proofs.lemmas.Grind.{common_steps}
+use Rattle.fond_grammar.specs.declared.role.Role.TheVariants.{Name}
+use Rattle.fond_grammar.specs.Faults.{Fits}
+use Rattle.fond_reader.specs.Typed.{is_kind}
+use Rattle.fond_reader.proofs.Through.{at_start, next_fits, one_more, at_end}
+use Rattle.fond_reader.proofs.typed.read_each_kind.Goals as goal
+
+pub loop-tree-init : goal.loop-tree-init
+loop-tree-init c = at_start is_kind (Fits Name) c.args.trees.now _ c.new-kinds.ensures c.requires
+
+pub read_kind-requires : goal.read_kind-requires
+read_kind-requires c = next_fits is_kind (Fits Name) c.args.trees.now c.loop-tree.tree-index c.tree-item.result _ (omega arith) c.tree-item.is c.loop-tree.invariant
+
+pub loop-tree-preserved : goal.loop-tree-preserved
+loop-tree-preserved c = one_more is_kind (Fits Name) c.args.trees.now c.loop-tree.tree-index c.tree-item.result _ _ _ (omega arith) c.tree-item.is c.in_ok-push.ensures.ok c.loop-tree.invariant c.in_ok-read_kind.ensures
+
+pub returns : goal.returns
+returns c = at_end is_kind (Fits Name) c.args.trees.now _ _ (grind (arith, common_steps)) c.loop-tree.invariant
