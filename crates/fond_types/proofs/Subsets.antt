@@ -19,24 +19,24 @@ use Rattle.fond_types.proofs.Members.{and_parts, and_both, or_cases, or_left, or
 use Rattle.fond_types.proofs.RangeLemmas.{numbers_more}
 
 module _ (types : List TypedName) (rooted : has_root types ≡ true) where
-  above_root : (name : List ℕ) → parent_of types root ≡ Some name → name ≡ root
-  above_root name is = (bytes_decides name root).0 (sym (ap (λ found. option_map_or (λ above. bytes_eq above root) found true) is) ∙ rooted)
+  above_root : parent_of types root ≡ root
+  above_root = (bytes_decides (parent_of types root) root).0 rooted
 
-  top : (name above : List ℕ) → IsAncestor types name above → name ≡ root → above ≡ root
-  top name above (parent a b is) same = above_root b (ap (parent_of types) (sym same) ∙ is)
-  top name above (onward a middle b is later) same = top middle b later (above_root middle (ap (parent_of types) (sym same) ∙ is))
+  top : {name above : List ℕ} → IsAncestor types name above → name ≡ root → above ≡ root
+  top (parent name) same = ap (parent_of types) same ∙ above_root
+  top (onward name above later) same = top later (ap (parent_of types) same ∙ above_root)
 
-  longer : (a b c : List ℕ) → IsAncestor types a b → IsAncestor types b c → IsAncestor types a c
-  longer a b c (parent x y is) path = onward x y c is path
-  longer a b c (onward x middle y is later) path = onward x middle c is (longer middle y c later path)
+  longer : {a b : List ℕ} (c : List ℕ) → IsAncestor types a b → IsAncestor types b c → IsAncestor types a c
+  longer c (parent name) path = onward name c path
+  longer c (onward name above later) path = onward name c (longer c later path)
 
   chain : (a b c : List ℕ) → IsSubtype types a b → IsSubtype types b c → IsSubtype types a c
   chain a b c (inl same) h = subst (λ (name : List ℕ). IsSubtype types name c) (sym same) h
   chain a b c (inr (inl path)) (inl same) = inr (inl (subst (λ (name : List ℕ). IsAncestor types a name) same path))
-  chain a b c (inr (inl path)) (inr (inl more)) = inr (inl (longer a b c path more))
+  chain a b c (inr (inl path)) (inr (inl more)) = inr (inl (longer c path more))
   chain a b c (inr (inl path)) (inr (inr at_top)) = inr (inr at_top)
   chain a b c (inr (inr at_top)) (inl same) = inr (inr (sym same ∙ at_top))
-  chain a b c (inr (inr at_top)) (inr (inl more)) = inr (inr (top b c more at_top))
+  chain a b c (inr (inr at_top)) (inr (inl more)) = inr (inr (top more at_top))
   chain a b c (inr (inr at_top)) (inr (inr top_too)) = inr (inr top_too)
 
   -- subtypes of a subtype are subtypes

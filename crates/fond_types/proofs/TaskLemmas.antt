@@ -52,8 +52,8 @@ rooted_if_clean types clean = by (type_of types root) refl
         λ kind. let other : false ≡ true = sym e ∙ (bytes_decides (only_kind declared) root).1 kind in cc (other)), refl, refl)))
 
     by : (found : Option TypedName) → type_of types root ≡ found → has_root types ≡ true
-    by None none = ap (λ found. option_map_or (λ parent. bytes_eq parent root) (option_map only_kind found) true) none
-    by (Some declared) is = ap (λ found. option_map_or (λ parent. bytes_eq parent root) (option_map only_kind found) true) is ∙ same declared is (bytes_eq (only_kind declared) root) refl
+    by None none = ap (λ found. bytes_eq (option_map_or only_kind found root) root) none ∙ same_text root
+    by (Some declared) is = ap (λ found. bytes_eq (option_map_or only_kind found root) root) is ∙ same declared is (bytes_eq (only_kind declared) root) refl
 
 module _ (files : Declarations) where
   -- predicates that pass the test are the declared ones

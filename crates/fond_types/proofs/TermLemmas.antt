@@ -26,7 +26,7 @@ use Rattle.fond_types.specs.Resolves.{is_number_of, is_term, placed_or, variable
 use Rattle.fond_types.specs.Same.{kind_names}
 use Rattle.fond_types.specs.Sites.{Scope, variables_of, variable_of}
 use Rattle.fond_types.specs.Sound.{is_fitting}
-use Rattle.fond_types.specs.Subtypes.{is_above, is_subtype, is_below_some, are_misfits}
+use Rattle.fond_types.specs.Subtypes.{is_above, links_of, is_subtype, is_below_some, are_misfits}
 use Rattle.fond_types.proofs.Differs.{same_text}
 use Rattle.fond_types.proofs.Firsts.{find-firsts, item_of_number}
 use Rattle.fond_types.proofs.Lookups.{found_at, found_none}
@@ -161,7 +161,7 @@ of_own types object one = by object.kinds refl (grind (arith, nat_tests, one))
     by [] is e = cc
     by (kind ∷ kinds) is e =
         or_left (is_subtype types kind.name kind.name) (list_any (is_subtype types kind.name) (kind_names kinds))
-        (or_left (bytes_eq kind.name kind.name || is_above (length types) types kind.name kind.name) (bytes_eq kind.name root) (or_left (bytes_eq kind.name kind.name) (is_above (length types) types kind.name kind.name) (same_text kind.name)))
+        (or_left (bytes_eq kind.name kind.name || is_above (length (links_of types kind.name)) (links_of types kind.name) kind.name kind.name) (bytes_eq kind.name root) (or_left (bytes_eq kind.name kind.name) (is_above (length (links_of types kind.name)) (links_of types kind.name) kind.name kind.name) (same_text kind.name)))
 
 -- the objects for which a term may stand are among those of its declaration
 pub record StandsFor (count : ℕ) (around : List (List ℕ)) (number : LTerm) (range : List ℕ) : Type 0 where

@@ -1,7 +1,6 @@
 -- What names stand for in three files, by the test for subtypes, and the ranges of variables around a place.
 use Rattle.std.specs.Prelude.{◌≡◌, ℕ, ◌<◌, suc, ◌==◌, ◌&&◌, Bool, true, false, List, [], ◌∷◌, ◌++◌, fold, map, filter, if◌then◌else◌}
 use Rattle.std.specs.List.{list_any, list_all, enumerate_from}
-use Rattle.std.specs.Option.{option_map_or}
 use Rattle.std.specs.Str.{bytes_eq}
 use Rattle.fond_ast.specs.declared.names.Kind.{Kind}
 use Rattle.fond_ast.specs.declared.names.TypedName.{TypedName}
@@ -39,4 +38,4 @@ are_typed_around types around = list_all (are_typed types) around
 
 -- whether `object` has no parent but itself
 abbrev pub has_root : List TypedName → Bool
-has_root types = option_map_or (λ parent. bytes_eq parent root) (parent_of types root) true
+has_root types = bytes_eq (parent_of types root) root

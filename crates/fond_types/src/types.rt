@@ -1,7 +1,5 @@
 //! The types of names, and whether they fit those of a parameter.
 
-ghost use Rattle.fond_kinds.specs.Faults.{StandsInKinds};
-ghost use Rattle.fond_text.specs.Firsts.{IsFirst};
 ghost use Rattle.fond_kinds.specs.Kinds.{is_type, are_types};
 ghost use Rattle.fond_types.specs.Subtypes.{is_below, is_below_some, are_misfits};
 ghost use Rattle.std.specs.List.{list_all};
@@ -9,7 +7,6 @@ ghost use Rattle.std.specs.Prelude.{◌≡◌};
 
 use fond_ast::names::Kinds;
 use fond_kinds::table::TypeTable;
-use fond_text::first::Found;
 use fond_text::name::Name;
 
 /// Whether a type is declared.
@@ -56,11 +53,4 @@ pub(crate) fn are_misfits(types: &TypeTable, kinds: &Kinds, parameter: &Kinds) -
     ensures { result ≡ are_misfits types.now.types.now kinds.now parameter.now }
 {
     are_types(types, kinds) && are_types(types, parameter) && !are_below(types, kinds, parameter)
-}
-
-/// The first fault of the declarations of types.
-pub(crate) fn kinds_fault(types: &TypeTable) -> Option<Found>
-    ensures { IsFirst (StandsInKinds types.now.types.now) result }
-{
-    unreachable!()
 }

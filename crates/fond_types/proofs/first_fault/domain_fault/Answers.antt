@@ -18,8 +18,8 @@ returns c =
     let Parameters : Place → ℕ → Type 0 = λ place code. HasUnknownParameter files place code ⊎ Later place code in
     let Objects : Place → ℕ → Type 0 = λ place code. IsRepeatedObject [] domain.constants place code ⊎ Parameters place code in
     let Constants : Place → ℕ → Type 0 = λ place code. HasUnknownType domain.kinds domain.constants place code ⊎ Objects place code in
-    first_of_both (StandsInKinds domain.kinds) Constants c.kinds_fault.result c.earlier-constants.result c.earlier.result
-    (subst (λ (types : List TypedName). IsFirst (StandsInKinds types) c.kinds_fault.result) all.types_declared c.kinds_fault.ensures)
+    first_of_both (StandsInKinds domain.kinds) Constants c.first_fault.result c.earlier-constants.result c.earlier.result
+    (subst (λ (types : List TypedName). IsFirst (StandsInKinds types) c.first_fault.result) all.types_declared c.first_fault.ensures)
     (first_of_both (HasUnknownType domain.kinds domain.constants) Objects c.unknown_type.result c.earlier-objects.result c.earlier-constants.result
     (subst (λ (types : List TypedName). IsFirst (HasUnknownType types domain.constants) c.unknown_type.result) all.types_declared c.unknown_type.ensures)
     (first_of_both (IsRepeatedObject [] domain.constants) Parameters c.redeclared_object.result c.earlier-parameters.result c.earlier-objects.result
