@@ -7,7 +7,7 @@ use Rattle.fond_text.specs.declared.code.TheConstants.{UNKNOWN_PREDICATE}
 use Rattle.fond_text.specs.declared.first.Found.{Found}
 use Rattle.fond_text.specs.declared.place.Place.{Place}
 use Rattle.fond_text.specs.Firsts.{IsFirst, IsEarlier}
-use Rattle.fond_types.specs.Faults.{HasUnknownPredicate, HasWrongArity, HasMismatch, HasUnknownTerm, OccursAt}
+use Rattle.fond_types.specs.Faults.{HasWrongArity, HasMismatch, HasUnknownTerm, OccursAt}
 use Rattle.fond_types.specs.Names.{Declarations, predicate_of}
 use Rattle.fond_types.specs.Sites.{Scope, AnAtom}
 

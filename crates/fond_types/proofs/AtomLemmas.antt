@@ -1,5 +1,5 @@
 -- Sound atoms over numbers.
-use Rattle.std.proofs.Common.{◌≡◌, ℕ, zero, suc, ◌+◌, ◌<◌, ◌≤◌, ◌^◌, ◌&&◌, nat_lt, not, cond, Bool, true, false, List, [], ◌∷◌, Option, Some, None, is_some, find, map, length, slice_get, slice_index_or, refl, sym, ap, ◌∙◌, subst, arith}
+use Rattle.std.proofs.Common.{◌≡◌, ℕ, zero, suc, ◌<◌, ◌≤◌, ◌^◌, ◌&&◌, nat_lt, not, cond, Bool, true, false, List, [], ◌∷◌, Option, Some, None, is_some, find, map, length, slice_get, slice_index_or, refl, sym, ap, ◌∙◌, arith}
 use Rattle.std.specs.List.{list_all}
 use Rattle.std.specs.Option.{option_map_or}
 use Rattle.std.specs.Str.{bytes_eq}
@@ -9,7 +9,7 @@ use Rattle.fond_text.specs.Bools.{is_same}
 use Rattle.fond_text.specs.Lists.{each_passes}
 use Rattle.fond_text.specs.declared.code.TheConstants.{LONGEST_TEXT}
 use Rattle.fond_ast.specs.Ranges.{RangeList, objects_of}
-use Rattle.fond_ast.specs.Within.{term_objects, is_term_within, fits_range, is_atom_within, is_fluent}
+use Rattle.fond_ast.specs.Within.{is_term_within, fits_range, is_atom_within, is_fluent}
 use Rattle.fond_ast.specs.declared.files.Declared.{Declared}
 use Rattle.fond_ast.specs.declared.form.LAtom.{LAtom}
 use Rattle.fond_ast.specs.declared.form.LTerm.{LTerm}
@@ -30,7 +30,7 @@ use Rattle.fond_types.specs.Subtypes.{are_misfits}
 use Rattle.fond_types.proofs.Firsts.{item_of_number}
 use Rattle.fond_types.proofs.Members.{and_parts, and_both}
 use Rattle.fond_types.proofs.RangeLemmas.{found_passes}
-use Rattle.fond_types.proofs.TermLemmas.{ranges_counted, FitsParameter, argument_fits}
+use Rattle.fond_types.proofs.TermLemmas.{ranges_counted, argument_fits}
 
 -- the arguments of a sound atom are declared
 pub arguments_known : (files : Declarations) (around : Scope) (parameters : List TypedName) (terms : List Term) → each_passes (map (is_fitting files around) parameters) terms ≡ true → list_all (is_known files around) terms ≡ true
@@ -95,7 +95,7 @@ same_bools false true e = cc
 same_bools false false e = refl
 
 module _ (files : Declarations) (around : Scope) (predicates : List LPredicate) (rooted : has_root files.domain.kinds ≡ true) (objects_typed : are_typed files.domain.kinds (all_objects files) ≡ true)
-  (parameters_typed : list_all (λ (declared : Declared). are_typed files.domain.kinds declared.parameters) files.domain.predicates ≡ true) (resolved : are_predicates files predicates ≡ true) (lists_typed : are_typed_around files.domain.kinds around ≡ true) where
+    (parameters_typed : list_all (λ (declared : Declared). are_typed files.domain.kinds declared.parameters) files.domain.predicates ≡ true) (resolved : are_predicates files predicates ≡ true) (lists_typed : are_typed_around files.domain.kinds around ≡ true) where
   -- arguments fit the ranges of the parameters
   pub arguments_fit : (parameters : List TypedName) (terms : List Term) (numbers : List LTerm) → are_typed files.domain.kinds parameters ≡ true → each_passes (map (is_fitting files around) parameters) terms ≡ true → each_passes (map (is_term (meanings files) around) terms) numbers ≡ true →
       each_passes (map (fits_range (length (objects_declared files)) (ranges_around (meanings files).range around)) (map (λ (name : TypedName). (meanings files).range name.kinds) parameters)) numbers ≡ true

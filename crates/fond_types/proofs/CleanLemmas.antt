@@ -1,6 +1,5 @@
 -- Sites without a fault of names are sound.
-use Rattle.std.proofs.Common.{◌≡◌, ◌≢◌, ◌⊎◌, inl, inr, ℕ, zero, suc, ◌+◌, ◌&&◌, not, nat_eq, Bool, true, false, List, [], ◌∷◌, ◌++◌, Option, Some, None, is_some, map, length, slice_get, Contains, refl, sym, ap, ◌∙◌, subst, arith}
-use Rattle.std.specs.List.{list_all}
+use Rattle.std.proofs.Common.{◌≡◌, inl, inr, ℕ, suc, not, nat_eq, Bool, true, false, List, [], ◌∷◌, Option, Some, None, is_some, map, length, slice_get, Contains, refl, sym, ap, ◌∙◌, arith}
 use Rattle.std.specs.Option.{option_map_or}
 use Rattle.std.proofs.lemmas.Bool.Decides.{nat_tests}
 use Rattle.fond_text.specs.Faults.{IsClean}

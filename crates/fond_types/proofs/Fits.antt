@@ -1,5 +1,5 @@
 -- Types that do not fit those of a parameter, by the test.
-use Rattle.std.proofs.Common.{◌≡◌, ℕ, ◌&&◌, Bool, true, false, not, List, Contains, refl, sym, ap, ◌∙◌}
+use Rattle.std.proofs.Common.{◌≡◌, ◌&&◌, Bool, true, false, not, List, refl, sym, ◌∙◌}
 use Rattle.std.specs.Bool.{Decides}
 use Rattle.std.specs.List.{list_all}
 use Rattle.fond_ast.specs.declared.names.Kind.{Kind}

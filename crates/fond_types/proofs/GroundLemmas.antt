@@ -1,5 +1,5 @@
 -- Atoms without variables over numbers.
-use Rattle.std.proofs.Common.{◌≡◌, ℕ, ◌+◌, ◌&&◌, nat_lt, not, cond, Bool, true, false, List, [], ◌∷◌, ◌++◌, Option, Some, None, filter, map, take, slice_get, refl, sym, ap, ◌∙◌, append-nil}
+use Rattle.std.proofs.Common.{◌≡◌, ℕ, ◌+◌, nat_lt, not, cond, Bool, true, false, List, [], ◌∷◌, ◌++◌, Option, Some, None, filter, map, take, slice_get, refl, ap, ◌∙◌, append-nil}
 use Rattle.std.specs.Prelude.{if◌then◌else◌}
 use Rattle.std.specs.List.{list_all}
 use Rattle.std.specs.Option.{option_map_or}
@@ -7,16 +7,15 @@ use Rattle.std.proofs.lemmas.List.{map-append}
 use Rattle.std.proofs.lemmas.List.Elements.{filter-append}
 use Rattle.fond_text.specs.Lists.{each_passes}
 use Rattle.fond_ast.specs.Ranges.{objects_of, is_among}
-use Rattle.fond_ast.specs.Within.{term_objects, fits_range, is_term_within, is_atom_within, is_initial_within}
+use Rattle.fond_ast.specs.Within.{fits_range, is_term_within, is_atom_within}
 use Rattle.fond_ast.specs.declared.files.InitAtom.{InitAtom}
 use Rattle.fond_ast.specs.declared.form.LAtom.{LAtom}
 use Rattle.fond_ast.specs.declared.form.LTerm.{LTerm}
 use Rattle.fond_ast.specs.declared.form.LTerm.TheVariants.{Object, Variable}
-use Rattle.fond_ast.specs.declared.names.ReadAtom.{ReadAtom}
 use Rattle.fond_ast.specs.declared.names.Term.{Term}
 use Rattle.fond_ast.specs.declared.task.LPredicate.{LPredicate}
 use Rattle.fond_types.specs.Ground.{objects_in}
-use Rattle.fond_types.specs.Resolves.{Meanings, is_number_of, is_term, is_atom, positive}
+use Rattle.fond_types.specs.Resolves.{Meanings, is_number_of, is_term, positive}
 use Rattle.fond_types.proofs.Among.{next_taken}
 use Rattle.fond_types.proofs.Members.{and_parts, and_both}
 

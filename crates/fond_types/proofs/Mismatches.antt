@@ -1,5 +1,5 @@
 -- Arguments that do not fit their parameters, one by one.
-use Rattle.std.proofs.Common.{◌≡◌, ℕ, ◌<◌, ◌≤◌, min, List, Option, Some, length, slice_get, sym, ◌∙◌, subst, arith}
+use Rattle.std.proofs.Common.{◌≡◌, ℕ, ◌≤◌, min, Option, Some, length, slice_get, sym, ◌∙◌, subst, arith}
 use Rattle.fond_ast.specs.declared.files.Declared.{Declared}
 use Rattle.fond_ast.specs.declared.names.ReadAtom.{ReadAtom}
 use Rattle.fond_ast.specs.declared.names.Term.{Term}
@@ -62,12 +62,15 @@ module _ (files : Declarations) (around : Scope) (predicate : Declared) (atom : 
       let same : mismatch.predicate ≡ predicate = (let both : Some mismatch.predicate ≡ Some predicate = sym mismatch.named ∙ named in cc) in
       let has : slice_get predicate.parameters mismatch.at ≡ Some mismatch.parameter = subst (λ (one : Declared). slice_get one.parameters mismatch.at ≡ Some mismatch.parameter) same mismatch.has_parameter in
       let within = slice_get_within atom.terms mismatch.at mismatch.argument mismatch.has_argument in
-      let inside = slice_get_within predicate.parameters mismatch.at mismatch.parameter has in
-      (mismatch.at, omega (arith, all, within, inside), record {
-        argument = mismatch.argument;
-        has_argument = mismatch.has_argument;
-        parameter = mismatch.parameter;
-        has_parameter = has;
-        fault = record { declared = mismatch.declared; known = mismatch.known; has_types = mismatch.has_types; parameter_has_types = mismatch.parameter_has_types; misfit = mismatch.misfit; place_is = mismatch.place_is; coded = mismatch.coded };
-      }))
+      let inside = slice_get_within predicate.parameters mismatch.at mismatch.parameter has in (
+        mismatch.at,
+        omega (arith, all, within, inside),
+        record {
+          argument = mismatch.argument;
+          has_argument = mismatch.has_argument;
+          parameter = mismatch.parameter;
+          has_parameter = has;
+          fault = record { declared = mismatch.declared; known = mismatch.known; has_types = mismatch.has_types; parameter_has_types = mismatch.parameter_has_types; misfit = mismatch.misfit; place_is = mismatch.place_is; coded = mismatch.coded };
+        },
+      ))
       found h

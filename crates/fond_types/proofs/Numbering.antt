@@ -83,4 +83,3 @@ number_is numbers names name number are e =
     let same : number ≡ found.at = omega (arith, counted) in
     let within : nat_lt number (length names) ≡ true = grind (arith, nat_tests, same, low) in
     ap (λ b. b && bytes_eq (slice_index_or names number []) name) within ∙ ap (λ n. bytes_eq (slice_index_or names n []) name) same ∙ found.is
-

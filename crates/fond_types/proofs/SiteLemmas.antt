@@ -1,15 +1,15 @@
 -- The sites of a condition and of an effect, by their outermost forms, and the first fault at sites.
-use Rattle.std.proofs.Common.{◌≡◌, ◌⊎◌, ℕ, zero, ◌+◌, ◌<◌, ◌≤◌, List, [], ◌∷◌, ◌++◌, Option, Some, slice_get, map, take, drop, sum, length, get_or, sym, ap, ◌∙◌, subst, arith, append-nil}
+use Rattle.std.proofs.Common.{◌≡◌, ℕ, ◌+◌, ◌<◌, ◌≤◌, List, [], ◌∷◌, ◌++◌, Option, Some, slice_get, map, take, drop, sum, length, get_or, sym, ap, ◌∙◌, subst, arith, append-nil}
 use Rattle.std.specs.List.{flat_map}
 use Rattle.std.proofs.lemmas.List.{map-append, take_more, at_drop_more}
 use Rattle.std.proofs.lemmas.List.Sums.{sum_by-cons}
 use Rattle.std.proofs.lemmas.List.Concat.{flat_map-append}
 use Rattle.fond_ast.specs.declared.syntax.Cond.{Cond, out-Cond}
 use Rattle.fond_ast.specs.declared.syntax.Cond.TheOpen as open_condition
-use Rattle.fond_ast.specs.declared.syntax.Cond.TheFolds.{fold-Cond, fold_out-Cond, map-Cond}
+use Rattle.fond_ast.specs.declared.syntax.Cond.TheFolds.{fold_out-Cond, map-Cond}
 use Rattle.fond_ast.specs.declared.syntax.Effect.{Effect, out-Effect}
 use Rattle.fond_ast.specs.declared.syntax.Effect.TheOpen as open_effect
-use Rattle.fond_ast.specs.declared.syntax.Effect.TheFolds.{fold-Effect, fold_out-Effect, map-Effect}
+use Rattle.fond_ast.specs.declared.syntax.Effect.TheFolds.{fold_out-Effect, map-Effect}
 use Rattle.fond_text.specs.declared.first.Found.{Found}
 use Rattle.fond_text.specs.declared.place.Place.{Place}
 use Rattle.fond_text.specs.Firsts.{IsFirst, IsEarlier}

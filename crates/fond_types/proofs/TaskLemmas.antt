@@ -1,6 +1,5 @@
 -- Clean declarations, and the facts of a task.
-use Rattle.std.proofs.Common.{◌≡◌, ◌≢◌, ◌⊎◌, inl, inr, ℕ, zero, suc, ◌+◌, ◌<◌, ◌≤◌, ◌&&◌, ◌||◌, not, cond, Bool, true, false, List, [], ◌∷◌, ◌++◌, Option, Some, None, find, fold, map, length, Contains, refl, sym, ap, ◌∙◌, subst, arith, append_assoc}
-use Rattle.std.specs.Prelude.{option_map}
+use Rattle.std.proofs.Common.{◌≡◌, inl, inr, ℕ, ◌&&◌, ◌||◌, not, cond, Bool, true, false, List, [], ◌∷◌, ◌++◌, Option, Some, None, find, map, length, Contains, refl, sym, ap, ◌∙◌, subst, append_assoc}
 use Rattle.std.specs.List.{AllZip, list_all, list_any}
 use Rattle.std.specs.Option.{option_map_or}
 use Rattle.std.specs.Str.{bytes_eq}
@@ -17,8 +16,8 @@ use Rattle.fond_ast.specs.declared.files.Side.{Side}
 use Rattle.fond_ast.specs.declared.names.TypedName.{TypedName}
 use Rattle.fond_ast.specs.declared.task.LPredicate.{LPredicate}
 use Rattle.fond_ast.specs.declared.task.LSchema.{LSchema}
-use Rattle.fond_kinds.specs.Faults.{IsCyclic, StandsInKinds}
-use Rattle.fond_kinds.specs.Kinds.{root, only_kind, is_passed_over, type_of, parent_of}
+use Rattle.fond_kinds.specs.Faults.{StandsInKinds}
+use Rattle.fond_kinds.specs.Kinds.{root, only_kind, is_passed_over, type_of}
 use Rattle.fond_text.specs.Bools.{is_same}
 use Rattle.fond_types.specs.Context.{is_predicate}
 use Rattle.fond_types.specs.Faults.{IsRepeatedSchema}
@@ -47,9 +46,16 @@ rooted_if_clean types clean = by (type_of types root) refl
     same declared is true e = refl
     same declared is false e =
         let own = and_parts (bytes_eq declared.name root) (not (is_passed_over declared)) (found_itself (λ (one : TypedName). bytes_eq one.name root && not (is_passed_over one)) types declared is) in
-        absurd (clean declared.place TYPE_CYCLE (inl (declared,
-        inr (found_contained (λ (one : TypedName). bytes_eq one.name root && not (is_passed_over one)) types declared is, (bytes_decides declared.name root).0 own.0,
-        λ kind. let other : false ≡ true = sym e ∙ (bytes_decides (only_kind declared) root).1 kind in cc (other)), refl, refl)))
+        absurd (clean declared.place TYPE_CYCLE (inl (
+          declared,
+          inr (
+            found_contained (λ (one : TypedName). bytes_eq one.name root && not (is_passed_over one)) types declared is,
+            (bytes_decides declared.name root).0 own.0,
+            λ kind. let other : false ≡ true = sym e ∙ (bytes_decides (only_kind declared) root).1 kind in cc (other),
+          ),
+          refl,
+          refl,
+        )))
 
     by : (found : Option TypedName) → type_of types root ≡ found → has_root types ≡ true
     by None none = ap (λ found. bytes_eq (option_map_or only_kind found root) root) none ∙ same_text root
@@ -64,12 +70,14 @@ module _ (files : Declarations) where
   resolved_predicates (one ∷ declared) (number ∷ numbers) e =
       let both = and_parts (is_predicate files one number) (each_passes (map (is_predicate files) declared) numbers) e in
       let tests = and_parts (bytes_eq number.name one.name && are_ranges (meanings files) one.parameters number.ranges) (is_same number.fluent (is_mentioned files.domain one.name)) both.0 in
-      let first = and_parts (bytes_eq number.name one.name) (are_ranges (meanings files) one.parameters number.ranges) tests.0 in
-      (record {
-        named = (bytes_decides number.name one.name).0 first.0;
-        ranges = first.1;
-        fluent = same_bools number.fluent (is_mentioned files.domain one.name) tests.1;
-      }, resolved_predicates declared numbers both.1)
+      let first = and_parts (bytes_eq number.name one.name) (are_ranges (meanings files) one.parameters number.ranges) tests.0 in (
+        record {
+          named = (bytes_decides number.name one.name).0 first.0;
+          ranges = first.1;
+          fluent = same_bools number.fluent (is_mentioned files.domain one.name) tests.1;
+        },
+        resolved_predicates declared numbers both.1,
+      )
 
   pub predicate_names : (declared : List Declared) (numbers : List LPredicate) → AllZip (IsResolvedPredicate (meanings files) files.domain.schemas) declared numbers → map (λ (number : LPredicate). number.name) numbers ≡ map (λ (one : Declared). one.name) declared
   predicate_names [] [] all = refl
@@ -121,13 +129,16 @@ distinct_after before (schema ∷ schemas) clean =
         ap (λ names. list_any (bytes_eq cut.item.name) names) (map-append (λ (one : Schema). one.name) before (schema ∷ cut.before))
         ∙ list_any-append (bytes_eq cut.item.name) (map (λ (one : Schema). one.name) before) (map (λ (one : Schema). one.name) (schema ∷ cut.before))
         ∙ or_right (list_any (bytes_eq cut.item.name) (map (λ (one : Schema). one.name) before)) _ (or_left (bytes_eq cut.item.name schema.name) _ (nat_list_eq_equiv.symm cut.item.name schema.name ∙ cut.same)) in
-        absurd (clean cut.item.place REPEATED_NAME (record {
-          before = before ++ schema ∷ cut.before;
-          item = cut.item;
-          after = cut.after;
-          split = ap (λ some. before ++ schema ∷ some) cut.split ∙ sym (append_assoc before (schema ∷ cut.before) (cut.item ∷ cut.after));
-          has = (among, refl);
-        }, refl))
+        absurd (clean cut.item.place REPEATED_NAME (
+          record {
+            before = before ++ schema ∷ cut.before;
+            item = cut.item;
+            after = cut.after;
+            split = ap (λ some. before ++ schema ∷ some) cut.split ∙ sym (append_assoc before (schema ∷ cut.before) (cut.item ∷ cut.after));
+            has = (among, refl);
+          },
+          refl,
+        ))
 
 -- schemas without a repeated name have distinct names
 pub distinct_schemas : (schemas : List Schema) → IsClean (IsRepeatedSchema schemas) → are_distinct_texts (map (λ (schema : Schema). schema.name) schemas) ≡ true

@@ -1,13 +1,12 @@
 -- What terms over numbers stand for.
-use Rattle.std.proofs.Common.{◌≡◌, ◌⊎◌, inl, inr, ℕ, zero, suc, ◌+◌, ◌<◌, ◌≤◌, ◌^◌, ◌&&◌, ◌||◌, nat_lt, not, Bool, true, false, cond, ltb, List, [], ◌∷◌, ◌++◌, Option, Some, None, is_some, find, position, map, length, slice_get, slice_index_or, refl, sym, ap, ◌∙◌, subst, arith, length-append}
+use Rattle.std.proofs.Common.{◌≡◌, ◌⊎◌, inl, inr, ℕ, zero, suc, ◌+◌, ◌<◌, ◌≤◌, ◌^◌, ◌&&◌, ◌||◌, nat_lt, not, Bool, true, false, cond, ltb, List, [], ◌∷◌, ◌++◌, Option, Some, None, is_some, find, position, map, length, slice_get, slice_index_or, refl, sym, ap, ◌∙◌, arith, length-append}
 use Rattle.std.specs.Prelude.{◌==◌, if◌then◌else◌, option_map}
-use Rattle.std.specs.List.{list_any, list_all, flat_map, position_or_len}
+use Rattle.std.specs.List.{list_any, list_all, position_or_len}
 use Rattle.std.specs.Option.{option_map_or, option_or}
 use Rattle.std.specs.Str.{bytes_eq}
 use Rattle.std.specs.Cmp.Lexicographic.{nat_list_eq_equiv}
 use Rattle.std.proofs.lemmas.Bool.Decides.{nat_tests}
 use Rattle.std.proofs.lemmas.List.Folds.{find-append, list_all-append}
-use Rattle.std.proofs.lemmas.Option.{slice_get_within}
 use Rattle.fond_ast.specs.Ranges.{is_among as among_range}
 use Rattle.fond_ast.specs.Read.{has_one_kind}
 use Rattle.fond_ast.specs.Within.{term_objects, is_term_within, fits_range}
@@ -16,10 +15,10 @@ use Rattle.fond_ast.specs.declared.form.LTerm.TheVariants.{Object, Variable}
 use Rattle.fond_ast.specs.declared.names.Kind.{Kind}
 use Rattle.fond_ast.specs.declared.names.Term.{Term}
 use Rattle.fond_ast.specs.declared.names.TypedName.{TypedName}
-use Rattle.fond_kinds.specs.Kinds.{root, first_kind, only_kind, are_types}
+use Rattle.fond_kinds.specs.Kinds.{root, first_kind, are_types}
 use Rattle.fond_text.specs.declared.code.TheConstants.{LONGEST_TEXT}
 use Rattle.fond_types.specs.Faults.{declaration_of}
-use Rattle.fond_types.specs.Kept.{is_of, numbers_of, range_by}
+use Rattle.fond_types.specs.Kept.{is_of, range_by}
 use Rattle.fond_types.specs.Meanings.{meanings, ranges_around, are_typed, are_typed_around, has_root}
 use Rattle.fond_types.specs.Names.{Declarations, is_among, all_objects, first_of, objects_declared, firsts}
 use Rattle.fond_types.specs.Resolves.{is_number_of, is_term, placed_or, variable_number}
@@ -30,7 +29,7 @@ use Rattle.fond_types.specs.Subtypes.{is_above, links_of, is_subtype, is_below_s
 use Rattle.fond_types.proofs.Differs.{same_text}
 use Rattle.fond_types.proofs.Firsts.{find-firsts, item_of_number}
 use Rattle.fond_types.proofs.Lookups.{found_at, found_none}
-use Rattle.fond_types.proofs.Members.{and_parts, and_both, or_left, or_right, or_cases}
+use Rattle.fond_types.proofs.Members.{and_parts, and_both, or_left, or_cases}
 use Rattle.fond_types.proofs.RangeLemmas.{found_passes, got_some, length-names, range_named}
 use Rattle.fond_types.proofs.Subsets.{numbers_within, number_among, of_fitting}
 

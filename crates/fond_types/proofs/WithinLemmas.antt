@@ -1,10 +1,8 @@
 -- Conditions and effects that are within, by their outermost forms.
-use Rattle.std.proofs.Common.{◌≡◌, ℕ, zero, suc, ◌+◌, ◌≤◌, ◌<◌, ◌&&◌, nat_lt, Some, slice_get, Bool, true, false, List, [], ◌∷◌, ◌++◌, map, take, drop, sum, length, get_or, Box, Global, refl, sym, ap, ◌∙◌, arith}
+use Rattle.std.proofs.Common.{◌≡◌, ℕ, zero, suc, ◌+◌, ◌<◌, ◌&&◌, nat_lt, Some, slice_get, Bool, true, List, [], ◌∷◌, ◌++◌, map, drop, sum, length, get_or, refl, sym, ap, ◌∙◌, arith}
 use Rattle.std.specs.List.{list_all, flat_map}
-use Rattle.std.proofs.lemmas.List.{take_all, take_more, at_drop_more, map-append}
 use Rattle.std.proofs.lemmas.List.Folds.{list_all-append}
-use Rattle.fond_text.specs.Lists.{each_passes}
-use Rattle.fond_ast.specs.Ranges.{RangeList, objects_of, is_rising}
+use Rattle.fond_ast.specs.Ranges.{RangeList, is_rising}
 use Rattle.fond_ast.specs.Within.{are_ranges_within, is_condition_within, condition_within_step, is_effect_within, effect_within_step}
 use Rattle.fond_ast.specs.declared.form.LCond.{LCond, out-LCond}
 use Rattle.fond_ast.specs.declared.form.LCond.TheOpen as open_condition
@@ -16,7 +14,7 @@ use Rattle.fond_ast.specs.declared.names.Kind.{Kind}
 use Rattle.fond_ast.specs.declared.names.TypedName.{TypedName}
 use Rattle.fond_ast.specs.declared.task.LPredicate.{LPredicate}
 use Rattle.fond_types.specs.Kept.{range_by}
-use Rattle.fond_types.specs.Meanings.{meanings, ranges_around}
+use Rattle.fond_types.specs.Meanings.{meanings}
 use Rattle.fond_types.specs.Names.{Declarations, objects_declared}
 use Rattle.fond_types.specs.Resolves.{are_ranges}
 use Rattle.fond_types.specs.Same.{kind_names}

@@ -1,5 +1,5 @@
 -- Predicates over numbers, by a test.
-use Rattle.std.specs.Prelude.{ℕ, ◌&&◌, Bool, List, map}
+use Rattle.std.specs.Prelude.{◌&&◌, Bool, List, map}
 use Rattle.std.specs.Str.{bytes_eq}
 use Rattle.fond_text.specs.Bools.{is_same}
 use Rattle.fond_text.specs.Lists.{each_passes}

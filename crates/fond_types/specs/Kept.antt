@@ -1,5 +1,5 @@
 -- Ranges that are kept, and the ranges of names of types.
-use Rattle.std.specs.Prelude.{ℕ, Bool, List, map, filter, ◌&&◌}
+use Rattle.std.specs.Prelude.{ℕ, Bool, List, map, filter}
 use Rattle.std.specs.List.{list_all, list_any, enumerate_from}
 use Rattle.std.specs.Str.{bytes_eq}
 use Rattle.fond_ast.specs.declared.names.TypedName.{TypedName}

@@ -1,10 +1,10 @@
 -- What names stand for in three files, by the test for subtypes, and the ranges of variables around a place.
-use Rattle.std.specs.Prelude.{◌≡◌, ℕ, ◌<◌, suc, ◌==◌, ◌&&◌, Bool, true, false, List, [], ◌∷◌, ◌++◌, fold, map, filter, if◌then◌else◌}
-use Rattle.std.specs.List.{list_any, list_all, enumerate_from}
+use Rattle.std.specs.Prelude.{ℕ, suc, Bool, List, [], ◌∷◌, ◌++◌, map, if◌then◌else◌}
+use Rattle.std.specs.List.{list_all}
 use Rattle.std.specs.Str.{bytes_eq}
 use Rattle.fond_ast.specs.declared.names.Kind.{Kind}
 use Rattle.fond_ast.specs.declared.names.TypedName.{TypedName}
-use Rattle.fond_kinds.specs.Kinds.{root, only_kind, are_types, parent_of}
+use Rattle.fond_kinds.specs.Kinds.{root, are_types, parent_of}
 use Rattle.fond_types.specs.Names.{Declarations, is_among}
 use Rattle.fond_types.specs.Resolves.{Meanings, meanings_of}
 use Rattle.fond_types.specs.Sites.{Scope}

@@ -1,5 +1,5 @@
 -- A test for subtypes that follows parents, and what fits by it.
-use Rattle.std.specs.Prelude.{ℕ, zero, suc, ◌&&◌, ◌||◌, Bool, true, false, not, List, ◌∷◌, Option, filter, find, length, map, option_map}
+use Rattle.std.specs.Prelude.{ℕ, zero, suc, ◌&&◌, ◌||◌, Bool, false, not, List, ◌∷◌, Option, filter, find, length, map, option_map}
 use Rattle.std.specs.List.{list_all, list_any}
 use Rattle.std.specs.Option.{option_map_or}
 use Rattle.std.specs.Str.{bytes_eq}

@@ -41,12 +41,7 @@ fn unknown_term(files: &Files, around: &Around, atom: &ReadAtom) -> Option<Found
 }
 
 /// An argument, if it does not fit a parameter.
-fn misfit(
-    files: &Files,
-    around: &Around,
-    argument: &Term,
-    parameter: &TypedName,
-) -> Option<Found>
+fn misfit(files: &Files, around: &Around, argument: &Term, parameter: &TypedName) -> Option<Found>
     ensures { IsFirst (IsMisfit (declarations_of files.now) (lists_of around.now) argument.now parameter.now) result }
 {
     match find_term(files, around, argument) {
@@ -59,12 +54,7 @@ fn misfit(
 }
 
 /// The first argument of an atom that does not fit its parameter.
-fn mismatch(
-    files: &Files,
-    around: &Around,
-    predicate: &Declared,
-    atom: &ReadAtom,
-) -> Option<Found>
+fn mismatch(files: &Files, around: &Around, predicate: &Declared, atom: &ReadAtom) -> Option<Found>
     requires { predicate_of files.now.domain.now atom.now.name ≡ Some predicate.now }
     ensures { IsFirst (HasMismatch (declarations_of files.now) (lists_of around.now) atom.now) result }
 {

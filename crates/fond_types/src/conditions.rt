@@ -54,7 +54,9 @@ pub(crate) fn numbered_condition(
             numbered_term(context.table, around, term),
             numbered_term(context.table, around, other),
         )),
-        Cond::And(parts) => Ok(LCond::And(numbered_conditions(alloc, context, kept, parts, around)?)),
+        Cond::And(parts) => Ok(LCond::And(numbered_conditions(
+            alloc, context, kept, parts, around,
+        )?)),
         Cond::Or(parts) => Ok(LCond::Or(numbered_conditions(alloc, context, kept, parts, around)?)),
         Cond::Not(part) => {
             let part = numbered_condition(alloc, context, kept, part, around)?;

@@ -42,7 +42,12 @@ pub(crate) fn declared_predicates(alloc: Global, files: &Files) -> Result<Number
     let mut names = Names::new(alloc);
     let mut numbers = TextIndex::new(alloc);
     for i in 0..files.domain.predicates.len() {
-        declare(alloc, &mut names, &mut numbers, &files.domain.predicates.get(i).name)?;
+        declare(
+            alloc,
+            &mut names,
+            &mut numbers,
+            &files.domain.predicates.get(i).name,
+        )?;
     }
     Ok(Numbers { names, numbers })
 }
@@ -55,7 +60,12 @@ pub(crate) fn declared_objects(alloc: Global, files: &Files) -> Result<Numbers, 
     let mut names = Names::new(alloc);
     let mut numbers = TextIndex::new(alloc);
     for i in 0..constants.len() + objects.len() {
-        declare(alloc, &mut names, &mut numbers, &joined_get(constants, objects, i).name)?;
+        declare(
+            alloc,
+            &mut names,
+            &mut numbers,
+            &joined_get(constants, objects, i).name,
+        )?;
     }
     Ok(Numbers { names, numbers })
 }

@@ -54,8 +54,12 @@ pub(crate) fn numbered_effect(
         Effect::Nothing => Ok(LEffect::Nothing),
         Effect::Add(atom) => Ok(LEffect::Add(numbered_atom(alloc, context, around, atom)?)),
         Effect::Delete(atom) => Ok(LEffect::Delete(numbered_atom(alloc, context, around, atom)?)),
-        Effect::And(parts) => Ok(LEffect::And(numbered_effects(alloc, context, kept, parts, around)?)),
-        Effect::OneOf(parts) => Ok(LEffect::OneOf(numbered_effects(alloc, context, kept, parts, around)?)),
+        Effect::And(parts) => Ok(LEffect::And(numbered_effects(
+            alloc, context, kept, parts, around,
+        )?)),
+        Effect::OneOf(parts) => Ok(LEffect::OneOf(numbered_effects(
+            alloc, context, kept, parts, around,
+        )?)),
         Effect::Forall(names, part) => {
             let (ranges, part) = numbered_part(alloc, context, kept, names, part, around)?;
             Ok(LEffect::Forall(ranges, part))

@@ -35,7 +35,10 @@ fn domain_fault(alloc: Global, files: &Files) -> Result<Option<Found>, NoMemory>
     ensures { IfOk result (IsFirst (StandsInNames (declarations_of files.now) InDomain)) }
 {
     let parameters = earlier(unknown_parameter(files), later_fault(alloc, files)?);
-    let objects = earlier(redeclared_object(files, &files.domain.constants), parameters);
+    let objects = earlier(
+        redeclared_object(files, &files.domain.constants),
+        parameters,
+    );
     let constants = earlier(unknown_type(&files.types, &files.domain.constants), objects);
     Ok(earlier(kinds_fault(&files.types), constants))
 }

@@ -131,7 +131,14 @@ fn range_of(
     }
     let range = Rc::new(alloc, made_range(alloc, table, kinds)?)?;
     let kinds = names_of(alloc, kinds)?;
-    keep(kept, key, Kept { kinds, range: range.clone()? })?;
+    keep(
+        kept,
+        key,
+        Kept {
+            kinds,
+            range: range.clone()?,
+        },
+    )?;
     Ok(range)
 }
 

@@ -88,11 +88,7 @@ fn effect_fault(
 }
 
 /// The first fault of names in a schema.
-fn schema_fault(
-    alloc: Global,
-    files: &Files,
-    schema: &Schema,
-) -> Result<Option<Found>, NoMemory>
+fn schema_fault(alloc: Global, files: &Files, schema: &Schema) -> Result<Option<Found>, NoMemory>
     requires { has_few_variables schema.now ≡ true }
     ensures { IfOk result (IsFirst (OccursAmong (declarations_of files.now) (schema_sites schema.now))) }
 {
@@ -136,5 +132,8 @@ pub(crate) fn problem_site_fault(alloc: Global, files: &Files) -> Result<Option<
 {
     let outside = Around::Nothing;
     let first = init_fault(files);
-    Ok(earlier(first, condition_fault(alloc, files, &files.problem.goal, &outside)?))
+    Ok(earlier(
+        first,
+        condition_fault(alloc, files, &files.problem.goal, &outside)?,
+    ))
 }

@@ -57,11 +57,21 @@ fn numbered_goal(alloc: Global, context: &Context, kept: &mut KeptRanges) -> Res
     ensures within { IfOk result (λ number. is_condition_within (length (objects_declared (declarations_of context.now.table.now.files.now))) context.now.predicates.now number [] ≡ true) }
 {
     let outside = Around::Nothing;
-    numbered_condition(alloc, context, kept, &context.table.files.problem.goal, &outside)
+    numbered_condition(
+        alloc,
+        context,
+        kept,
+        &context.table.files.problem.goal,
+        &outside,
+    )
 }
 
 /// The schemas, the initial atoms and the goal of sound files over numbers.
-fn numbered_parts(alloc: Global, context: &Context, kept: &mut KeptRanges) -> Result<Parts, NoMemory>
+fn numbered_parts(
+    alloc: Global,
+    context: &Context,
+    kept: &mut KeptRanges,
+) -> Result<Parts, NoMemory>
     requires domain { are_sound (declarations_of context.now.table.now.files.now) (domain_sites context.now.table.now.files.now.domain.now) ≡ true }
     requires problem { are_sound (declarations_of context.now.table.now.files.now) (problem_sites context.now.table.now.files.now.problem.now) ≡ true }
     requires kept { are_kept (declarations_of context.now.table.now.files.now) kept.old.entries.items ≡ true }

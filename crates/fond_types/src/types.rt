@@ -30,21 +30,30 @@ pub(crate) fn is_below(types: &TypeTable, name: &Name, other: &Name) -> bool
 fn are_types(types: &TypeTable, kinds: &Kinds) -> bool
     ensures { result ≡ are_types types.now.types.now kinds.now }
 {
-    kinds.as_slice().iter().all(|kind| is_type(types, &kind.name))
+    kinds
+        .as_slice()
+        .iter()
+        .all(|kind| is_type(types, &kind.name))
 }
 
 /// Whether a type is below one of some types.
 pub(crate) fn is_below_some(types: &TypeTable, name: &Name, parameter: &Kinds) -> bool
     ensures { result ≡ is_below_some types.now.types.now name.now parameter.now }
 {
-    parameter.as_slice().iter().any(|other| is_below(types, name, &other.name))
+    parameter
+        .as_slice()
+        .iter()
+        .any(|other| is_below(types, name, &other.name))
 }
 
 /// Whether each of some types is below one of the others.
 fn are_below(types: &TypeTable, kinds: &Kinds, parameter: &Kinds) -> bool
     ensures { result ≡ list_all (λ kind. is_below_some types.now.types.now kind.name parameter.now) kinds.now }
 {
-    kinds.as_slice().iter().all(|kind| is_below_some(types, &kind.name, parameter))
+    kinds
+        .as_slice()
+        .iter()
+        .all(|kind| is_below_some(types, &kind.name, parameter))
 }
 
 /// Whether types are declared, those of a parameter are declared, and they do not fit it. Looks at each pair of a type

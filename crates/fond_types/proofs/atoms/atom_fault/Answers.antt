@@ -1,6 +1,5 @@
-use Rattle.std.proofs.Common.{◌≡◌, Some, None, sym}
+use Rattle.std.proofs.Common.{sym}
 use Rattle.fond_types.specs.Files.{declarations_of}
-use Rattle.fond_types.specs.Names.{predicate_of}
 use Rattle.fond_types.specs.Scopes.{lists_of}
 use Rattle.fond_types.proofs.AtomFaults.{fault_if_declared, fault_if_unknown}
 use Rattle.fond_types.proofs.atoms.atom_fault.Goals as goal

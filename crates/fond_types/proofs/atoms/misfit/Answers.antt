@@ -1,9 +1,8 @@
-use Rattle.std.proofs.Common.{◌≡◌, ℕ, Bool, true, Some, sym, ap, ◌∙◌, subst, rules}
+use Rattle.std.proofs.Common.{◌≡◌, true, Some, sym, ap, ◌∙◌, subst}
 use Rattle.fond_ast.specs.declared.names.TypedName.{TypedName}
 use Rattle.fond_kinds.specs.Kinds.{are_types, Fit}
 use Rattle.fond_text.proofs.Earliest.{first_along}
 use Rattle.fond_text.specs.declared.code.TheConstants.{TYPE_MISMATCH}
-use Rattle.fond_text.specs.declared.place.Place.{Place}
 use Rattle.fond_types.specs.Faults.{declaration_of}
 use Rattle.fond_types.specs.Files.{declarations_of}
 use Rattle.fond_types.specs.Scopes.{lists_of}

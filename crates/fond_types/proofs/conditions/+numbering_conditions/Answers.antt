@@ -1,13 +1,11 @@
-use Rattle.std.proofs.Common.{◌≡◌, ◌+◌, ◌≤◌, ◌++◌, ◌∷◌, ◌&&◌, [], Bool, true, List, ℕ, length, map, take, drop, sum, refl, sym, ap, ◌∙◌, subst, arith}
+use Rattle.std.proofs.Common.{◌≡◌, ◌+◌, ◌++◌, ◌∷◌, [], Bool, List, ℕ, length, map, take, sym, ap, ◌∙◌, arith}
 use Rattle.std.specs.List.{list_all}
 use Rattle.std.proofs.lemmas.List.{take_all}
 use Rattle.std.proofs.lemmas.List.Folds.{list_all-map}
 use Rattle.fond_ast.specs.Ranges.{objects_of}
 use Rattle.fond_ast.specs.Read.{condition_variables}
-use Rattle.fond_ast.specs.Within.{are_ranges_within, is_condition_within}
-use Rattle.fond_ast.specs.declared.form.LCond.{LCond, out-LCond}
-use Rattle.fond_ast.specs.declared.form.LCond.TheOpen as open_condition
-use Rattle.fond_ast.specs.declared.form.LCond.TheVariants as made
+use Rattle.fond_ast.specs.Within.{is_condition_within}
+use Rattle.fond_ast.specs.declared.form.LCond.{LCond}
 use Rattle.fond_ast.specs.declared.names.TypedName.{TypedName}
 use Rattle.fond_ast.specs.declared.syntax.Cond.{Cond}
 use Rattle.fond_text.specs.Lists.{each_passes}
@@ -16,12 +14,11 @@ use Rattle.fond_types.specs.Meanings.{meanings, ranges_around}
 use Rattle.fond_types.specs.Names.{objects_declared}
 use Rattle.fond_types.specs.Resolves.{is_condition}
 use Rattle.fond_types.specs.Scopes.{lists_of}
-use Rattle.fond_types.specs.Sites.{Scope, condition_sites, variables_of}
+use Rattle.fond_types.specs.Sites.{condition_sites}
 use Rattle.fond_types.specs.Sound.{are_sound}
 use Rattle.fond_types.proofs.AtomLemmas.{are_ranges_of}
-use Rattle.fond_types.proofs.Members.{and_both}
 use Rattle.fond_types.proofs.Passing.{passes_next}
-use Rattle.fond_types.proofs.WithinLemmas.{condition_within_by, ranges_within, sound_parts, map-map, next_read, rest_passes, here_passes, all_more, sum_here}
+use Rattle.fond_types.proofs.WithinLemmas.{ranges_within, sound_parts, map-map, next_read, rest_passes, all_more, sum_here}
 use Rattle.fond_types.proofs.conditions.+numbering_conditions.Goals as goal
 
 pub numbered_conditions-loop-condition-init : goal.numbered_conditions-loop-condition-init

@@ -1,5 +1,5 @@
 use Rattle.std.proofs.Common.{◌≡◌, ◌≤◌, ◌+◌, true, length, map, take, drop, sum}
-use Rattle.std.specs.List.{flat_map, list_all}
+use Rattle.std.specs.List.{list_all}
 use Rattle.fond_ast.specs.Read.{condition_variables}
 use Rattle.fond_ast.specs.Within.{is_condition_within}
 use Rattle.fond_text.specs.declared.code.TheConstants.{LONGEST_TEXT}

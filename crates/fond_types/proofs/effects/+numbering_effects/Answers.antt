@@ -1,13 +1,11 @@
-use Rattle.std.proofs.Common.{◌≡◌, ◌+◌, ◌≤◌, ◌++◌, ◌∷◌, ◌&&◌, [], Bool, true, List, ℕ, length, map, take, drop, sum, refl, sym, ap, ◌∙◌, subst, arith, length-append}
+use Rattle.std.proofs.Common.{◌≡◌, ◌+◌, ◌++◌, ◌∷◌, [], Bool, List, ℕ, length, map, take, sym, ap, ◌∙◌, arith, length-append}
 use Rattle.std.specs.List.{list_all}
 use Rattle.std.proofs.lemmas.List.{take_all}
 use Rattle.std.proofs.lemmas.List.Folds.{list_all-map}
 use Rattle.fond_ast.specs.Ranges.{objects_of}
 use Rattle.fond_ast.specs.Read.{effect_variables, has_choices}
-use Rattle.fond_ast.specs.Within.{are_ranges_within, is_effect_fluent, is_effect_within}
-use Rattle.fond_ast.specs.declared.form.LEffect.{LEffect, out-LEffect}
-use Rattle.fond_ast.specs.declared.form.LEffect.TheOpen as open_effect
-use Rattle.fond_ast.specs.declared.form.LEffect.TheVariants as made
+use Rattle.fond_ast.specs.Within.{is_effect_fluent, is_effect_within}
+use Rattle.fond_ast.specs.declared.form.LEffect.{LEffect}
 use Rattle.fond_ast.specs.declared.names.TypedName.{TypedName}
 use Rattle.fond_ast.specs.declared.syntax.Effect.{Effect}
 use Rattle.fond_text.specs.Lists.{each_passes}
@@ -16,12 +14,11 @@ use Rattle.fond_types.specs.Meanings.{meanings, ranges_around}
 use Rattle.fond_types.specs.Names.{objects_declared}
 use Rattle.fond_types.specs.Resolves.{is_effect}
 use Rattle.fond_types.specs.Scopes.{lists_of}
-use Rattle.fond_types.specs.Sites.{Scope, effect_sites, variables_of}
+use Rattle.fond_types.specs.Sites.{effect_sites}
 use Rattle.fond_types.specs.Sound.{are_sound, is_mentioned, literals_pass}
 use Rattle.fond_types.proofs.AtomLemmas.{are_ranges_of}
-use Rattle.fond_types.proofs.Members.{and_both}
 use Rattle.fond_types.proofs.Passing.{passes_next}
-use Rattle.fond_types.proofs.WithinLemmas.{effect_within_by, ranges_within, sound_parts, map-map, next_read, rest_passes, here_passes, all_more, sum_here}
+use Rattle.fond_types.proofs.WithinLemmas.{ranges_within, sound_parts, map-map, next_read, rest_passes, all_more, sum_here}
 use Rattle.fond_types.proofs.effects.+numbering_effects.Goals as goal
 
 pub numbered_effects-loop-effect-init : goal.numbered_effects-loop-effect-init

@@ -1,5 +1,5 @@
 use Rattle.std.proofs.Common.{◌≡◌, ◌≤◌, ◌+◌, true, length, map, take, drop, sum}
-use Rattle.std.specs.List.{flat_map, list_all}
+use Rattle.std.specs.List.{list_all}
 use Rattle.fond_ast.specs.Read.{effect_variables, has_choices}
 use Rattle.fond_ast.specs.Within.{is_effect_fluent, is_effect_within}
 use Rattle.fond_text.specs.declared.code.TheConstants.{LONGEST_TEXT}

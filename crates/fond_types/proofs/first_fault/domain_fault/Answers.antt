@@ -1,4 +1,4 @@
-use Rattle.std.proofs.Common.{◌≡◌, ◌⊎◌, ◌++◌, [], ℕ, List, refl, subst}
+use Rattle.std.proofs.Common.{◌⊎◌, [], ℕ, List, refl, subst}
 use Rattle.fond_ast.specs.declared.names.TypedName.{TypedName}
 use Rattle.fond_kinds.specs.Faults.{StandsInKinds}
 use Rattle.fond_text.proofs.Earliest.{first_of_both}

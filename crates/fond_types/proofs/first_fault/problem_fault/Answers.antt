@@ -1,4 +1,4 @@
-use Rattle.std.proofs.Common.{◌≡◌, ◌⊎◌, ◌++◌, [], ℕ, List, sym, ap, subst, append-nil}
+use Rattle.std.proofs.Common.{◌⊎◌, ◌++◌, [], ℕ, List, sym, ap, subst, append-nil}
 use Rattle.fond_ast.specs.declared.names.TypedName.{TypedName}
 use Rattle.fond_text.proofs.Earliest.{first_of_both}
 use Rattle.fond_text.specs.declared.place.Place.{Place}

@@ -1,4 +1,4 @@
-use Rattle.std.proofs.Common.{◌≡◌, ◌&&◌, Bool, true, false, List, ℕ, [], map, length, slice_get, sym, ap, ◌∙◌, subst}
+use Rattle.std.proofs.Common.{◌≡◌, ◌&&◌, true, false, List, ℕ, [], map, length, slice_get, ap, ◌∙◌, subst}
 use Rattle.std.specs.Option.{option_map_or}
 use Rattle.fond_text.specs.Lists.{each_passes}
 use Rattle.fond_ast.specs.Ranges.{objects_of, is_among}

@@ -1,12 +1,10 @@
-use Rattle.std.proofs.Common.{◌≡◌, ◌+◌, ◌++◌, ◌∷◌, [], List, true, map, take, sym, ap, ◌∙◌}
+use Rattle.std.proofs.Common.{◌≡◌, ◌++◌, ◌∷◌, [], map, take, sym, ap, ◌∙◌}
 use Rattle.std.specs.List.{list_all}
 use Rattle.std.proofs.lemmas.List.{map-append}
 use Rattle.std.proofs.lemmas.List.Folds.{list_all-map}
 use Rattle.fond_ast.specs.Within.{is_initial_within}
 use Rattle.fond_ast.specs.declared.files.InitAtom.{InitAtom}
-use Rattle.fond_ast.specs.declared.names.ReadAtom.{ReadAtom}
 use Rattle.fond_text.specs.Lists.{each_passes}
-use Rattle.fond_text.specs.declared.atom.Atom.{Atom}
 use Rattle.fond_types.specs.Files.{declarations_of}
 use Rattle.fond_types.specs.Meanings.{meanings}
 use Rattle.fond_types.specs.Resolves.{is_ground_atom, positive}
@@ -45,7 +43,7 @@ loop-i-preserved c =
             within = ap (list_all within) put ∙ all_more within c.loop-i.all atom before.within w.in_ok-ground_atom.ensures.within;
           })
       | else-initial w ↦ record {
-          resolved = (λ k. each_passes (map test (positive_passed init i one c.get-initial.ensures w.if-initial.false k)) (w.all-is k)) ∙ before.resolved;
-          within = ap (list_all within) w.all-is ∙ before.within;
-        }
+        resolved = (λ k. each_passes (map test (positive_passed init i one c.get-initial.ensures w.if-initial.false k)) (w.all-is k)) ∙ before.resolved;
+        within = ap (list_all within) w.all-is ∙ before.within;
+      }
     ]

@@ -1,4 +1,4 @@
-use Rattle.std.proofs.Common.{◌≡◌, ◌+◌, ◌++◌, ◌∷◌, [], List, ℕ, drop, sym, ap, ◌∙◌, append_assoc}
+use Rattle.std.proofs.Common.{◌+◌, ◌++◌, ◌∷◌, [], List, ℕ, drop, sym, ap, ◌∙◌, append_assoc}
 use Rattle.fond_ast.specs.declared.form.LTerm.{LTerm}
 use Rattle.fond_types.specs.Ground.{objects_in}
 use Rattle.fond_types.proofs.Differs.{next_left}

@@ -1,11 +1,11 @@
-use Rattle.std.proofs.Common.{◌≡◌, ◌&&◌, Bool, true, false, Some, None, is_some, map, sym, ap, ◌∙◌}
+use Rattle.std.proofs.Common.{◌≡◌, true, false, Some, None, is_some, map, sym, ap, ◌∙◌}
 use Rattle.fond_text.specs.Lists.{each_passes}
 use Rattle.fond_ast.specs.declared.files.Declared.{Declared}
 use Rattle.fond_ast.specs.declared.form.LAtom.{LAtom}
 use Rattle.fond_lookup.specs.Texts.{number_beside}
 use Rattle.fond_types.specs.Files.{declarations_of}
 use Rattle.fond_types.specs.Meanings.{meanings}
-use Rattle.fond_types.specs.Names.{is_among, predicate_of}
+use Rattle.fond_types.specs.Names.{is_among}
 use Rattle.fond_types.specs.Resolves.{is_number_of, is_term, is_atom}
 use Rattle.fond_types.specs.Scopes.{lists_of}
 use Rattle.fond_types.proofs.AtomLemmas.{atom_known, sound_atom, atom_within, atom_fluent}

@@ -1,4 +1,4 @@
-use Rattle.std.proofs.Common.{◌≡◌, ◌<◌, ◌+◌, ◌++◌, drop, ap, ◌∙◌, sym, length, subst, ℕ, List, arith}
+use Rattle.std.proofs.Common.{◌≡◌, ◌<◌, ◌+◌, ◌++◌, drop, ap, ◌∙◌, sym, length, ℕ, List, arith}
 use Rattle.fond_ast.specs.declared.names.TypedName.{TypedName}
 use Rattle.fond_types.specs.Files.{declarations_of}
 use Rattle.fond_types.specs.Kept.{range_by, numbers_of}

@@ -1,4 +1,4 @@
-use Rattle.std.proofs.Common.{◌≡◌, ◌+◌, ◌++◌, ◌∷◌, [], List, drop, sym, ap, ◌∙◌, append_assoc}
+use Rattle.std.proofs.Common.{◌+◌, ◌++◌, ◌∷◌, [], List, drop, sym, ap, ◌∙◌, append_assoc}
 use Rattle.fond_ast.specs.declared.names.Kind.{Kind}
 use Rattle.fond_types.specs.Same.{kind_names}
 use Rattle.fond_types.proofs.Differs.{next_left}

@@ -1,6 +1,5 @@
-use Rattle.std.proofs.Common.{◌≡◌, ◌++◌, ◌∷◌, [], List, true, sym, ap, ◌∙◌, subst}
+use Rattle.std.proofs.Common.{◌≡◌, ◌++◌, ◌∷◌, [], true, sym, ◌∙◌, subst}
 use Rattle.std.proofs.lemmas.List.Folds.{list_all-append}
-use Rattle.fond_ast.specs.declared.names.TypedName.{TypedName}
 use Rattle.fond_types.specs.Files.{declarations_of}
 use Rattle.fond_types.specs.Scopes.{lists_of}
 use Rattle.fond_types.specs.Sites.{Scope, AList, condition_sites, effect_sites}

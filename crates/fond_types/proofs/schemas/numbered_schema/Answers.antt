@@ -1,10 +1,7 @@
-use Rattle.std.proofs.Common.{◌≡◌, ◌&&◌, ◌∷◌, [], Bool, List, ℕ, true, is_some, length, map, refl, sym, ap, ◌∙◌, subst}
-use Rattle.std.specs.List.{list_any}
-use Rattle.std.specs.Str.{bytes_eq}
+use Rattle.std.proofs.Common.{◌≡◌, ◌&&◌, ◌∷◌, [], is_some, length, refl, ap, ◌∙◌}
 use Rattle.fond_ast.specs.Ranges.{objects_of}
 use Rattle.fond_ast.specs.Within.{are_ranges_within, is_condition_within, is_effect_within}
 use Rattle.fond_ast.specs.declared.names.Kind.{Kind}
-use Rattle.fond_ast.specs.declared.names.TypedName.{TypedName}
 use Rattle.fond_lookup.specs.Texts.{number_beside}
 use Rattle.fond_types.specs.Files.{declarations_of}
 use Rattle.fond_types.specs.Meanings.{meanings, ranges_around}

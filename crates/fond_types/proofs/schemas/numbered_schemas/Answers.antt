@@ -1,4 +1,4 @@
-use Rattle.std.proofs.Common.{◌≡◌, ◌+◌, ◌++◌, ◌∷◌, [], List, true, length, take, sym, ap, ◌∙◌, subst}
+use Rattle.std.proofs.Common.{◌+◌, List, length, take, sym, ap, ◌∙◌, subst}
 use Rattle.std.specs.List.{AllZip, list_all}
 use Rattle.fond_ast.specs.Read.{is_schema_with_choices, has_few_variables}
 use Rattle.fond_ast.specs.Within.{is_schema_fluent, is_schema_within}
@@ -10,7 +10,6 @@ use Rattle.fond_types.specs.Names.{objects_declared}
 use Rattle.fond_types.specs.Resolves.{IsResolvedSchema}
 use Rattle.fond_types.specs.Sites.{schema_sites}
 use Rattle.fond_types.specs.Sound.{are_sound}
-use Rattle.fond_types.proofs.Among.{next_taken}
 use Rattle.fond_types.proofs.LiteralLemmas.{own_literals}
 use Rattle.fond_types.proofs.Members.{all_got}
 use Rattle.fond_types.proofs.Passing.{zip_next}

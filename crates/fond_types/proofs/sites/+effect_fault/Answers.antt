@@ -1,4 +1,4 @@
-use Rattle.std.proofs.Common.{◌≡◌, ◌++◌, ◌∷◌, [], inl, inr, List, take, map, ap, ◌∙◌, sym, subst, arith}
+use Rattle.std.proofs.Common.{◌≡◌, ◌++◌, ◌∷◌, [], inl, inr, List, map, ap, ◌∙◌, sym, subst, arith}
 use Rattle.std.specs.List.{flat_map}
 use Rattle.std.proofs.lemmas.List.{take_all}
 use Rattle.fond_ast.specs.Read.{effect_variables}
@@ -11,7 +11,7 @@ use Rattle.fond_ast.specs.declared.names.TypedName.{TypedName}
 use Rattle.fond_types.specs.Faults.{OccursAmong, OccursAt}
 use Rattle.fond_types.specs.Files.{declarations_of}
 use Rattle.fond_types.specs.Scopes.{lists_of}
-use Rattle.fond_types.specs.Sites.{Scope, Site, AnAtom, AList, condition_sites, effect_sites}
+use Rattle.fond_types.specs.Sites.{Site, AnAtom, AList, condition_sites, effect_sites}
 use Rattle.fond_types.proofs.SiteLemmas.{effect_sites_by, site_one, sites_both, site_then, sites_next, fewer_left}
 use Rattle.fond_types.proofs.sites.+effect_fault.Goals as goal
 

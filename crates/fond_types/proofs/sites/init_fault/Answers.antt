@@ -1,4 +1,4 @@
-use Rattle.std.proofs.Common.{◌≡◌, List, [], subst}
+use Rattle.std.proofs.Common.{[], subst}
 use Rattle.fond_ast.specs.declared.files.InitAtom.{InitAtom}
 use Rattle.fond_text.specs.Firsts.{IsFirst}
 use Rattle.fond_types.specs.Faults.{OccursAt}

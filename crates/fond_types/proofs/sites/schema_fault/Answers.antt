@@ -1,10 +1,10 @@
-use Rattle.std.proofs.Common.{◌≡◌, ◌++◌, ◌∷◌, [], List, Option, ap, ◌∙◌, subst, sym}
+use Rattle.std.proofs.Common.{◌≡◌, ◌++◌, ◌∷◌, [], List, ◌∙◌, subst}
 use Rattle.fond_ast.specs.declared.names.TypedName.{TypedName}
 use Rattle.fond_text.specs.Firsts.{IsFirst}
 use Rattle.fond_types.specs.Faults.{OccursAmong, OccursAt}
 use Rattle.fond_types.specs.Files.{declarations_of}
 use Rattle.fond_types.specs.Scopes.{lists_of}
-use Rattle.fond_types.specs.Sites.{Scope, Site, AList, condition_sites, effect_sites}
+use Rattle.fond_types.specs.Sites.{Scope, AList, condition_sites, effect_sites}
 use Rattle.fond_types.proofs.ScopeLemmas.{lists-Nothing}
 use Rattle.fond_types.proofs.SiteLemmas.{sites_both, site_then}
 use Rattle.fond_types.proofs.sites.schema_fault.Goals as goal

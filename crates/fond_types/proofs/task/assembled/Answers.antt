@@ -1,4 +1,4 @@
-use Rattle.std.proofs.Common.{◌≡◌, ◌<◌, ◌≤◌, ◌^◌, [], inl, inr, ℕ, List, true, length, map, refl, sym, ap, ◌∙◌, subst, arith}
+use Rattle.std.proofs.Common.{◌≡◌, [], inl, inr, length, map, refl, ap, ◌∙◌, arith}
 use Rattle.std.specs.List.{list_all}
 use Rattle.std.proofs.lemmas.Slice.Zip.{AllZip-long}
 use Rattle.fond_ast.specs.declared.files.Declared.{Declared}
@@ -9,7 +9,7 @@ use Rattle.fond_text.specs.Lists.{are_distinct_texts}
 use Rattle.fond_text.specs.declared.place.FileKind.TheVariants as kind
 use Rattle.fond_types.specs.Files.{declarations_of}
 use Rattle.fond_types.specs.Meanings.{meanings}
-use Rattle.fond_types.specs.Names.{all_objects, firsts, objects_declared, predicates_declared}
+use Rattle.fond_types.specs.Names.{all_objects, objects_declared, predicates_declared}
 use Rattle.fond_types.specs.Resolves.{IsResolvedPredicate, IsResolvedSchema}
 use Rattle.fond_types.specs.Subtypes.{is_subtype}
 use Rattle.fond_types.proofs.Ancestors.{subtype_decides}

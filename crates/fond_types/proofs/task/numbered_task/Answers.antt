@@ -1,4 +1,4 @@
-use Rattle.std.proofs.Common.{◌≡◌, inl, inr, true, sym, ap, ◌∙◌, subst}
+use Rattle.std.proofs.Common.{◌≡◌, inr, true, sym, subst}
 use Rattle.fond_text.specs.declared.place.FileKind.TheVariants as kind
 use Rattle.fond_types.specs.declared.files.Files.{Files}
 use Rattle.fond_types.specs.Files.{declarations_of}

@@ -1,5 +1,4 @@
-use Rattle.std.proofs.Common.{◌≡◌, ◌++◌, [], inl, inr, sym, ◌∙◌}
-use Rattle.std.specs.List.{list_all}
+use Rattle.std.proofs.Common.{[], inl, inr, sym, ◌∙◌}
 use Rattle.std.proofs.lemmas.List.Folds.{list_all-append}
 use Rattle.fond_ast.specs.declared.files.Declared.{Declared}
 use Rattle.fond_ast.specs.declared.names.TypedName.{TypedName}

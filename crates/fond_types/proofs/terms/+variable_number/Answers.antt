@@ -1,4 +1,4 @@
-use Rattle.std.proofs.Common.{◌≡◌, None, Option, ℕ, length, sym, ap, ◌∙◌, rules}
+use Rattle.std.proofs.Common.{◌≡◌, None, Option, ℕ, length, sym, ap, ◌∙◌}
 use Rattle.fond_lookup.specs.Texts.{number_beside}
 use Rattle.fond_types.specs.Resolves.{placed_or, variable_number}
 use Rattle.fond_types.specs.Scopes.{lists_of}

@@ -1,5 +1,4 @@
-use Rattle.std.proofs.Common.{sym, ap, ◌∙◌, ◌≡◌, ◌+◌, map, take, true}
-use Rattle.fond_ast.specs.declared.names.Term.{Term}
+use Rattle.std.proofs.Common.{ap, ◌∙◌, ◌+◌, map, take}
 use Rattle.fond_text.specs.Lists.{each_passes}
 use Rattle.fond_types.specs.Files.{declarations_of}
 use Rattle.fond_types.specs.Meanings.{meanings}

@@ -1,4 +1,4 @@
-use Rattle.std.proofs.Common.{◌≡◌, not, ap, ◌∙◌, arith}
+use Rattle.std.proofs.Common.{not, ap, arith}
 use Rattle.fond_text.specs.declared.code.TheConstants.{UNKNOWN_TYPE}
 use Rattle.fond_ast.specs.declared.names.Kind.{Kind}
 use Rattle.fond_kinds.specs.Kinds.{is_type}

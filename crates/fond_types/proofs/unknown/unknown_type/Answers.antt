@@ -1,6 +1,5 @@
-use Rattle.std.proofs.Common.{ℕ, arith}
+use Rattle.std.proofs.Common.{arith}
 use Rattle.fond_ast.specs.declared.names.TypedName.{TypedName}
-use Rattle.fond_text.specs.declared.place.Place.{Place}
 use Rattle.fond_text.proofs.Earliest.{first_along}
 use Rattle.fond_types.specs.Faults.{HasUnknownType}
 use Rattle.fond_types.specs.Unknown.{IsUnknownKind}
