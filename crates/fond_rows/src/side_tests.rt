@@ -86,8 +86,8 @@ const FIRST: [(&str, [&str; 3], &str); 9] = [
     ),
     (
         "one of form later in a file comes before one early in a later file",
-        ["(define (domain x)\n\n (:predicates (p ?x)))", "x", ")"],
-        "refused domain 3 15 F24\n",
+        ["(define (domain x)\n\n (:predicates (p x)))", "x", ")"],
+        "refused domain 3 18 F7\n",
     ),
 ];
 
