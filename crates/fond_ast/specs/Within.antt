@@ -32,11 +32,12 @@ term_objects count around (Variable number) = slice_get around number
 abbrev pub is_term_within : ℕ → List (List ℕ) → LTerm → Bool
 is_term_within count around term = nat_lt (length around) (2 ^ 32) && is_some (term_objects count around term)
 
--- whether each object for which a term may stand lies in a range
+-- whether each object for which a term may stand lies in a range; false if the term stands for nothing
 abbrev pub fits_range : ℕ → List (List ℕ) → List ℕ → LTerm → Bool
 fits_range count around range term = option_map_or (list_all (is_among range)) (term_objects count around term) false
 
--- whether the task has the predicate of an atom, and as many terms as the predicate has ranges are within and fit them
+-- whether the task has the predicate of an atom, and the atom has one term for each range of the predicate, which names
+-- something and fits the range
 abbrev pub is_atom_within : ℕ → List LPredicate → LAtom → List (List ℕ) → Bool
 is_atom_within count predicates atom around =
     list_all (is_term_within count around) atom.terms

@@ -11,7 +11,7 @@ use fond_text::list::List;
 use fond_text::name::Name;
 use fond_text::place::Place;
 
-/// An action schema. A missing precondition is the true condition, and a missing effect the empty one.
+/// An action schema, at the place of its name. A missing precondition is the true condition, and a missing effect the empty one.
 #[derive(Drop)]
 pub struct Schema {
     pub place: Place,
@@ -35,9 +35,9 @@ pub struct Declared {
 /// Declared predicates, in order.
 pub type DeclaredList = List<Declared>;
 
-/// A domain: its types, constants, predicates and schemas, each in the order of the text. By its facts, each type and
-/// each constant has exactly one type, each `oneof` has a member, and it declares no more names of each sort than a text
-/// may have bytes.
+/// A domain, at the place of its root: its types, constants, predicates and schemas, each in the order of the text. By its
+/// facts, each type and each constant has exactly one type, each `oneof` has a member, and there are no more types,
+/// constants, predicates and schemas, and no more variables in any one schema, than a text may have bytes.
 #[derive(Drop)]
 pub struct Domain {
     pub place: Place,
@@ -65,7 +65,7 @@ pub struct InitAtom {
 /// The atoms of `:init`, in order.
 pub type InitAtoms = List<InitAtom>;
 
-/// A problem: its objects, each of exactly one type, its initial atoms and its goal. By its facts, it declares no more
+/// A problem, at the place of its root: its objects, each of exactly one type, its initial atoms and its goal. By its facts, it declares no more
 /// objects, and no more variables in its goal, than a text may have bytes.
 #[derive(Drop)]
 pub struct Problem {

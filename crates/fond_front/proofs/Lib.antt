@@ -1,3 +1,3 @@
 mod SideFaults
 mod SideMarks
-mod Tasks
+pub mod Tasks

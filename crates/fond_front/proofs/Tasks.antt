@@ -13,7 +13,8 @@ use Rattle.fond_tree.proofs.NoTree.{no_tree_has_a_fault_lem}
 use Rattle.fond_tree.specs.declared.tree.Tree.{Tree}
 use Rattle.fond_tree.specs.Faults.{IsTextFault, IsFaultOf}
 use Rattle.fond_tree.specs.Spelling.{IsReadAs}
-use Rattle.fond_types.specs.Faults.{Declarations, StandsInNames}
+use Rattle.fond_types.specs.Faults.{StandsInNames}
+use Rattle.fond_types.specs.Names.{Declarations}
 use Rattle.fond_types.specs.Resolves.{IsResolved}
 use Rattle.fond_front.specs.declared.parse.Trees.{Trees}
 use Rattle.fond_front.specs.declared.texts.TaskTexts.{TaskTexts}

@@ -10,7 +10,8 @@ use Rattle.fond_tree.specs.Faults.{IsTextFault}
 use Rattle.fond_tree.specs.Spelling.{IsReadAs}
 use Rattle.fond_grammar.specs.Faults.{StandsInDomain, StandsInProblem}
 use Rattle.fond_reader.specs.Files.{IsDomainOf, IsProblemOf}
-use Rattle.fond_types.specs.Faults.{Declarations, StandsInNames}
+use Rattle.fond_types.specs.Faults.{StandsInNames}
+use Rattle.fond_types.specs.Names.{Declarations}
 use Rattle.fond_types.specs.Resolves.{IsResolved}
 use Rattle.fond_front.specs.declared.declare.Files.{Files}
 use Rattle.fond_front.specs.declared.parse.Trees.{Trees}
@@ -29,7 +30,7 @@ pub record AreTreesOf (texts : TaskTexts) (trees : Trees) : Type 0 where
   pub problem : IsReadAs texts.problem trees.problem
   pub side : IsClean (IsSideTextFault texts.side)
 
--- a fault of its form occurs in a file: one of F7 to F12, or F24 for a form that is not supported yet
+-- a fault of its form occurs in a file: one of F7 to F12
 abbrev pub OccursInTrees : TaskTexts → Trees → FileKind → Place → ℕ → Type 0
 OccursInTrees texts trees Domain = StandsInDomain trees.domain
 OccursInTrees texts trees Problem = StandsInProblem trees.problem

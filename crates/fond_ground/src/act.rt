@@ -13,9 +13,9 @@ ghost use Rattle.std.specs.Prelude.{◌≡◌, ◌+◌, ◌<◌, ◌≤◌, ◌^
 
 use crate::table::Table;
 use crate::value::{form_of, is_possible};
+use fond_oneof::outcome::{Literal, outcomes};
 use fond_plain::form::PlainEffect;
 use fond_plain::task::PlainSchema;
-use fond_oneof::outcome::{Literal, outcomes};
 use fond_task::form::Form;
 use fond_task::task::{Act, Acts, Entry, Outcome, Outcomes};
 use fond_text::atom::{GroundAction, Objects};

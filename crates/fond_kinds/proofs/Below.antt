@@ -1,6 +1,6 @@
 -- What is below what in a forest, and in the parents among which it is.
-use Rattle.std.proofs.Common.{◌≡◌, ◌⊎◌, ℕ, zero, suc, ◌+◌, ◌<◌, ◌≤◌, List, Bool, true, false, Option, Some, None, length, refl, sym, ap, ◌∙◌, subst, inl, inr, arith}
-use Rattle.std.specs.Prelude.{slice_index, slice_index_or}
+use Rattle.std.proofs.Common.{◌≡◌, ℕ, zero, suc, ◌<◌, ◌≤◌, List, Bool, true, Option, Some, None, length, refl, sym, ap, ◌∙◌, subst, inl, inr, arith}
+use Rattle.std.specs.Prelude.{slice_index}
 use Rattle.fond_kinds.specs.Parents.{parent_of, IsBelow, here, up}
 use Rattle.std.proofs.lemmas.Bool.{cases_order}
 use Rattle.fond_kinds.specs.Forests.{Forest, IsForest, IsStep, is_marked}

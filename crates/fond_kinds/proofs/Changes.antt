@@ -1,17 +1,17 @@
 -- The first declaration of a type among those before an index.
-use Rattle.std.proofs.Common.{◌≡◌, ◌≢◌, ◌⊎◌, ℕ, zero, suc, ◌+◌, ◌<◌, ◌≤◌, ◌&&◌, not, Bool, true, false, List, [], ◌∷◌, Option, Some, None, is_some, length, get_or, take, cond, refl, sym, ap, ◌∙◌, subst, inl, inr, zero-add, arith}
+use Rattle.std.proofs.Common.{◌≡◌, ℕ, zero, suc, ◌+◌, ◌<◌, ◌≤◌, ◌&&◌, not, Bool, true, false, List, [], ◌∷◌, Some, None, is_some, length, get_or, take, cond, refl, sym, ap, ◌∙◌, inl, inr, zero-add, arith}
 use Rattle.std.specs.Prelude.{slice_get, find, position}
 use Rattle.std.specs.List.{position_from}
 use Rattle.std.specs.Str.{bytes_eq}
 use Rattle.std.specs.Cmp.Lexicographic.{bytes_decides}
-use Rattle.std.proofs.lemmas.Bool.{cases_eq, cases_order}
+use Rattle.std.proofs.lemmas.Bool.{cases_order}
 use Rattle.std.proofs.lemmas.Iterator.Adapters.{position_from-zero}
 use Rattle.std.proofs.lemmas.List.Quantifiers.{position-Some}
 use Rattle.std.proofs.lemmas.Option.{get_or_from_slice_get}
 use Rattle.fond_ast.specs.declared.names.TypedName.{TypedName}
 use Rattle.fond_kinds.proofs.Numbers.{any_at}
 use Rattle.fond_kinds.proofs.Types.{some_position}
-use Rattle.fond_kinds.specs.Kinds.{declares, is_passed_over, only_kind, type_of}
+use Rattle.fond_kinds.specs.Kinds.{declares, is_passed_over, type_of}
 
 module _ {X : Type 0} (p : X → Bool) where
   from_low : (xs : List X) (from n : ℕ) → position_from p from xs ≡ Some n → from ≤ n

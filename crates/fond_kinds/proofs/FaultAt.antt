@@ -1,19 +1,18 @@
 -- The faults of declared types are those of their declarations, index by index.
-use Rattle.std.proofs.Common.{◌≡◌, ◌≢◌, ◌⊎◌, ℕ, zero, suc, ◌+◌, ◌<◌, ◌≤◌, false, List, [], ◌∷◌, ◌++◌, Option, Some, None, length, take, drop, refl, sym, ap, ◌∙◌, subst, inl, inr, arith, below_more}
-use Rattle.std.specs.Prelude.{slice_get, find, position, option_and_then, Contains}
+use Rattle.std.proofs.Common.{◌≡◌, ◌⊎◌, ℕ, ◌+◌, ◌<◌, ◌≤◌, List, [], ◌∷◌, ◌++◌, Option, Some, None, length, take, drop, refl, sym, ap, ◌∙◌, subst, inl, inr, arith}
+use Rattle.std.specs.Prelude.{slice_get, position, option_and_then, Contains}
 use Rattle.std.proofs.Math.Seq.{take-append_seam}
 use Rattle.std.proofs.lemmas.Bool.{cases_order}
 use Rattle.std.proofs.lemmas.List.{take-append-drop}
 use Rattle.std.proofs.lemmas.Option.{slice_get_within, get_or_from_slice_get, slice_get-get_or}
-use Rattle.fond_text.specs.Lists.{Somewhere}
 use Rattle.fond_text.specs.Firsts.{IsFirst, IsEarlier}
 use Rattle.fond_text.specs.declared.first.Found.{Found}
 use Rattle.fond_text.specs.declared.place.Place.{Place}
 use Rattle.fond_text.proofs.Earliest.{first_along, first_of_both}
 use Rattle.fond_ast.specs.declared.names.TypedName.{TypedName}
-use Rattle.fond_kinds.specs.Kinds.{root, only_kind, is_passed_over, declares, type_of, IsAncestor}
-use Rattle.fond_kinds.specs.Faults.{IsCyclic, IsRepeatedType, StandsInKinds}
-use Rattle.fond_kinds.specs.Tables.{IsCycleAt, IsChangeAt, IsFaultAt}
+use Rattle.fond_kinds.specs.Kinds.{declares, type_of}
+use Rattle.fond_kinds.specs.Faults.{StandsInKinds}
+use Rattle.fond_kinds.specs.Tables.{IsFaultAt}
 use Rattle.fond_kinds.proofs.Numbers.{find_at, drop_at}
 
 -- a list is cut at an index, and is cut at the index of an item

@@ -1,18 +1,14 @@
 -- A forest that grows: what adding a number keeps.
-use Rattle.std.proofs.Common.{◌≡◌, ◌≢◌, ◌⊎◌, ℕ, zero, suc, ◌+◌, ◌<◌, List, [], ◌∷◌, ◌++◌, Bool, true, false, Option, Some, None, length, refl, sym, ap, ◌∙◌, subst, inl, inr, arith}
-use Rattle.std.specs.Prelude.{Contains, slice_index, slice_index_or, slice_set, nat_lt}
-use Rattle.std.specs.List.{list_all}
-use Rattle.std.specs.Option.{option_map_or}
+use Rattle.std.proofs.Common.{◌≡◌, ◌≢◌, ◌⊎◌, ℕ, ◌+◌, ◌<◌, Bool, true, false, Some, None, length, refl, sym, ap, ◌∙◌, subst, inl, inr, arith}
+use Rattle.std.specs.Prelude.{slice_index, slice_set}
 use Rattle.std.proofs.lemmas.Bool.{cases_eq}
 use Rattle.std.proofs.lemmas.List.{get_or-set_same, get_or-set_other, length-set}
-use Rattle.std.proofs.lemmas.List.Elements.{Contains-append_left}
-use Rattle.fond_text.specs.Lists.{AreDistinct}
 use Rattle.fond_kinds.specs.Parents.{parent_of, are_within}
 use Rattle.fond_kinds.specs.Forests.{Forest, IsForest, is_marked, planted, attached}
-use Rattle.fond_kinds.specs.Growth.{Adds, IsGrowing, IsResting, IsWalking, IsWalked, IsUnwinding, IsPath, Leads, missing, is_met, is_done}
+use Rattle.fond_kinds.specs.Growth.{Adds, IsGrowing, missing, is_met, is_done}
 use Rattle.fond_kinds.specs.declared.grower.Grower.{Grower}
 use Rattle.fond_kinds.proofs.Grow.{planted_is, attached_is}
-use Rattle.fond_kinds.proofs.Paths.{missing-set, is_last, distinct-front, leads-front}
+use Rattle.fond_kinds.proofs.Paths.{missing-set}
 
 -- a number has a mark or none
 pub marked_or_not : (b : Bool) → (b ≡ true) ⊎ (b ≡ false)

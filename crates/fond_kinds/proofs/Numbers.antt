@@ -1,16 +1,15 @@
 -- The tables of types: the numbers of names, first declarations and parents.
-use Rattle.std.proofs.Common.{◌≡◌, ◌≢◌, ◌⊎◌, ℕ, zero, suc, ◌+◌, ◌*◌, ◌<◌, ◌≤◌, ◌||◌, ◌&&◌, not, nat_lt, Bool, true, false, List, [], ◌∷◌, ◌++◌, Option, Some, None, is_some, length, get_or, slice_get, drop, replicate, cond, map, refl, sym, ap, ◌∙◌, subst, zero-add, inl, inr, arith}
-use Rattle.std.specs.Prelude.{option_and_then, option_map, slice_index_or, slice_set, find, position, is_none, if◌then◌else◌}
-use Rattle.std.specs.List.{list_any, list_all, flat_map, position_from}
+use Rattle.std.proofs.Common.{◌≡◌, ◌≢◌, ◌⊎◌, ℕ, zero, suc, ◌+◌, ◌*◌, ◌<◌, ◌≤◌, ◌||◌, ◌&&◌, not, nat_lt, Bool, true, false, List, [], ◌∷◌, Option, Some, None, length, get_or, slice_get, drop, replicate, cond, map, refl, sym, ap, ◌∙◌, subst, zero-add, inl, inr, arith}
+use Rattle.std.specs.Prelude.{option_and_then, slice_index_or, slice_set, find, position, is_none, if◌then◌else◌}
+use Rattle.std.specs.List.{list_any, flat_map, position_from}
 use Rattle.std.proofs.lemmas.Iterator.Adapters.{position_from-zero}
 use Rattle.std.specs.Option.{option_or, option_map_or}
 use Rattle.std.specs.Str.{bytes_eq}
 use Rattle.std.specs.Cmp.Lexicographic.{bytes_decides}
 use Rattle.std.proofs.lemmas.Bool.{cases_eq, cases_order, lt-ltb}
 use Rattle.std.proofs.lemmas.List.{get_or-set_same, get_or-set_other, length-set, get_or_past, get_or-replicate, length-replicate}
-use Rattle.std.proofs.Math.ListN.{get_or-map, length-map}
+use Rattle.std.proofs.Math.ListN.{length-map}
 use Rattle.std.proofs.lemmas.List.Sums.{list_all-from_AllPass}
-use Rattle.std.proofs.lemmas.List.Concat.{length-flat_map}
 use Rattle.std.proofs.lemmas.Grind.{common_steps}
 use Rattle.std.proofs.lemmas.List.{at_drop_more}
 use Rattle.std.proofs.lemmas.Option.{slice_get_within, get_or_from_slice_get, slice_get-get_or}
@@ -19,7 +18,7 @@ use Rattle.fond_lookup.specs.Texts.{number_beside}
 use Rattle.fond_kinds.specs.Kinds.{root, only_kind, is_passed_over, declares, type_of, parent_of}
 use Rattle.fond_kinds.specs.Parents.{are_within}
 use Rattle.fond_kinds.specs.Tables.{type_names, number_of, put_first, firsts_with}
-use Rattle.fond_kinds.proofs.Types.{named, number_within, same_name, known, some_is, or-true}
+use Rattle.fond_kinds.proofs.Types.{number_within, same_name, known, some_is, or-true, root_number}
 
 -- the names of a declaration among all names of types
 pub names_at : (types : List TypedName) (i : ℕ) (declared : TypedName) → slice_get types i ≡ Some declared
@@ -217,24 +216,30 @@ module _ {X : Type 0} (p : X → Bool) (all : List X) where
 
 -- the number of the parent in a first declaration
 abbrev pub parent_number : List TypedName → List (List ℕ × ℕ) → Option ℕ → Option ℕ
-parent_number types numbers first = option_and_then (λ declared. number_beside numbers (only_kind declared)) (option_and_then (λ at. slice_get types at) first)
+parent_number types numbers first = option_map_or (λ declared. number_beside numbers (only_kind declared)) (option_and_then (λ at. slice_get types at) first) (Some 0)
 
 -- the parents by number are the numbers of the parents
 pub parents_ascend : (types : List TypedName) (numbers : List (List ℕ × ℕ)) (firsts : List (Option ℕ)) → ((name : List ℕ) → number_beside numbers name ≡ number_of types name)
     → ((name : List ℕ) (number : ℕ) → number_of types name ≡ Some number → slice_index_or firsts number None ≡ position (declares name) types)
-    → (name : List ℕ) (number : ℕ) → number_of types name ≡ Some number → parent_number types numbers (slice_index_or firsts number None) ≡ option_and_then (number_of types) (parent_of types name)
+    → (name : List ℕ) (number : ℕ) → number_of types name ≡ Some number → parent_number types numbers (slice_index_or firsts number None) ≡ number_of types (parent_of types name)
 parents_ascend types numbers firsts numbered declared name number known =
-    ap (λ o. option_and_then (λ one. number_beside numbers (only_kind one)) o) (ap (λ o. option_and_then (λ at. slice_get types at) o) (declared name number known) ∙ find_at (declares name) types) ∙ by (type_of types name)
+    ap (λ o. option_map_or (λ one. number_beside numbers (only_kind one)) o (Some 0)) (ap (λ o. option_and_then (λ at. slice_get types at) o) (declared name number known) ∙ find_at (declares name) types) ∙ by (type_of types name)
   where
-    by : (o : Option TypedName) → option_and_then (λ one. number_beside numbers (only_kind one)) o ≡ option_and_then (number_of types) (option_map only_kind o)
-    by None = refl
+    by : (o : Option TypedName) → option_map_or (λ one. number_beside numbers (only_kind one)) o (Some 0) ≡ number_of types (option_map_or only_kind o root)
+    by None = sym (root_number types)
     by (Some one) = numbered (only_kind one)
 
 -- the number of a parent is one of the numbers of types
 parent_low : (types : List TypedName) (numbers : List (List ℕ × ℕ)) → ((name : List ℕ) → number_beside numbers name ≡ number_of types name) → (o : Option TypedName) (m : ℕ)
-    → option_and_then (λ one. number_beside numbers (only_kind one)) o ≡ Some m → m < length (type_names types)
-parent_low types numbers numbered None m off = cc
+    → option_map_or (λ one. number_beside numbers (only_kind one)) o (Some 0) ≡ Some m → m < length (type_names types)
+parent_low types numbers numbered None m is = number_within types root m (root_number types ∙ is)
 parent_low types numbers numbered (Some one) m is = number_within types (only_kind one) m (sym (numbered (only_kind one)) ∙ is)
+
+-- what is mapped at an index of a list
+pub map_at : {A B : Type 0} (of : A → B) (xs : List A) (k : ℕ) (d : B) (e : A) → k < length xs → get_or (map of xs) k d ≡ of (get_or xs k e)
+map_at of [] k d e low = absurd (omega arith)
+map_at of (x ∷ xs) zero d e low = refl
+map_at of (x ∷ xs) (suc k) d e low = map_at of xs k d e (omega arith)
 
 -- each parent is one of the numbers
 pub parents_within : (types : List TypedName) (numbers : List (List ℕ × ℕ)) (firsts : List (Option ℕ)) → ((name : List ℕ) → number_beside numbers name ≡ number_of types name) → length firsts ≡ length (type_names types)
@@ -245,7 +250,9 @@ parents_within types numbers firsts numbered long parents all = list_all-from_Al
     by k d within None is = refl
     by k d within (Some m) is =
         let same : get_or parents k None ≡ get_or parents k d = get_or_from_slice_get parents k (get_or parents k d) None (slice_get-get_or parents k d within) in
-        let its : parent_number types numbers (get_or firsts k None) ≡ Some m = sym (get_or-map (parent_number types numbers) firsts k None) ∙ ap (λ z. get_or z k None) (sym all) ∙ same ∙ is in
+        let same_long : length parents ≡ length firsts = ap length all ∙ rw length-map refl in
+        let inside : k < length firsts = omega arith in
+        let its : parent_number types numbers (get_or firsts k None) ≡ Some m = sym (map_at (parent_number types numbers) firsts k None None inside) ∙ ap (λ z. get_or z k None) (sym all) ∙ same ∙ is in
         let low : m < length (type_names types) = parent_low types numbers numbered (option_and_then (λ at. slice_get types at) (get_or firsts k None)) m its in
         let count : length parents ≡ length firsts = ap length all ∙ rw length-map refl in
         lt-ltb m (length parents) (omega arith)

@@ -1,14 +1,14 @@
 -- Types by their numbers, and their ancestors.
-use Rattle.std.proofs.Common.{◌≡◌, ◌⊎◌, ℕ, zero, suc, ◌+◌, ◌<◌, ◌||◌, ◌&&◌, not, nat_eq, Bool, true, false, List, [], ◌∷◌, ◌++◌, Option, Some, None, is_some, length, get_or, slice_get, position, cond, map, refl, sym, ap, ◌∙◌, subst, inl, inr, arith}
-use Rattle.std.specs.Prelude.{option_and_then, option_map, slice_index_or, find, codes}
-use Rattle.std.specs.Bool.{Decides}
+use Rattle.std.proofs.Common.{◌≡◌, ◌⊎◌, ℕ, ◌+◌, ◌<◌, ◌||◌, Bool, true, false, List, [], ◌∷◌, Option, Some, None, is_some, length, get_or, position, cond, refl, sym, ap, ◌∙◌, subst, inl, inr}
+use Rattle.std.specs.Prelude.{find}
+use Rattle.std.specs.Option.{option_map_or}
 use Rattle.std.specs.List.{list_any, position_from, flat_map}
 use Rattle.std.specs.Str.{bytes_eq}
 use Rattle.std.specs.Cmp.Lexicographic.{nat_list_eq_equiv, bytes_decides}
 use Rattle.std.proofs.lemmas.Iterator.Adapters.{position_from-zero}
 use Rattle.std.proofs.lemmas.List.Quantifiers.{position-Some}
 use Rattle.fond_ast.specs.declared.names.TypedName.{TypedName}
-use Rattle.fond_kinds.specs.Kinds.{root, only_kind, is_passed_over, declares, type_of, parent_of, is_type, IsAncestor, parent, onward, IsSubtype}
+use Rattle.fond_kinds.specs.Kinds.{root, only_kind, declares, type_of, parent_of, is_type, IsAncestor, parent, onward, IsSubtype}
 use Rattle.fond_kinds.specs.Parents as numbers
 use Rattle.fond_kinds.specs.Parents.{IsBelow, here, up}
 use Rattle.fond_kinds.specs.Tables.{type_names, number_of}
@@ -82,42 +82,35 @@ some_is None off = cc
 some_is (Some x) on = (x, refl)
 
 -- a parent has a number
-pub parent_numbered : (types : List TypedName) (name above : List ℕ) → parent_of types name ≡ Some above → (number : ℕ) × (number_of types above ≡ Some number)
-parent_numbered types name above is = by (type_of types name) refl
+pub parent_numbered : (types : List TypedName) (name : List ℕ) → (number : ℕ) × (number_of types (parent_of types name) ≡ Some number)
+parent_numbered types name = by (type_of types name) refl
   where
-    by : (o : Option TypedName) → type_of types name ≡ o → (number : ℕ) × (number_of types above ≡ Some number)
-    by None none = let clash : None ≡ Some above = sym (ap (λ o. option_map only_kind o) none) ∙ is in cc
+    by : (o : Option TypedName) → type_of types name ≡ o → (number : ℕ) × (number_of types (option_map_or only_kind o root) ≡ Some number)
+    by None none = (0, root_number types)
     by (Some declared) found =
-        let kind : Some (only_kind declared) ≡ Some above = sym (ap (λ o. option_map only_kind o) found) ∙ is in
-        let same : only_kind declared ≡ above = cc in
-        let itself : bytes_eq (only_kind declared) above ≡ true = (bytes_decides (only_kind declared) above).1 same in
-        let either : (bytes_eq declared.name above || bytes_eq (only_kind declared) above) ≡ true = ap (λ b. bytes_eq declared.name above || b) itself ∙ or-true (bytes_eq declared.name above) in
-        let any = found_any (declares name) (λ one. bytes_eq one.name above || bytes_eq (only_kind one) above) types declared found either in
-        let type : is_type types above ≡ true = ap (λ b. bytes_eq above root || b) any ∙ or-true (bytes_eq above root) in
-        some_is (number_of types above) (known types above ∙ type)
+        let itself : bytes_eq (only_kind declared) (only_kind declared) ≡ true = (bytes_decides (only_kind declared) (only_kind declared)).1 refl in
+        let either : (bytes_eq declared.name (only_kind declared) || bytes_eq (only_kind declared) (only_kind declared)) ≡ true = ap (λ b. bytes_eq declared.name (only_kind declared) || b) itself ∙ or-true (bytes_eq declared.name (only_kind declared)) in
+        let any = found_any (declares name) (λ one. bytes_eq one.name (only_kind declared) || bytes_eq (only_kind one) (only_kind declared)) types declared found either in
+        let type : is_type types (only_kind declared) ≡ true = ap (λ b. bytes_eq (only_kind declared) root || b) any ∙ or-true (bytes_eq (only_kind declared) root) in
+        some_is (number_of types (only_kind declared)) (known types (only_kind declared) ∙ type)
 
-module _ (types : List TypedName) (parents : List (Option ℕ)) (ascends : (name : List ℕ) (number : ℕ) → number_of types name ≡ Some number → numbers.parent_of parents number ≡ option_and_then (number_of types) (parent_of types name)) where
+module _ (types : List TypedName) (parents : List (Option ℕ)) (ascends : (name : List ℕ) (number : ℕ) → number_of types name ≡ Some number → numbers.parent_of parents number ≡ number_of types (parent_of types name)) where
   -- an ancestor is above by number
   pub ancestor_above : (name above : List ℕ) (n m : ℕ) → number_of types name ≡ Some n → number_of types above ≡ Some m → IsAncestor types name above → (p : ℕ) × (numbers.parent_of parents n ≡ Some p) × IsBelow parents p m
-  ancestor_above name above n m one two (parent a b is) = (m, ascends name n one ∙ ap (λ o. option_and_then (number_of types) o) is ∙ two, here m)
-  ancestor_above name above n m one two (onward a middle b is rest) =
-      let (k, its) = parent_numbered types name middle is in
-      let (p, next, below) = ancestor_above middle above k m its two rest in
-      (k, ascends name n one ∙ ap (λ o. option_and_then (number_of types) o) is ∙ its, up k p m next below)
+  ancestor_above name above n m one two (parent a) = (m, ascends name n one ∙ two, here m)
+  ancestor_above name above n m one two (onward a b rest) =
+      let (k, its) = parent_numbered types name in
+      let (p, next, below) = ancestor_above (parent_of types name) above k m its two rest in
+      (k, ascends name n one ∙ its, up k p m next below)
 
   -- what is above by number is an ancestor or the type itself
   pub above_ancestor : (n m : ℕ) → IsBelow parents n m → (name above : List ℕ) → number_of types name ≡ Some n → number_of types above ≡ Some m → (name ≡ above) ⊎ IsAncestor types name above
   above_ancestor n m (here k) name above one two = inl (same_name types name above k one two)
-  above_ancestor n m (up k p l next rest) name above one two = by (parent_of types name) refl (above_ancestor p l rest)
-    where
-      by : (o : Option (List ℕ)) → parent_of types name ≡ o → ((name above : List ℕ) → number_of types name ≡ Some p → number_of types above ≡ Some l → (name ≡ above) ⊎ IsAncestor types name above) → (name ≡ above) ⊎ IsAncestor types name above
-      by None none again = let clash : Some p ≡ None = sym next ∙ ascends name k one ∙ ap (λ o. option_and_then (number_of types) o) none in cc
-      by (Some middle) is again =
-          let number : number_of types middle ≡ Some p = sym (ascends name k one ∙ ap (λ o. option_and_then (number_of types) o) is) ∙ next in
-          elim (again middle above number two) [
-            | inl same ↦ inr (parent name above (is ∙ ap (λ z. Some z) same))
-            | inr more ↦ inr (onward name middle above is more)
-          ]
+  above_ancestor n m (up k p l next rest) name above one two =
+      elim (above_ancestor p l rest (parent_of types name) above (sym (ascends name k one) ∙ next) two) [
+        | inl same ↦ inr (subst (λ z. IsAncestor types name z) same (parent name))
+        | inr more ↦ inr (onward name above more)
+      ]
 
   -- subtypes by number, unless the other type is `object`
   pub subtype_below : (name above : List ℕ) (n m : ℕ) → number_of types name ≡ Some n → number_of types above ≡ Some m → (m ≡ 0 → ⊥) → IsSubtype types name above → IsBelow parents n m
@@ -140,16 +133,11 @@ module _ (types : List TypedName) (parents : List (Option ℕ)) (ascends : (name
 
   -- a type is its own ancestor if and only if it is above its parent by number
   pub own_ancestor : (name : List ℕ) (n p : ℕ) → number_of types name ≡ Some n → numbers.parent_of parents n ≡ Some p → IsBelow parents p n → IsAncestor types name name
-  own_ancestor name n p one next below = by (parent_of types name) refl
-    where
-      by : (o : Option (List ℕ)) → parent_of types name ≡ o → IsAncestor types name name
-      by None none = let clash : Some p ≡ None = sym next ∙ ascends name n one ∙ ap (λ o. option_and_then (number_of types) o) none in cc
-      by (Some middle) is =
-          let number : number_of types middle ≡ Some p = sym (ascends name n one ∙ ap (λ o. option_and_then (number_of types) o) is) ∙ next in
-          elim (above_ancestor p n below middle name number one) [
-            | inl same ↦ parent name name (is ∙ ap (λ z. Some z) same)
-            | inr more ↦ onward name middle name is more
-          ]
+  own_ancestor name n p one next below =
+      elim (above_ancestor p n below (parent_of types name) name (sym (ascends name n one) ∙ next) one) [
+        | inl same ↦ subst (λ z. IsAncestor types name z) same (parent name)
+        | inr more ↦ onward name name more
+      ]
 
   pub own_ancestor_below : (name : List ℕ) (n p : ℕ) → number_of types name ≡ Some n → numbers.parent_of parents n ≡ Some p → IsAncestor types name name → IsBelow parents p n
   own_ancestor_below name n p one next own =

@@ -1,20 +1,19 @@
 -- Paths that are walked and then added to the forest.
-use Rattle.std.proofs.Common.{◌≡◌, ◌≢◌, ◌⊎◌, ℕ, zero, suc, ◌+◌, ◌<◌, ◌≤◌, List, [], ◌∷◌, ◌++◌, Bool, true, false, Option, Some, None, length, refl, sym, ap, ◌∙◌, subst, inl, inr, arith}
-use Rattle.std.specs.Prelude.{Contains, slice_index, slice_index_or, slice_set, slice_get, nat_lt}
-use Rattle.std.specs.List.{list_all}
+use Rattle.std.proofs.Common.{◌≡◌, ◌≢◌, ◌⊎◌, ℕ, ◌<◌, ◌≤◌, List, [], ◌∷◌, ◌++◌, Bool, true, false, Option, Some, None, length, refl, sym, ap, ◌∙◌, subst, inl, inr, arith}
+use Rattle.std.specs.Prelude.{Contains, slice_index, nat_lt}
 use Rattle.std.specs.Option.{option_map_or}
-use Rattle.std.proofs.lemmas.Bool.{cases_eq, cases_order, ltb-true}
+use Rattle.std.proofs.lemmas.Bool.{cases_order, ltb-true}
 use Rattle.std.proofs.lemmas.List.Sums.{AllPass-from_list_all}
-use Rattle.std.proofs.lemmas.List.{get_or-set_same, get_or-set_other, length-set, get_or_past}
-use Rattle.std.proofs.lemmas.List.Elements.{Contains-append_left, Contains-append_cases, Contains-append_right}
+use Rattle.std.proofs.lemmas.List.{get_or-set_same, get_or-set_other, get_or_past}
+use Rattle.std.proofs.lemmas.List.Elements.{Contains-append_left, Contains-append_cases}
 use Rattle.fond_text.specs.Lists.{AreDistinct}
 use Rattle.fond_kinds.specs.Parents.{parent_of, IsBelow, are_within}
-use Rattle.fond_kinds.specs.Forests.{Forest, IsForest, IsStep, IsWhole, is_marked, planted, attached}
+use Rattle.fond_kinds.specs.Forests.{Forest, IsStep, IsWhole, is_marked, planted, attached}
 use Rattle.fond_kinds.proofs.Below.{IsAbove, up_step, jump_step, below_above, above_below, below_same, below_later}
-use Rattle.fond_kinds.specs.Growth.{Adds, IsGrowing, IsResting, IsWalking, IsWalked, IsUnwinding, IsPath, Leads, missing, is_met, is_done}
+use Rattle.fond_kinds.specs.Growth.{Adds, IsGrowing, IsResting, IsWalked, IsUnwinding, Leads, is_met, is_done}
 use Rattle.fond_kinds.specs.declared.grower.Grower.{Grower}
 use Rattle.fond_kinds.proofs.Growth.{done_now, still_done, other_waits, was_done, was_met, met_still, was_waiting, plants, attaches, marked_or_not}
-use Rattle.fond_kinds.proofs.Paths.{is_last, the_only, distinct-front, distinct-more, leads-front, leads-more, none}
+use Rattle.fond_kinds.proofs.Paths.{is_last, the_only, distinct-front, leads-front, none}
 
 -- a number with a parent is one of those that may have parents
 pub has_parent : (parents : List (Option ℕ)) (n p : ℕ) → parent_of parents n ≡ Some p → n < length parents

@@ -1,12 +1,11 @@
 -- A path that is walked: one more number is met.
-use Rattle.std.proofs.Common.{◌≡◌, ◌≢◌, ◌⊎◌, ℕ, ◌+◌, ◌<◌, List, [], ◌∷◌, ◌++◌, Bool, true, false, Option, Some, None, length, refl, sym, ap, ◌∙◌, subst, inl, inr, arith, append_assoc}
-use Rattle.std.specs.Prelude.{Contains, slice_index, slice_index_or, slice_set}
+use Rattle.std.proofs.Common.{◌≡◌, ◌⊎◌, ℕ, ◌+◌, ◌<◌, List, [], ◌∷◌, ◌++◌, true, false, Some, length, sym, ap, ◌∙◌, subst, inl, inr, arith}
+use Rattle.std.specs.Prelude.{Contains, slice_index}
 use Rattle.std.proofs.lemmas.Bool.{cases_eq}
 use Rattle.std.proofs.lemmas.List.{get_or-set_same, get_or-set_other, length-set}
 use Rattle.std.proofs.lemmas.List.Elements.{Contains-append_left, Contains-append_cases}
-use Rattle.fond_text.specs.Lists.{AreDistinct}
 use Rattle.fond_kinds.specs.Parents.{parent_of, are_within}
-use Rattle.fond_kinds.specs.Forests.{Forest, IsForest, is_marked}
+use Rattle.fond_kinds.specs.Forests.{IsForest, is_marked}
 use Rattle.fond_kinds.specs.Growth.{missing, Meets, IsGrowing, IsResting, IsWalking, IsPath, Leads, is_met, is_done}
 use Rattle.fond_kinds.specs.declared.grower.Grower.{Grower}
 use Rattle.fond_kinds.proofs.Growth.{marked_or_not}

@@ -6,8 +6,8 @@ use Rattle.fond_text.specs.declared.place.Place.{Place}
 use Rattle.fond_ast.specs.declared.names.TypedName.{TypedName}
 use Rattle.fond_kinds.specs.Kinds.{root, only_kind, is_passed_over, type_of, IsAncestor}
 
--- a type other than `object` is its own ancestor, or `object` is declared with another parent than `object`; the fault is
--- at the declaration of the type, the first one if it is its own ancestor
+-- a type other than `object` is its own ancestor: the fault is at its first declaration; or `object` is declared with another
+-- parent than `object`: the fault is at each such declaration
 abbrev pub IsCyclic : List TypedName → Place → ℕ → Type 0
 IsCyclic types place code =
     (declared : TypedName)
@@ -15,7 +15,8 @@ IsCyclic types place code =
     ⊎ (Contains types declared × (declared.name ≡ root) × (only_kind declared ≢ root)))
     × (place ≡ declared.place) × (code ≡ TYPE_CYCLE)
 
--- a type is declared again with another parent than at first; the fault is at the later declaration
+-- a type is declared again with another parent than at first; the fault is at the later declaration; `object` without a
+-- written parent is no declaration
 abbrev pub IsRepeatedType : List TypedName → Place → ℕ → Type 0
 IsRepeatedType types place code =
     Somewhere (λ before declared. (is_passed_over declared ≡ false) × ((first : TypedName) × (type_of before declared.name ≡ Some first) × (only_kind first ≢ only_kind declared)) × (place ≡ declared.place)) types

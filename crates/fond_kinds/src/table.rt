@@ -7,7 +7,7 @@ ghost use Rattle.fond_lookup.specs.Texts.{number_beside, with_text};
 ghost use Rattle.fond_text.specs.declared.code.TheConstants.{LONGEST_TEXT};
 ghost use Rattle.std.specs.Bool.{Decides};
 ghost use Rattle.std.specs.List.{list_all};
-ghost use Rattle.std.specs.Option.{is_some};
+ghost use Rattle.std.specs.Option.{is_some, option_map_or};
 ghost use Rattle.std.specs.Prelude.{◌≡◌, ◌<◌, ◌≤◌, ◌^◌, ℕ, List, IsTrue, Some, None, true, length, option_and_then, position, replicate, slice_get, slice_index_or, vec_len, IfOk, OnOk};
 
 use crate::ancestry::Ancestry;
@@ -28,7 +28,7 @@ pub struct TypeTable<'a> {
     pub(crate) ghost declared: { (name : List ℕ) (number : ℕ) → number_of types.now name ≡ Some number
         → slice_index_or firsts.items number None ≡ position (declares name) types.now },
     ghost ascends: { (name : List ℕ) (number : ℕ) → number_of types.now name ≡ Some number
-        → parent_of ancestry number ≡ option_and_then (number_of types.now) (parent_of_type types.now name) },
+        → parent_of ancestry number ≡ number_of types.now (parent_of_type types.now name) },
     ghost over: { length ancestry ≡ length (type_names types.now) },
 }
 
@@ -91,15 +91,13 @@ fn put_first(firsts: &mut Vec<Option<u32>>, numbers: &TextIndex, declared: &Type
     }
 }
 
-/// The number of the parent in the declaration at an index, if there is one.
+/// The number of the parent in the declaration at an index, or that of `object` if there is none.
 fn parent_number(types: &TypedNames, numbers: &TextIndex, first: Option<u32>) -> Option<u32>
-    ensures { result ≡ option_and_then (λ declared. number_beside numbers.now (only_kind_of declared)) (option_and_then (λ at. slice_get types.now at) first) }
+    ensures { result ≡ option_map_or (λ declared. number_beside numbers.now (only_kind_of declared)) (option_and_then (λ at. slice_get types.now at) first) (Some 0) }
 {
-    let at = first? as usize;
-    if at < types.len() {
-        numbers.find(only_kind(types.get(at)))
-    } else {
-        None
+    match first {
+        Some(at) if (at as usize) < types.len() => numbers.find(only_kind(types.get(at as usize))),
+        _ => Some(0),
     }
 }
 
@@ -139,10 +137,11 @@ fn parents_of(
     requires numbered { (name : List ℕ) → number_beside numbers.now name ≡ number_of types.now name }
     requires declared { (name : List ℕ) (number : ℕ) → number_of types.now name ≡ Some number
         → slice_index_or firsts.now number None ≡ position (declares name) types.now }
+    requires over { length firsts.now ≡ length (type_names types.now) }
     ensures ascends { IfOk result (λ parents. (name : List ℕ) (number : ℕ) → number_of types.now name ≡ Some number
-        → parent_of parents.items number ≡ option_and_then (number_of types.now) (parent_of_type types.now name)) }
+        → parent_of parents.items number ≡ number_of types.now (parent_of_type types.now name)) }
     ensures over { IfOk result (λ parents. length parents.items ≡ length firsts.now) }
-    ensures within { IfOk result (λ parents. length firsts.now ≡ length (type_names types.now) → are_within parents.items ≡ true) }
+    ensures within { IfOk result (λ parents. are_within parents.items ≡ true) }
 {
     let mut parents = Vec::with_capacity(alloc, firsts.len())?;
     for first in firsts {

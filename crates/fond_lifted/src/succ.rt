@@ -11,14 +11,18 @@ ghost use Rattle.std.specs.Prelude.{◌≡◌, ◌&&◌, [], ◌++◌, if◌then
 ghost use Rattle.std.specs.List.{flat_map};
 
 use crate::values::{initial_values, is_true, next_values, value};
-use fond_plain::task::{PlainPredicate, PlainPredicates, PlainSchema, PlainTask};
 use fond_oneof::outcome::{Outcome, outcomes};
+use fond_plain::task::{PlainPredicate, PlainPredicates, PlainSchema, PlainTask};
 use fond_text::fault::NoMemory;
 use indexmap::IndexSet;
 use std::alloc::Global;
 
 /// Whether the action is applicable in the initial state.
-pub fn is_applicable(alloc: Global, task: &PlainTask, schema: &PlainSchema) -> Result<bool, NoMemory>
+pub fn is_applicable(
+    alloc: Global,
+    task: &PlainTask,
+    schema: &PlainSchema,
+) -> Result<bool, NoMemory>
     requires { Contains task.now.schemas schema.now }
     ensures { IfOk result (λ answer. answer ≡ holds (initial task.now) schema.now.pre) }
 {
@@ -57,7 +61,11 @@ fn put_atom(out: &mut Vec<u8>, predicate: &PlainPredicate, is_true: bool) -> Res
 }
 
 /// Appends the text of a state.
-fn put_state(out: &mut Vec<u8>, predicates: &PlainPredicates, values: &[bool]) -> Result<(), NoMemory>
+fn put_state(
+    out: &mut Vec<u8>,
+    predicates: &PlainPredicates,
+    values: &[bool],
+) -> Result<(), NoMemory>
     ensures ok { OnOk result (out.new.items ≡ out.old.items ++ state_text predicates.now (state_of values.now)) }
     ensures grew { Grew out.old.items out.new.items }
 {

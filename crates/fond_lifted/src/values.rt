@@ -8,9 +8,9 @@ ghost use Rattle.fond_plain.specs.Successors.{initial, atom_of_number};
 ghost use Rattle.std.specs.List.{list_all, list_any};
 ghost use Rattle.std.specs.Prelude.{◌≡◌, ◌<◌, ℕ, false, map, length, slice_index_or, IfOk, if◌then◌else◌};
 
+use fond_oneof::outcome::{Literal, Outcome};
 use fond_plain::form::PlainCond;
 use fond_plain::task::PlainTask;
-use fond_oneof::outcome::{Literal, Outcome};
 use fond_text::fault::NoMemory;
 use std::alloc::Global;
 

@@ -10,8 +10,8 @@ use Rattle.fond_ast.specs.declared.form.LTerm.TheVariants.{Object, Variable}
 use Rattle.fond_ast.specs.declared.form.LCond.{LCond, Truth, Holds as HoldsAtom, Equal, And', Or', Not', Imply', Forall', Exists', Row_of-LCond, end_of-LCond, more_of-LCond}
 use Rattle.fond_meaning.specs.States.{State}
 
--- the object of a term: an object is its own, and a variable has the one that is listed for it; in a task one is listed for
--- each variable
+-- the object of a term: an object is its own, and a variable has the one at its number; 0 stands for a missing one, which
+-- no variable of a task has
 abbrev pub object_of : List ℕ → LTerm → ℕ
 object_of env (Object number) = number
 object_of env (Variable number) = slice_index_or env number 0

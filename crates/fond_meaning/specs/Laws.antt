@@ -29,7 +29,7 @@ has_variable_step number (Imply part other) = part.value || other.value
 has_variable_step number (Forall ranges part) = part.value
 has_variable_step number (Exists ranges part) = part.value
 
--- whether a variable occurs in a condition
+-- whether a variable of this number occurs in a condition, be it bound inside or not
 abbrev pub has_variable : ℕ → LCond → Bool
 has_variable number = fold-LCond Bool (has_variable_step number)
 

@@ -14,8 +14,8 @@ pub record IsFirst (occurs : Place → ℕ → Type 0) (first : Option Found) : 
   pub one : IfSome first (λ found. occurs found.place found.code)
   pub covers : (place : Place) (code : ℕ) → occurs place code → Covers first place code
 
--- the earlier of two faults, either of which may be missing: it is no later than any fault that one of them is no later
--- than
+-- the earlier of two faults, either of which may be missing: it is one of the two, and no later than any fault that one of
+-- them is no later than
 pub record IsEarlier (one other first : Option Found) : Type 0 where
   pub from : (first ≡ one) ⊎ (first ≡ other)
   pub covers_one : (place : Place) (code : ℕ) → Covers one place code → Covers first place code

@@ -3,6 +3,7 @@ pub mod Commands
 pub mod Ends
 pub mod Fetches
 pub mod Numbers
+pub mod Plain
 pub mod Rejections
 pub mod Replies
 pub mod Runs

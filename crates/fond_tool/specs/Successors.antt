@@ -7,7 +7,7 @@ use Rattle.fond_plain.specs.Effects.{IsApplicable}
 use Rattle.fond_plain.specs.Successors.{initial}
 use Rattle.fond_lifted.specs.Texts.{successors_text}
 use Rattle.fond_front.specs.declared.texts.TaskTexts.{TaskTexts}
-use Rattle.fond_front.specs.Tasks.{IsTaskOf, IsFirstFault}
+use Rattle.fond_tool.specs.Plain.{IsPlainTaskOf, IsRefusal}
 use Rattle.fond_tool.specs.declared.status.Status.TheVariants.{Done}
 use Rattle.fond_tool.specs.Actions.{NamesSchema}
 use Rattle.fond_tool.specs.Replies.{Reply, line_reply, fault_reply, action_reply}
@@ -27,9 +27,9 @@ successors_reply task schema = record { text = codes "applicable yes\n" ++ succe
 -- what `succ` replies: a refusal of its files, a rejection of its action, or the successors of the initial state by the
 -- schema that the action names, if it is applicable there
 pub data SuccReply (texts : TaskTexts) (action : List ℕ) : Reply → Type 0 where
-  refused : (fault : Fault) → IsFirstFault texts fault → SuccReply texts action (fault_reply fault)
-  unknown : (task : PlainTask) → IsTaskOf texts task → NamesNone task action → SuccReply texts action action_reply
-  inapplicable : (task : PlainTask) (schema : PlainSchema) → IsTaskOf texts task → Contains task.schemas schema → NamesSchema action schema → ¬ IsApplicable (initial task) schema
+  refused : (fault : Fault) → IsRefusal texts fault → SuccReply texts action (fault_reply fault)
+  unknown : (task : PlainTask) → IsPlainTaskOf texts task → NamesNone task action → SuccReply texts action action_reply
+  inapplicable : (task : PlainTask) (schema : PlainSchema) → IsPlainTaskOf texts task → Contains task.schemas schema → NamesSchema action schema → ¬ IsApplicable (initial task) schema
       → SuccReply texts action inapplicable_reply
-  successors : (task : PlainTask) (schema : PlainSchema) → IsTaskOf texts task → Contains task.schemas schema → NamesSchema action schema → IsApplicable (initial task) schema
+  successors : (task : PlainTask) (schema : PlainSchema) → IsPlainTaskOf texts task → Contains task.schemas schema → NamesSchema action schema → IsApplicable (initial task) schema
       → SuccReply texts action (successors_reply task schema)

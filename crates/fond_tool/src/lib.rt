@@ -7,6 +7,7 @@ mod action;
 mod answer;
 mod commands;
 mod fetch;
+mod plain_task;
 mod rejection;
 mod run;
 pub mod status;

@@ -8,12 +8,12 @@ ghost use Rattle.fond_tool.specs.Runs.{RunReply};
 ghost use Rattle.std.specs.Prelude.{◌≡◌, ℕ, Bool, List, IfOk, IfErr};
 
 use crate::answer::Answer;
+use crate::plain_task::read_plain;
 use crate::rejection::Rejection;
 use crate::status::Status;
 use fond_cert::policy::read_policy;
 use fond_exec::script::read_script;
 use fond_exec::trace::trace;
-use fond_front::task::read_task;
 use fond_front::texts::TaskTexts;
 use fond_ground::ground::ground;
 use fond_rules::rules::Rules;
@@ -51,7 +51,7 @@ pub fn run(
     ensures replied { IfOk result (RunReply texts.now cert.now script.now) }
     ensures rejected { IfErr result (Rejects (RunReply texts.now cert.now script.now)) }
 {
-    let lifted = read_task(alloc, texts)?;
+    let lifted = read_plain(alloc, texts)?;
     let task = ground(alloc, &lifted)?;
     let policy = read_policy(alloc, &task, cert)?;
     let numbers = read_script(alloc, script)?;

@@ -9,12 +9,12 @@ ghost use Rattle.std.specs.Prelude.{◌≡◌, ◌⊎◌, Contains, IfOk, IfErr}
 
 use crate::action::find_action;
 use crate::answer::{Answer, line};
+use crate::plain_task::read_plain;
 use crate::rejection::Rejection;
 use crate::status::Status;
-use fond_plain::task::{PlainSchema, PlainTask};
-use fond_front::task::read_task;
 use fond_front::texts::TaskTexts;
 use fond_lifted::succ::{is_applicable, put_successors};
+use fond_plain::task::{PlainSchema, PlainTask};
 use fond_text::fault::NoMemory;
 use fond_text::word::Word;
 use std::alloc::Global;
@@ -39,7 +39,7 @@ pub fn succ(alloc: Global, texts: &TaskTexts, action: &Word) -> Result<Answer, R
     ensures replied { IfOk result (SuccReply texts.now action.now) }
     ensures rejected { IfErr result (Rejects (SuccReply texts.now action.now)) }
 {
-    let task = read_task(alloc, texts)?;
+    let task = read_plain(alloc, texts)?;
     let Some(schema) = find_action(alloc, &task, action)? else {
         return Err(Rejection::UnknownAction);
     };

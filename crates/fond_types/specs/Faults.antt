@@ -30,7 +30,7 @@ IsRepeatedObject earlier objects place code =
     Somewhere (λ before declared. ((first : TypedName) × (first_of (earlier ++ before) declared.name ≡ Some first) × (only_kind first ≢ only_kind declared)) × (place ≡ declared.place)) objects
     × (code ≡ REPEATED_NAME)
 
--- two lists have the same types, in whatever order and however often each
+-- two parameters have the same set of types, in whatever order and however often each is written
 abbrev pub HaveSameTypes : TypedName → TypedName → Type 0
 HaveSameTypes one other =
     (list_all (λ kind. is_among (map (λ kind. kind.name) other.kinds) kind.name) one.kinds ≡ true)

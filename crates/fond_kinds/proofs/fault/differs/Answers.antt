@@ -1,8 +1,7 @@
-use Rattle.std.proofs.Common.{◌≡◌, ◌≢◌, ℕ, List, Bool, true, false, not, Some, None, take, sym, ap, ◌∙◌, subst, refl}
+use Rattle.std.proofs.Common.{◌≡◌, ◌≢◌, ℕ, List, Bool, true, false, not, Some, None, take, sym, ap, ◌∙◌, refl}
 use Rattle.std.specs.Str.{bytes_eq}
 use Rattle.std.specs.Cmp.Lexicographic.{bytes_decides}
-use Rattle.fond_ast.specs.declared.names.TypedName.{TypedName}
-use Rattle.fond_kinds.specs.Kinds.{only_kind, is_passed_over, type_of}
+use Rattle.fond_kinds.specs.Kinds.{only_kind, type_of}
 use Rattle.fond_kinds.specs.Tables.{IsChangeAt}
 use Rattle.fond_kinds.proofs.Changes.{earlier_first, none_earlier}
 use Rattle.fond_kinds.proofs.fault.differs.Goals as goal

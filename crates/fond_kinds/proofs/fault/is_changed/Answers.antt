@@ -1,4 +1,4 @@
-use Rattle.std.proofs.Common.{◌≡◌, ℕ, Some, None, sym, ap, ◌∙◌, subst}
+use Rattle.std.proofs.Common.{◌≡◌, ℕ, Some, sym, ap, ◌∙◌, subst}
 use Rattle.std.specs.Prelude.{position}
 use Rattle.fond_kinds.specs.Kinds.{declares}
 use Rattle.fond_kinds.specs.Tables.{number_of}

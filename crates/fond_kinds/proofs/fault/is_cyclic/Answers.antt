@@ -1,4 +1,4 @@
-use Rattle.std.proofs.Common.{◌≡◌, ℕ, Some, sym, ap, ◌∙◌, subst}
+use Rattle.std.proofs.Common.{◌≡◌, ℕ, Some, sym, subst}
 use Rattle.fond_kinds.specs.Tables.{number_of}
 use Rattle.fond_kinds.proofs.Numbers.{declared_numbered}
 use Rattle.fond_kinds.proofs.fault.is_cyclic.Goals as goal

@@ -1,5 +1,4 @@
-use Rattle.std.proofs.Common.{◌≡◌, ◌≤◌, ◌+◌, ◌*◌, ℕ, None, Option, length, replicate, sym, ap, ◌∙◌, subst, arith}
-use Rattle.fond_kinds.specs.Tables.{firsts_with}
+use Rattle.std.proofs.Common.{◌≡◌, ◌+◌, ◌*◌, ℕ, None, Option, length, replicate, sym, subst, arith}
 use Rattle.fond_kinds.proofs.Numbers.{AreFirsts, firsts_none, firsts_more, firsts_all}
 use Rattle.fond_kinds.proofs.table.firsts_of.Goals as goal
 

@@ -1,4 +1,4 @@
-use Rattle.std.proofs.Common.{◌≡◌, ◌≤◌, ◌+◌, ◌*◌, ℕ, List, [], Some, length, slice_get, refl, sym, ap, ◌∙◌, subst, arith}
+use Rattle.std.proofs.Common.{◌≡◌, ◌+◌, ◌*◌, ℕ, List, [], refl, ap, ◌∙◌, subst, arith}
 use Rattle.fond_lookup.proofs.Firsts.{HasFirsts, has_all, has_more}
 use Rattle.fond_lookup.specs.Texts.{with_text}
 use Rattle.fond_kinds.specs.Kinds.{root, only_kind}

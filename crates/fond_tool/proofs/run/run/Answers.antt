@@ -1,4 +1,4 @@
-use Rattle.fond_front.specs.Tasks.{IsFirstFault}
+use Rattle.fond_tool.specs.Plain.{IsRefusal}
 use Rattle.fond_text.specs.declared.fault.Fault.{Fault}
 use Rattle.fond_tool.specs.Rejections.{of_cert, of_files, of_script}
 use Rattle.fond_tool.specs.Runs.{RunReply}
@@ -11,7 +11,7 @@ returns-in_err-lifted-clause-rejected c =
     let holds = RunReply c.args.texts.now c.args.cert.now c.args.script.now in
     let error = c.in_err-lifted.field-0.0 in
     rejected_by _ (of_files error) holds c.from_residual.ensures.1
-    (files_rejected holds (IsFirstFault c.args.texts.now) (λ (fault : Fault) first. RunReply.refused fault first) error c.in_err-lifted.ensures.refused)
+    (files_rejected holds (IsRefusal c.args.texts.now) (λ (fault : Fault) first. RunReply.refused fault first) error c.in_err-lifted.ensures.refused)
 
 pub returns-in_err-policy-clause-rejected : goal.returns-in_err-policy-clause-rejected
 returns-in_err-policy-clause-rejected c =

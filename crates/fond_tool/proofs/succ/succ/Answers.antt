@@ -1,4 +1,4 @@
-use Rattle.fond_front.specs.Tasks.{IsFirstFault}
+use Rattle.fond_tool.specs.Plain.{IsRefusal}
 use Rattle.fond_text.specs.declared.fault.Fault.{Fault}
 use Rattle.fond_tool.specs.Rejections.{of_files}
 use Rattle.fond_tool.specs.Successors.{SuccReply}
@@ -11,7 +11,7 @@ returns-in_err-task-clause-rejected c =
     let holds = SuccReply c.args.texts.now c.args.action.now in
     let error = c.in_err-task.field-0.0 in
     rejected_by _ (of_files error) holds c.from_residual.ensures.1
-    (files_rejected holds (IsFirstFault c.args.texts.now) (λ (fault : Fault) first. SuccReply.refused fault first) error c.in_err-task.ensures.refused)
+    (files_rejected holds (IsRefusal c.args.texts.now) (λ (fault : Fault) first. SuccReply.refused fault first) error c.in_err-task.ensures.refused)
 
 pub returns-in_default-clause-rejected : goal.returns-in_default-clause-rejected
 returns-in_default-clause-rejected c = SuccReply.unknown c.in_ok-task.task c.in_ok-task.ensures.read (rw c.in_default.is at c.in_ok-schema.ensures)

@@ -1,9 +1,8 @@
-use Rattle.std.proofs.Common.{◌≡◌, ◌<◌, ℕ, List, Option, Some, None, Bool, true, false, length, refl, sym, ap, ◌∙◌, subst, arith}
+use Rattle.std.proofs.Common.{◌≡◌, ◌<◌, Some, None, true, false, length, refl, sym, ap, ◌∙◌, subst}
 use Rattle.fond_kinds.specs.Parents.{parent_of, IsBelow}
-use Rattle.fond_kinds.specs.Forests.{Forest, IsWhole}
 use Rattle.std.specs.Prelude.{slice_index}
 use Rattle.fond_kinds.proofs.Unwind.{is_above, is_below}
-use Rattle.fond_kinds.proofs.Below.{IsAbove, within, around}
+use Rattle.fond_kinds.proofs.Below.{within, around}
 use Rattle.fond_kinds.proofs.ancestry.Ancestry.is_below.Goals as goal
 
 pub returns-then-is_under : goal.returns-then-is_under

@@ -1,7 +1,6 @@
-use Rattle.std.proofs.Common.{◌≡◌, ◌⊎◌, ℕ, Bool, true, false, Option, Some, None, sym, ap, ◌∙◌, subst}
-use Rattle.fond_kinds.specs.Parents.{parent_of}
+use Rattle.std.proofs.Common.{◌≡◌, true, false, Some, None, sym, ap, ◌∙◌, subst}
 use Rattle.fond_kinds.specs.Forests.{is_marked}
-use Rattle.fond_kinds.specs.Growth.{IsWalked, is_done}
+use Rattle.fond_kinds.specs.Growth.{is_done}
 use Rattle.fond_kinds.proofs.Unwind.{finish_planted, finish_attached}
 use Rattle.fond_kinds.proofs.grower.Grower.finish.Goals as goal
 use Rattle.fond_kinds.proofs.grower.Grower.finish.Goals.{in_default-via-in-Some+else-is_marked_at, in_default-via-in_default}

@@ -1,9 +1,9 @@
-use Rattle.std.proofs.Common.{◌≡◌, ◌⊎◌, ℕ, ◌∷◌, ◌++◌, [], List, true, Some, length, sym, ap, ◌∙◌, subst, arith, rules}
+use Rattle.std.proofs.Common.{◌≡◌, ◌∷◌, ◌++◌, [], length, ap, ◌∙◌, subst, arith, rules}
 use Rattle.std.specs.Prelude.{◌<◌}
 use Rattle.fond_kinds.specs.Forests.{is_marked}
-use Rattle.fond_kinds.specs.Growth.{IsUnwinding, is_done}
+use Rattle.fond_kinds.specs.Growth.{IsUnwinding}
 use Rattle.fond_kinds.proofs.Growth.{still_done}
-use Rattle.fond_kinds.proofs.Unwind.{unwound, unwound-all, last_there, last_waits, above_there, marked_within}
+use Rattle.fond_kinds.proofs.Unwind.{unwound, unwound-all, last_there, last_waits, above_there}
 use Rattle.fond_kinds.proofs.grower.Grower.unwind.Goals as goal
 
 pub attach-requires-clause-there : goal.attach-requires-clause-there

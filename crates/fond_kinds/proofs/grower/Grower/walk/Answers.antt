@@ -1,6 +1,6 @@
-use Rattle.std.proofs.Common.{◌≡◌, ℕ, ◌∷◌, ◌++◌, [], List, Bool, true, false, Some, length, refl, sym, ap, ◌∙◌, subst, arith}
+use Rattle.std.proofs.Common.{◌≡◌, length, sym, ◌∙◌, subst, arith}
 use Rattle.std.specs.Prelude.{◌<◌}
-use Rattle.fond_kinds.specs.Growth.{IsWalking, is_met}
+use Rattle.fond_kinds.specs.Growth.{IsWalking}
 use Rattle.fond_kinds.proofs.Walk.{starts, goes_on, met_now, still_met}
 use Rattle.fond_kinds.proofs.grower.Grower.walk.Goals as goal
 

@@ -1,4 +1,4 @@
-use Rattle.std.proofs.Common.{◌≡◌, ℕ, true}
+use Rattle.std.proofs.Common.{◌≡◌, true}
 use Rattle.fond_kinds.specs.Growth.{IsWalking, is_met, missing}
 use Rattle.fond_kinds.proofs.grower.Grower.walk.Given as goal
 

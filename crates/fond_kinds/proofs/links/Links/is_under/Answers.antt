@@ -1,6 +1,6 @@
-use Rattle.std.proofs.Common.{◌≡◌, ◌⊎◌, ◌<◌, ◌≤◌, ℕ, List, Option, Bool, true, false, None, Some, length, refl, sym, ap, ◌∙◌, subst, arith, eq-eqb}
+use Rattle.std.proofs.Common.{◌≡◌, ℕ, List, Option, None, Some, refl, sym, ap, ◌∙◌, subst, arith, eq-eqb}
 use Rattle.std.proofs.lemmas.Bool.Decides.{Decides-eqb}
-use Rattle.std.specs.Prelude.{slice_index, nat_eq}
+use Rattle.std.specs.Prelude.{slice_index}
 use Rattle.fond_kinds.specs.Parents.{parent_of, IsBelow, here, up}
 use Rattle.fond_kinds.proofs.Unwind.{same_time}
 use Rattle.fond_kinds.proofs.links.Links.is_under.Goals as goal

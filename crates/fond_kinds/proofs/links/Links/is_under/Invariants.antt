@@ -1,4 +1,4 @@
-use Rattle.std.proofs.Common.{◌≡◌, ◌<◌, ℕ, length}
+use Rattle.std.proofs.Common.{◌<◌, length}
 use Rattle.std.specs.Prelude.{slice_index}
 use Rattle.fond_kinds.specs.Parents.{IsBelow}
 use Rattle.fond_kinds.proofs.links.Links.is_under.Given as goal

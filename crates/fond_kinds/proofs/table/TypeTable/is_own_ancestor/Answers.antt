@@ -1,7 +1,4 @@
-use Rattle.std.proofs.Common.{◌≡◌, ◌<◌, ℕ, List, Option, Some, None, length, false, true, sym, ap, ◌∙◌, subst}
-use Rattle.fond_kinds.specs.Parents as numbers
-use Rattle.fond_kinds.specs.Kinds.{IsAncestor}
-use Rattle.fond_kinds.specs.Tables.{number_of}
+use Rattle.std.proofs.Common.{sym, ◌∙◌}
 use Rattle.fond_kinds.proofs.Types.{own_ancestor, own_ancestor_below, not_own_ancestor}
 use Rattle.fond_kinds.proofs.table.TypeTable.is_own_ancestor.Goals as goal
 

@@ -1,5 +1,3 @@
-use Rattle.std.proofs.Common.{◌≡◌, Bool, false, subst}
-use Rattle.std.specs.Prelude.{nat_eq}
 use Rattle.fond_kinds.proofs.Types.{subtype_below, below_subtype}
 use Rattle.fond_kinds.proofs.table.TypeTable.is_subtype.Goals as goal
 

@@ -1,4 +1,4 @@
-use Rattle.std.proofs.Common.{◌≡◌, ◌<◌, ◌≤◌, ◌+◌, ◌*◌, ℕ, List, Option, Some, None, length, refl, sym, ap, ◌∙◌, subst, arith}
+use Rattle.std.proofs.Common.{◌≡◌, ◌≤◌, ◌+◌, ◌*◌, ℕ, List, Some, None, length, sym, ap, ◌∙◌, subst, arith}
 use Rattle.std.specs.Prelude.{position, slice_index_or}
 use Rattle.fond_kinds.specs.Kinds.{declares}
 use Rattle.fond_kinds.specs.Tables.{number_of, type_names}
@@ -18,3 +18,6 @@ of-requires-clause-few c =
     let four : length (type_names c.args.types.now) ≡ 2 * length c.args.types.now + 1 = names_long c.args.types.now in
     let few : length c.args.types.now ≤ 16777216 = c.requires in
     omega arith
+
+pub parents_of-requires-clause-over : goal.parents_of-requires-clause-over
+parents_of-requires-clause-over c = ap length c.deref.ensures.value ∙ c.in_ok-firsts.ensures.over
