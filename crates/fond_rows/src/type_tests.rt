@@ -101,7 +101,7 @@ const UNDECLARED: [(&str, &str); 21] = [
 ];
 
 /// Domains with a cycle of types, each with the line of its refusal.
-const CYCLES: [(&str, &str); 18] = [
+const CYCLES: [(&str, &str); 19] = [
     // A type that is its own ancestor, at its first declaration.
     (
         "(define (domain x) (:types a - a))",
@@ -175,6 +175,10 @@ const CYCLES: [(&str, &str); 18] = [
     ),
     (
         "(define (domain x) (:types a - c c - object b - c object - b))",
+        "refused domain 1 34 F14\n",
+    ),
+    (
+        "(define (domain x) (:types a - x x - p object - x))",
         "refused domain 1 34 F14\n",
     ),
 ];
