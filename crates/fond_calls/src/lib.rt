@@ -11,7 +11,11 @@ mod exec_tests;
 #[cfg(test)]
 mod grammar_tests;
 #[cfg(test)]
+mod kinds_tests;
+#[cfg(test)]
 mod law_tests;
+#[cfg(test)]
+mod layers_tests;
 #[cfg(test)]
 mod lifted_tests;
 #[cfg(test)]
@@ -24,6 +28,8 @@ mod reader_tests;
 mod rules_tests;
 #[cfg(test)]
 mod state_tests;
+#[cfg(test)]
+mod store_tests;
 #[cfg(test)]
 mod task_tests;
 #[cfg(test)]

@@ -1,5 +1,5 @@
-use fond_plain::form::{PlainAtom, PlainEffect};
 use fond_oneof::outcome::outcomes;
+use fond_plain::form::{PlainAtom, PlainEffect};
 use std::test::Fail;
 
 #[test]

@@ -1,4 +1,7 @@
-use fond_game::rule::{Rule, Target, Targets};
+use crate::coin::ground_coin;
+use fond_game::rule::{Pair, Rule, Target, Targets};
+use fond_rules::pad::Pad;
+use fond_rules::pairs::Pairs;
 use fond_rules::rules::Rules;
 use fond_state::cube::Cube;
 use fond_state::state::State;
@@ -38,5 +41,34 @@ fn the_first_rule_that_holds_is_selected(rt: HostRuntime) -> Result<(), Fail> {
     } else {
         assert!(rt; false);
     }
+    Ok(())
+}
+
+#[test]
+fn a_pair_bars_its_action(rt: HostRuntime) -> Result<(), Fail> {
+    let mut cond = Cube::new(rt.alloc(), 1)?;
+    cond.put_literal(0, true);
+    let state = cond.copy(rt.alloc())?;
+    let mut pairs = Pairs::new(rt.alloc());
+    pairs.push(Pair {
+        cond,
+        act: 7,
+        outcome: 0,
+        layer: 0,
+        cube: 0,
+    })?;
+    assert_eq!(rt; pairs.len(), 1);
+    if pairs.are_over(1) {
+        assert!(rt; !pairs.all_contradict(7, &state));
+    } else {
+        assert!(rt; false);
+    }
+    Ok(())
+}
+
+#[test]
+fn a_pad_is_made(rt: HostRuntime) -> Result<(), Fail> {
+    let coin = ground_coin(rt.alloc())?;
+    let _pad = Pad::new(rt.alloc(), coin.atoms.len() as u32)?;
     Ok(())
 }

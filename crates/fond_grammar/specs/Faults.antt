@@ -16,7 +16,7 @@ use Rattle.fond_grammar.specs.Roles.{Expected, Members, Refused, node_expected, 
 use Rattle.fond_grammar.specs.Parts.{Part, part, part_at, is_counted}
 
 -- the code with which a node is refused, if it is: it is a misfit if a leaf is expected, or if it has too few or too
--- many members; otherwise its form decides
+-- many members; otherwise it has the code with which its head, or its lack of choices, refuses it
 abbrev pub node_code : Option Expected → List Tree → Option ℕ
 node_code None members = Some MISFIT
 node_code (Some (Members shape)) members = if is_counted shape.first shape.rest members then None else Some MISFIT
@@ -76,7 +76,7 @@ IsRepeated role tree place = ⊥
 abbrev pub Lacks : List ℕ → List Tree → Type 0
 Lacks head sections = ¬ Contains (filter_map head_of sections) head
 
--- a problem has no domain or no goal
+-- a problem has no section `:domain` or no section `:goal`, whatever they hold
 abbrev pub IsIncomplete : Role → Tree → Place → Type 0
 IsIncomplete ProblemFile tree place =
     (members : List Tree) × (members_of tree ≡ Some members) × (place ≡ place_of tree) × (Lacks (codes ":domain") (after_header members) ⊎ Lacks (codes ":goal") (after_header members))

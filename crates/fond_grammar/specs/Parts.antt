@@ -27,7 +27,8 @@ is_dash tree = equals (leaf_of tree)
     equals (Some leaf) = bytes_eq leaf (codes "-")
 
 -- a typed list: leaves, and after one or more of them a `-` and their type. A `-` after a tree that has no type yet
--- gives it the next tree, if there is one, as its type; each other `-` is a leaf that does not fit
+-- gives it the next tree, if there is one, as its type; each other `-` is a leaf that does not fit. `untyped` says whether
+-- the tree before is a leaf that has no type yet
 abbrev pub typed : Role → Role → Bool → List Tree → List Part
 typed leaf type untyped [] = []
 typed leaf type untyped (tree ∷ []) = part leaf tree ∷ []

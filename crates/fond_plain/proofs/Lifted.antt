@@ -13,7 +13,7 @@ use Rattle.fond_ast.specs.declared.form.LEffect.TheViews.{OneOf, rolls-Add, roll
 use Rattle.fond_ast.specs.declared.form.LEffect.TheFolds.{fold-roll-LEffect}
 use Rattle.fond_ast.specs.declared.task.LPredicate.{LPredicate}
 use Rattle.std.specs.List.{list_all}
-use Rattle.std.proofs.Common.{Vec, Global, ◌∷◌, []}
+use Rattle.std.proofs.Common.{Vec, Global}
 use Rattle.std.proofs.lemmas.List.{length-map}
 use Rattle.fond_plain.specs.Within.{is_condition_within, condition_within_step, is_effect_within, effect_within_step}
 use Rattle.fond_plain.specs.declared.form.PlainEffect.{PlainEffect}

@@ -1,11 +1,10 @@
 -- Which tasks are plain, and the plain tasks that they are.
-use Rattle.std.specs.Prelude.{◌≡◌, ℕ, ◌==◌, ◌&&◌, Bool, true, false, List, map, length, IsTrue}
+use Rattle.std.specs.Prelude.{◌≡◌, ◌==◌, ◌&&◌, Bool, true, false, map, length, IsTrue}
 use Rattle.std.specs.List.{AllZip, list_all}
 use Rattle.fond_text.specs.Lists.{each_passes}
 use Rattle.fond_text.specs.declared.code.TheConstants.{UNSUPPORTED}
 use Rattle.fond_text.specs.declared.fault.Fault.{Fault}
 use Rattle.fond_text.specs.declared.place.FileKind.TheVariants.{Domain}
-use Rattle.fond_ast.specs.declared.form.LAtom.{LAtom}
 use Rattle.fond_ast.specs.declared.form.LCond.{LCond}
 use Rattle.fond_ast.specs.declared.form.LCond.TheOpen as condition
 use Rattle.fond_ast.specs.declared.form.LCond.TheFolds.{fold-LCond}
@@ -15,7 +14,6 @@ use Rattle.fond_ast.specs.declared.form.LEffect.TheFolds.{fold-LEffect}
 use Rattle.fond_ast.specs.declared.task.LPredicate.{LPredicate}
 use Rattle.fond_ast.specs.declared.task.LSchema.{LSchema}
 use Rattle.fond_ast.specs.declared.task.LiftedTask.{LiftedTask}
-use Rattle.fond_plain.specs.declared.form.PlainAtom.{PlainAtom}
 use Rattle.fond_plain.specs.declared.form.PlainCond.{PlainCond, out-PlainCond}
 use Rattle.fond_plain.specs.declared.form.PlainCond.TheOpen as plain_condition
 use Rattle.fond_plain.specs.declared.form.PlainEffect.{PlainEffect, out-PlainEffect}

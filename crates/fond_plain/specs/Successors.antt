@@ -1,5 +1,5 @@
 -- The successors of a state, in the order in which they are printed.
-use Rattle.std.specs.Prelude.{ℕ, Bool, true, false, not, List, [], ◌∷◌, ◌++◌, map, fold, Contains, if◌then◌else◌}
+use Rattle.std.specs.Prelude.{ℕ, Bool, List, [], ◌∷◌, ◌++◌, map, fold, if◌then◌else◌}
 use Rattle.std.specs.List.{list_all, list_any, enumerate_from}
 use Rattle.fond_text.specs.Bools.{is_same}
 use Rattle.fond_text.specs.declared.atom.Atom.{Atom}

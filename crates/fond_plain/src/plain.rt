@@ -60,7 +60,10 @@ fn is_plain_effect(effect: &LEffect) -> bool
 fn are_plain_predicates(predicates: &LPredicates) -> bool
     ensures { result ≡ list_all (λ predicate. length predicate.ranges == 0) predicates.now }
 {
-    predicates.as_slice().iter().all(|predicate| predicate.ranges.len() == 0)
+    predicates
+        .as_slice()
+        .iter()
+        .all(|predicate| predicate.ranges.len() == 0)
 }
 
 /// Whether a schema is plain.
@@ -81,7 +84,9 @@ fn are_plain_schemas(schemas: &LSchemas) -> bool
 fn is_plain(task: &LiftedTask) -> bool
     ensures { result ≡ is_plain task.now }
 {
-    are_plain_predicates(&task.predicates) && are_plain_schemas(&task.schemas) && is_plain_condition(&task.goal)
+    are_plain_predicates(&task.predicates)
+        && are_plain_schemas(&task.schemas)
+        && is_plain_condition(&task.goal)
 }
 
 /// Makes the parts of the plain task that a task is.
@@ -102,7 +107,9 @@ impl<'a> Parts<'a> {
     {
         match condition {
             LCond::Truth => Ok(PlainCond::Truth),
-            LCond::Holds(atom) => Ok(PlainCond::Holds(PlainAtom { predicate: atom.predicate })),
+            LCond::Holds(atom) => Ok(PlainCond::Holds(PlainAtom {
+                predicate: atom.predicate,
+            })),
             LCond::And(parts) => Ok(PlainCond::And(self.conditions(parts)?)),
             LCond::Or(parts) => Ok(PlainCond::Or(self.conditions(parts)?)),
             LCond::Not(part) => {
@@ -145,8 +152,12 @@ impl<'a> Parts<'a> {
     {
         match effect {
             LEffect::Nothing => Ok(PlainEffect::Nothing),
-            LEffect::Add(atom) => Ok(PlainEffect::Add(PlainAtom { predicate: atom.predicate })),
-            LEffect::Delete(atom) => Ok(PlainEffect::Delete(PlainAtom { predicate: atom.predicate })),
+            LEffect::Add(atom) => Ok(PlainEffect::Add(PlainAtom {
+                predicate: atom.predicate,
+            })),
+            LEffect::Delete(atom) => Ok(PlainEffect::Delete(PlainAtom {
+                predicate: atom.predicate,
+            })),
             LEffect::And(parts) => Ok(PlainEffect::And(self.effects(parts)?)),
             LEffect::OneOf(parts) => Ok(PlainEffect::OneOf(self.effects(parts)?)),
             LEffect::Forall(_, _) | LEffect::When(_, _) => unreachable!(),

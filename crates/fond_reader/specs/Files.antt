@@ -89,17 +89,17 @@ values word [] = []
 values word (key ∷ []) = []
 values word (key ∷ value ∷ pairs) = if is_word word (leaf_of key) then value ∷ values word pairs else values word pairs
 
--- the value of `:parameters` is read as variables; without one there are none
+-- the only value of `:parameters` is read as variables; without one there are none
 abbrev pub AreParameters : List Tree → List TypedName → Type 0
 AreParameters [] names = names ≡ []
 AreParameters (tree ∷ trees) names = (is_variable_list names tree ≡ true) × (trees ≡ [])
 
--- the value of a precondition is read as a condition; without one it is the true condition
+-- the only value of `:precondition` is read as a condition; without one it is the true condition
 abbrev pub IsPrecondition : List Tree → Cond → Type 0
 IsPrecondition [] pre = pre ≡ Truth
 IsPrecondition (tree ∷ trees) pre = (is_condition pre tree ≡ true) × (trees ≡ [])
 
--- the value of `:effect` is read as an effect; without one it is the empty effect
+-- the only value of `:effect` is read as an effect; without one it is the empty effect
 abbrev pub IsKeyedEffect : List Tree → Effect → Type 0
 IsKeyedEffect [] effect = effect ≡ Nothing
 IsKeyedEffect (tree ∷ trees) effect = (is_effect effect tree ≡ true) × (trees ≡ [])

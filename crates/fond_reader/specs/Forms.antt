@@ -18,7 +18,7 @@ is_sorted sort place bytes tree = is_word bytes (leaf_of tree) && is_place place
 abbrev pub is_named : Place → List ℕ → Tree → Bool
 is_named = is_sorted is_name
 
--- whether there are members and they are none
+-- whether the members are those of a node without any
 abbrev pub is_empty : Option (List Tree) → Bool
 is_empty None = false
 is_empty (Some members) = length members == 0
@@ -27,7 +27,7 @@ is_empty (Some members) = length members == 0
 abbrev pub is_unit : Tree → Bool
 is_unit tree = is_empty (members_of tree)
 
--- whether there are members and they are one, of which this holds
+-- whether there is exactly one member, and this holds of it
 abbrev pub is_only : (Tree → Bool) → Option (List Tree) → Bool
 is_only test None = false
 is_only test (Some []) = false

@@ -17,7 +17,7 @@ pub record TypedLeaf : Type 0 where
   pub leaf : Tree
   pub type : Option Tree
 
--- the type that the next `-` gives, if there is one
+-- the tree after the next `-`, if both are there
 abbrev pub next_type : List Tree → Option Tree
 next_type [] = None
 next_type (tree ∷ []) = None

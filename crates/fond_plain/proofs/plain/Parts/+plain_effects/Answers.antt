@@ -1,4 +1,4 @@
-use Rattle.std.proofs.Common.{◌≡◌, ◌+◌, [], ◌∷◌, length, length-append, map, refl, sym, ap, ◌∙◌}
+use Rattle.std.proofs.Common.{◌+◌, [], ◌∷◌, length, length-append, map, refl, sym, ap, ◌∙◌}
 use Rattle.fond_ast.specs.Within.{is_effect_within as is_lifted_within, is_effect_fluent as is_lifted_fluent}
 use Rattle.fond_ast.specs.declared.form.LEffect.{LEffect}
 use Rattle.fond_plain.specs.Plain.{is_plain_effect, is_same_effect, plain_predicate}

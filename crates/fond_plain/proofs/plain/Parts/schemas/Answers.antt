@@ -1,4 +1,4 @@
-use Rattle.std.proofs.Common.{◌≡◌, ◌+◌, length, length-append, map, take, sym, ap, ◌∙◌, ◌++◌, ◌∷◌, []}
+use Rattle.std.proofs.Common.{◌+◌, length, length-append, map, take, ap, ◌∙◌, ◌∷◌, []}
 use Rattle.fond_ast.specs.Within.{is_schema_within as is_lifted_within, is_schema_fluent as is_lifted_fluent}
 use Rattle.fond_plain.specs.Plain.{is_plain_schema, plain_predicate, IsSameSchema}
 use Rattle.fond_plain.specs.Within.{is_schema_within, is_schema_fluent}

@@ -1,11 +1,11 @@
-use Rattle.std.proofs.Common.{◌≡◌, ◌&&◌, ℕ, true, length, map, sym, ap, ◌∙◌, subst, arith}
+use Rattle.std.proofs.Common.{◌≡◌, ◌&&◌, length, ap, ◌∙◌, arith}
 use Rattle.std.specs.Prelude.{◌==◌}
 use Rattle.std.specs.List.{list_all}
 use Rattle.std.proofs.lemmas.List.{length-map}
 use Rattle.fond_ast.specs.declared.task.LPredicate.{LPredicate}
 use Rattle.fond_plain.specs.Plain.{is_plain_schema, is_plain_condition, plain_predicate}
 use Rattle.fond_plain.specs.Within.{is_schema_within, is_schema_fluent, is_condition_within, is_atom_within}
-use Rattle.fond_plain.proofs.Parts.{first_of_two, second_of_two, initial_plain}
+use Rattle.fond_plain.proofs.Parts.{first_of_two, initial_plain}
 use Rattle.fond_plain.proofs.plain.Parts.task.Goals as goal
 
 pub invariant_of-result : goal.invariant_of-result
