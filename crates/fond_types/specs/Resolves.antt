@@ -1,6 +1,6 @@
 -- The task that declarations stand for: each name is replaced by its number, and the types of each variable by its
 -- range.
-use Rattle.std.specs.Prelude.{◌≡◌, ℕ, ◌+◌, ◌==◌, ◌&&◌, nat_lt, Bool, true, false, not, List, [], ◌∷◌, map, filter, length, position, Option, Some, None, option_map, slice_get, slice_index_or}
+use Rattle.std.specs.Prelude.{◌≡◌, ℕ, ◌+◌, ◌==◌, ◌&&◌, nat_lt, Bool, true, false, not, List, [], ◌∷◌, map, filter, length, position, Option, Some, None, slice_index_or}
 use Rattle.std.specs.Bool.{Decides}
 use Rattle.std.specs.List.{AllZip, list_any, enumerate_from}
 use Rattle.std.specs.Option.{option_map_or}

@@ -2,13 +2,30 @@
 
 ghost use Rattle.fond_text.specs.Faults.{AreClean, IsFirstAmong, Refuses};
 ghost use Rattle.fond_types.specs.Faults.{StandsInNames};
+ghost use Rattle.fond_types.specs.Files.{declarations_of};
 ghost use Rattle.fond_types.specs.Resolves.{IsResolved};
 ghost use Rattle.std.specs.Prelude.{IfOk, IfErr, OnOk};
 
+use crate::files::Files;
+use crate::first_fault::first_fault;
+use crate::lookup::indexed;
+use crate::task::numbered_task;
 use fond_ast::files::{Domain, Problem, Side};
 use fond_ast::task::LiftedTask;
 use fond_text::fault::FrontError;
 use std::alloc::Global;
+
+/// The task of indexed files, or their first fault.
+fn resolved(alloc: Global, files: &Files) -> Result<LiftedTask, FrontError>
+    ensures resolved { IfOk result (IsResolved (declarations_of files.now)) }
+    ensures clean { OnOk result (AreClean (StandsInNames (declarations_of files.now))) }
+    ensures refused { IfErr result (Refuses (IsFirstAmong (StandsInNames (declarations_of files.now)))) }
+{
+    if let Some(fault) = first_fault(alloc, files)? {
+        return Err(FrontError::Refused(fault));
+    }
+    Ok(numbered_task(alloc, files)?)
+}
 
 /// The task of a domain, a problem and a side list. Declarations with a fault of names are refused with the first
 /// one, F13 to F20 (docs/FAULTS.md). Names are looked up by hash, so this takes time and memory in the sizes of the
@@ -18,5 +35,6 @@ pub fn resolve(alloc: Global, d: &Domain, p: &Problem, s: &Side) -> Result<Lifte
     ensures clean { OnOk result (AreClean (StandsInNames (record { domain = d.now; problem = p.now; side = s.now }))) }
     ensures refused { IfErr result (Refuses (IsFirstAmong (StandsInNames (record { domain = d.now; problem = p.now; side = s.now })))) }
 {
-    Err(FrontError::NoMemory)
+    let files = indexed(alloc, d, p, s)?;
+    resolved(alloc, &files)
 }

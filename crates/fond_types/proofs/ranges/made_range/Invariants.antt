@@ -1,0 +1,12 @@
+use Rattle.std.proofs.Common.{◌≡◌, ◌++◌, drop}
+use Rattle.fond_types.specs.Files.{declarations_of}
+use Rattle.fond_types.specs.Kept.{numbers_of, range_by}
+use Rattle.fond_types.specs.Names.{objects_declared}
+use Rattle.fond_types.specs.Same.{kind_names}
+use Rattle.fond_types.proofs.ranges.made_range.Given as goal
+
+-- the objects so far and those that are left make the range
+abbrev pub invariant-loop-i : goal.invariant-loop-i
+invariant-loop-i l =
+    let files = declarations_of l.table.files.now in
+    l.range ++ numbers_of files.domain.kinds (kind_names l.kinds) l.i (drop l.i (objects_declared files)) ≡ range_by files (kind_names l.kinds)

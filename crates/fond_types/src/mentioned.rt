@@ -1,0 +1,51 @@
+//! The predicates of which an effect of some schema has a literal.
+
+ghost use Rattle.fond_lookup.specs.Texts.{number_beside};
+ghost use Rattle.fond_types.specs.Resolves.{mentions};
+ghost use Rattle.fond_types.specs.Sound.{is_mentioned};
+ghost use Rattle.std.specs.Prelude.{◌≡◌, ◌||◌, ℕ, List, IfOk, OnOk, is_some};
+ghost use Rattle.std.specs.Str.{bytes_eq};
+
+use fond_ast::files::Domain;
+use fond_ast::names::ReadAtom;
+use fond_ast::syntax::Effect;
+use fond_lookup::text_index::TextIndex;
+use fond_text::fault::NoMemory;
+use std::alloc::Global;
+
+/// Adds the name of an atom.
+fn add_atom(alloc: Global, index: &mut TextIndex, atom: &ReadAtom) -> Result<(), NoMemory>
+    ensures { OnOk result ((name : List ℕ) → is_some (number_beside index.new name) ≡ (is_some (number_beside index.old name) || bytes_eq atom.now.name name)) }
+{
+    let name = Vec::from_slice(alloc, atom.name.bytes())?;
+    index.insert(name, 0)?;
+    Ok(())
+}
+
+/// Adds the names of the predicates of all literals of an effect.
+fn add_effect(alloc: Global, index: &mut TextIndex, effect: &Effect) -> Result<(), NoMemory>
+    ensures { OnOk result ((name : List ℕ) → is_some (number_beside index.new name) ≡ (is_some (number_beside index.old name) || mentions name effect.now)) }
+{
+    match effect {
+        Effect::Nothing => Ok(()),
+        Effect::Add(atom) | Effect::Delete(atom) => add_atom(alloc, index, atom),
+        Effect::And(parts) | Effect::OneOf(parts) => {
+            for part in parts {
+                add_effect(alloc, index, part)?;
+            }
+            Ok(())
+        }
+        Effect::Forall(_, part) | Effect::When(_, part) => add_effect(alloc, index, part),
+    }
+}
+
+/// The names of the predicates of all literals of effects, all with the number 0.
+pub(crate) fn mentioned(alloc: Global, domain: &Domain) -> Result<TextIndex, NoMemory>
+    ensures { IfOk result (λ index. (name : List ℕ) → is_some (number_beside index name) ≡ is_mentioned domain.now name) }
+{
+    let mut index = TextIndex::new(alloc);
+    for i in 0..domain.schemas.len() {
+        add_effect(alloc, &mut index, &domain.schemas.get(i).effect)?;
+    }
+    Ok(index)
+}

@@ -1,0 +1,155 @@
+//! The ranges of variables. The range of some types is computed once and shared, at the cost of a look at each object.
+
+ghost use Rattle.fond_ast.specs.declared.names.TypedName.{TypedName};
+ghost use Rattle.fond_kinds.specs.Kinds.{are_types};
+ghost use Rattle.fond_types.specs.Files.{declarations_of};
+ghost use Rattle.fond_types.specs.Kept.{is_of, range_by, are_kept};
+ghost use Rattle.fond_types.specs.Meanings.{meanings, are_typed};
+ghost use Rattle.fond_types.specs.Names.{Declarations, objects_declared};
+ghost use Rattle.fond_types.specs.Resolves.{are_ranges};
+ghost use Rattle.fond_types.specs.Same.{kind_names};
+ghost use Rattle.std.specs.Option.{option_copied};
+ghost use Rattle.std.specs.Str.{bytes_eq};
+ghost use Rattle.std.specs.Prelude.{◌≡◌, ◌<◌, ◌++◌, ◌∷◌, [], ℕ, List, IfOk, IfSome, OnOk, Contains, true, slice_get, Some, length};
+
+use crate::kept::{Kept, KeptRanges};
+use crate::lookup::find_object;
+use crate::table::Table;
+use crate::types::is_below_some;
+use fond_ast::form::{Range, Ranges};
+use fond_ast::names::{Kinds, TypedNames};
+use fond_lookup::text_index::TextIndex;
+use fond_text::atom::Objects;
+use fond_text::fault::NoMemory;
+use fond_text::name::Names;
+use std::alloc::Global;
+use std::rc::Rc;
+
+/// Whether the object of a number is of one of some types.
+fn is_in_range(table: &Table, i: usize, kinds: &Kinds) -> bool
+    requires typed { are_types table.now.files.now.domain.now.kinds kinds.now ≡ true }
+    requires there { i < length table.now.objects.names }
+    ensures { (object : TypedName) → slice_get (objects_declared (declarations_of table.now.files.now)) i ≡ Some object
+        → result ≡ is_of table.now.files.now.domain.now.kinds (kind_names kinds.now) object }
+{
+    match find_object(table.files, table.objects.names.get(i)) {
+        Some(object) => is_below_some(&table.files.types, &object.kinds.get(0).name, kinds),
+        None => false,
+    }
+}
+
+/// The objects whose type is below one of some types, in order.
+fn made_range(alloc: Global, table: &Table, kinds: &Kinds) -> Result<Objects, NoMemory>
+    requires { are_types table.now.files.now.domain.now.kinds kinds.now ≡ true }
+    ensures { IfOk result (λ range. range ≡ range_by (declarations_of table.now.files.now) (kind_names kinds.now)) }
+{
+    let mut range = Objects::new(alloc);
+    for i in 0..table.objects.names.len() {
+        if is_in_range(table, i, kinds) {
+            range.push(i as u32)?;
+        }
+    }
+    Ok(range)
+}
+
+/// The names of some types.
+fn names_of(alloc: Global, kinds: &Kinds) -> Result<Names, NoMemory>
+    ensures { IfOk result (λ names. names ≡ kind_names kinds.now) }
+{
+    let mut names = Names::new(alloc);
+    for i in 0..kinds.len() {
+        names.push(kinds.get(i).name.copy(alloc)?)?;
+    }
+    Ok(names)
+}
+
+/// Whether these are the names of some types.
+fn are_names_of(names: &Names, kinds: &Kinds) -> bool
+    ensures { result ≡ true → names.now ≡ kind_names kinds.now }
+{
+    if names.len() != kinds.len() {
+        return false;
+    }
+    for i in 0..names.len() {
+        if names.get(i).bytes() != kinds.get(i).name.bytes() {
+            return false;
+        }
+    }
+    true
+}
+
+/// The names of some types as one text, in which blanks separate them.
+fn key_of(alloc: Global, kinds: &Kinds) -> Result<Vec<u8>, NoMemory> {
+    let mut key = Vec::new(alloc);
+    for kind in kinds.as_slice() {
+        key.extend_from_slice(kind.name.bytes())?;
+        key.push(b' ')?;
+    }
+    Ok(key)
+}
+
+/// A range of these types that is kept.
+fn find_kept<'k>(kept: &'k KeptRanges, key: &[u8], kinds: &Kinds) -> Option<&'k Kept>
+    ensures { IfSome (option_copied result) (λ entry. (entry.kinds ≡ kind_names kinds.now) × Contains kept.now.entries.items entry) }
+{
+    let at = kept.index.find(key)? as usize;
+    let entry = kept.entries.get(at)?;
+    if are_names_of(&entry.kinds, kinds) {
+        Some(entry)
+    } else {
+        None
+    }
+}
+
+/// Keeps a range, unless 2^32 are kept.
+fn keep(kept: &mut KeptRanges, key: Vec<u8>, entry: Kept) -> Result<(), NoMemory>
+    ensures { (files : Declarations) → are_kept files kept.old.entries.items ≡ true → bytes_eq (range_by files entry.kinds) entry.range.value ≡ true
+        → OnOk result (are_kept files kept.new.entries.items ≡ true) }
+{
+    if let Ok(at) = u32::try_from(kept.entries.len()) {
+        kept.index.insert(key, at)?;
+        kept.entries.push(entry)?;
+    }
+    Ok(())
+}
+
+/// The range of some types, which is kept.
+fn range_of(
+    alloc: Global,
+    table: &Table,
+    kept: &mut KeptRanges,
+    kinds: &Kinds,
+) -> Result<Range, NoMemory>
+    requires typed { are_types table.now.files.now.domain.now.kinds kinds.now ≡ true }
+    requires sound { are_kept (declarations_of table.now.files.now) kept.old.entries.items ≡ true }
+    ensures range { IfOk result (λ range. range.value ≡ (meanings (declarations_of table.now.files.now)).range kinds.now) }
+    ensures sound { OnOk result (are_kept (declarations_of table.now.files.now) kept.new.entries.items ≡ true) }
+{
+    let key = key_of(alloc, kinds)?;
+    if let Some(entry) = find_kept(kept, &key, kinds) {
+        return Ok(entry.range.clone()?);
+    }
+    let range = Rc::new(alloc, made_range(alloc, table, kinds)?)?;
+    let kinds = names_of(alloc, kinds)?;
+    keep(kept, key, Kept { kinds, range: range.clone()? })?;
+    Ok(range)
+}
+
+/// The ranges of some names, in order.
+pub(crate) fn ranges_of(
+    alloc: Global,
+    table: &Table,
+    kept: &mut KeptRanges,
+    names: &TypedNames,
+) -> Result<Ranges, NoMemory>
+    requires typed { are_typed table.now.files.now.domain.now.kinds names.now ≡ true }
+    requires sound { are_kept (declarations_of table.now.files.now) kept.old.entries.items ≡ true }
+    ensures ranges { IfOk result (λ ranges. are_ranges (meanings (declarations_of table.now.files.now)) names.now ranges ≡ true) }
+    ensures sound { OnOk result (are_kept (declarations_of table.now.files.now) kept.new.entries.items ≡ true) }
+{
+    let mut ranges = Ranges::new(alloc);
+    for i in 0..names.len() {
+        ranges.push(range_of(alloc, table, kept, &names.get(i).kinds)?)?;
+    }
+    Ok(ranges)
+}
