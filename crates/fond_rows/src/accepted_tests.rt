@@ -56,7 +56,7 @@ const PLAIN: [(&str, &str, &str); 12] = [
     (
         "(define (domain x) (:action a :effect (q) :precondition (p)) (:predicates (q) (p)) (:constants k - t) (:types t) (:requirements :typing))",
         "(define (problem y) (:goal (q)) (:init (p)) (:objects o - t) (:domain z))",
-        "applicable yes\nstate\n(q)\n(p)\n",
+        "applicable yes\nstate\n(q)\n",
     ),
     // A choice anywhere in an effect.
     (
