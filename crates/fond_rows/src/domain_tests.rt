@@ -5,7 +5,7 @@ use std::test::Fail;
 const OTHER: &str = "(define (problem y))";
 
 /// Domains with a fault of form, each with the line of its refusal.
-const REFUSED: [(&str, &str); 78] = [
+const REFUSED: [(&str, &str); 65] = [
     // A tree that does not fit, or a node with a member missing or one too many.
     ("x", "refused domain 1 1 F7\n"),
     ("()", "refused domain 1 1 F7\n"),
@@ -108,6 +108,11 @@ const REFUSED: [(&str, &str); 78] = [
     (
         "(define (domain x) (:action a :parameters x))",
         "refused domain 1 43 F7\n",
+    ),
+    ("(define (domain x) (:types -))", "refused domain 1 28 F7\n"),
+    (
+        "(define (domain x) (:action a :effect (p :x ?y)))",
+        "refused domain 1 42 F7\n",
     ),
     ("(define)", "refused domain 1 1 F7\n"),
     // An unknown section or key.
@@ -218,66 +223,61 @@ const REFUSED: [(&str, &str); 78] = [
         "(define (domain x) (:action a) (:action b :effect (ONEOF)))",
         "refused domain 1 51 F12\n",
     ),
-    // A form that is not built yet.
+];
+
+/// Domains without a fault of form, whatever their names are: the fault of the problem is reported.
+const READ: [(&str, &str); 13] = [
     (
         "(define (domain x) (:types t))",
-        "refused domain 1 20 F24\n",
+        "refused problem 1 1 F10\n",
     ),
     (
         "(define (domain x) (:constants c))",
-        "refused domain 1 20 F24\n",
-    ),
-    (
-        "(define (domain x) (:types -))",
-        "refused domain 1 20 F24\n",
+        "refused problem 1 1 F10\n",
     ),
     (
         "(define (domain x) (:predicates (p ?x)))",
-        "refused domain 1 33 F24\n",
+        "refused problem 1 1 F10\n",
     ),
     (
         "(define (domain x) (:action a :parameters (?x)))",
-        "refused domain 1 43 F24\n",
+        "refused problem 1 1 F10\n",
     ),
     (
         "(define (domain x) (:action a :effect (p ?x)))",
-        "refused domain 1 39 F24\n",
-    ),
-    (
-        "(define (domain x) (:action a :effect (p :x ?y)))",
-        "refused domain 1 39 F24\n",
+        "refused problem 1 1 F10\n",
     ),
     (
         "(define (domain x) (:action a :effect (not (p c))))",
-        "refused domain 1 44 F24\n",
+        "refused problem 1 1 F10\n",
     ),
     (
         "(define (domain x) (:action a :precondition (= c c)))",
-        "refused domain 1 45 F24\n",
+        "refused problem 1 1 F10\n",
     ),
     (
         "(define (domain x) (:action a :precondition (forall () (p))))",
-        "refused domain 1 45 F24\n",
+        "refused problem 1 1 F10\n",
     ),
     (
         "(define (domain x) (:action a :precondition (or (p) (exists () (p)))))",
-        "refused domain 1 53 F24\n",
+        "refused problem 1 1 F10\n",
     ),
     (
         "(define (domain x) (:action a :effect (when (p) (p))))",
-        "refused domain 1 39 F24\n",
+        "refused problem 1 1 F10\n",
     ),
     (
         "(define (domain x) (:action a :effect (forall () (p))))",
-        "refused domain 1 39 F24\n",
+        "refused problem 1 1 F10\n",
     ),
     (
         "(define (domain x) (:action a :effect (and (oneof (p)))))",
-        "refused domain 1 44 F24\n",
+        "refused problem 1 1 F10\n",
     ),
     (
         "(define (domain x) (:action a :effect (oneof (oneof (p)))))",
-        "refused domain 1 46 F24\n",
+        "refused problem 1 1 F10\n",
     ),
 ];
 
@@ -290,4 +290,15 @@ fn domains_with_a_fault_of_form(rt: HostRuntime) -> Result<(), Fail> {
         status: 3,
     };
     check_texts(&rt, rt.alloc(), topic, &REFUSED)
+}
+
+#[test]
+fn domains_without_a_fault_of_form(rt: HostRuntime) -> Result<(), Fail> {
+    let topic = Topic {
+        words: &ACTION,
+        files: &[("problem", OTHER)],
+        file: "domain",
+        status: 3,
+    };
+    check_texts(&rt, rt.alloc(), topic, &READ)
 }

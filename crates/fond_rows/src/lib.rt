@@ -2,13 +2,23 @@
 #![tactic(auto)]
 
 #[cfg(test)]
+mod accepted_tests;
+#[cfg(test)]
+mod argument_tests;
+#[cfg(test)]
+mod atom_tests;
+#[cfg(test)]
 mod domain_tests;
 #[cfg(test)]
 mod name_tests;
 #[cfg(test)]
+mod order_tests;
+#[cfg(test)]
 mod problem_tests;
 #[cfg(test)]
 mod read_tests;
+#[cfg(test)]
+mod repeat_tests;
 #[cfg(test)]
 mod rows;
 #[cfg(test)]
@@ -18,4 +28,10 @@ mod side_tests;
 #[cfg(test)]
 mod succ_tests;
 #[cfg(test)]
+mod term_tests;
+#[cfg(test)]
 mod text_tests;
+#[cfg(test)]
+mod type_tests;
+#[cfg(test)]
+mod typed_tests;

@@ -5,7 +5,7 @@ use std::test::Fail;
 const OTHER: &str = "(define (domain x) (:action a :effect (p)))";
 
 /// Problems with a fault of form, each with the line of its refusal.
-const REFUSED: [(&str, &str); 38] = [
+const REFUSED: [(&str, &str); 33] = [
     // A tree that does not fit, or a node with a member missing or one too many.
     ("x", "refused problem 1 1 F7\n"),
     (
@@ -134,26 +134,29 @@ const REFUSED: [(&str, &str); 38] = [
         "(define (problem y) (:domain x) (:goal (or (oneof (p)))))",
         "refused problem 1 44 F11\n",
     ),
-    // A form that is not built yet.
+];
+
+/// Problems without a fault of form, whatever their names are: the fault of the domain's names is reported.
+const READ: [(&str, &str); 5] = [
     (
         "(define (problem y) (:domain x) (:goal ()) (:objects o))",
-        "refused problem 1 44 F24\n",
+        "refused domain 1 40 F15\n",
     ),
     (
         "(define (problem y) (:domain x) (:goal ()) (:init (p a)))",
-        "refused problem 1 51 F24\n",
+        "refused domain 1 40 F15\n",
     ),
     (
         "(define (problem y) (:domain x) (:goal ()) (:init (not (p a))))",
-        "refused problem 1 56 F24\n",
+        "refused domain 1 40 F15\n",
     ),
     (
         "(define (problem y) (:domain x) (:goal (p a)))",
-        "refused problem 1 40 F24\n",
+        "refused domain 1 40 F15\n",
     ),
     (
         "(define (problem y) (:domain x) (:goal (and (= a a))))",
-        "refused problem 1 45 F24\n",
+        "refused domain 1 40 F15\n",
     ),
 ];
 
@@ -166,4 +169,15 @@ fn problems_with_a_fault_of_form(rt: HostRuntime) -> Result<(), Fail> {
         status: 3,
     };
     check_texts(&rt, rt.alloc(), topic, &REFUSED)
+}
+
+#[test]
+fn problems_without_a_fault_of_form(rt: HostRuntime) -> Result<(), Fail> {
+    let topic = Topic {
+        words: &ACTION,
+        files: &[("domain", OTHER)],
+        file: "problem",
+        status: 3,
+    };
+    check_texts(&rt, rt.alloc(), topic, &READ)
 }

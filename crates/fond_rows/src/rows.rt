@@ -22,6 +22,9 @@ pub const ACTION: [&str; 4] = ["succ", "domain", "problem", "(a)"];
 /// The words of `succ` with the action `(flip)`.
 pub const FLIP: [&str; 4] = ["succ", "domain", "problem", "(flip)"];
 
+/// The words of `run` over five files.
+pub const RUN: [&str; 6] = ["run", "domain", "problem", "side", "cert", "script"];
+
 /// A worked example: the words, the files of the shelf by name and text, and the status and the text of the answer.
 #[derive(Clone, Copy)]
 pub struct Row<'a> {
@@ -144,5 +147,52 @@ pub fn check_with(
     let name = row.name;
     assert_eq!(rt; told.status, row.status, "{name}");
     assert_eq!(rt; told.text.as_slice(), row.text.as_bytes(), "{name}");
+    Ok(())
+}
+
+/// Each domain and problem of a table is answered by `succ` with this status and with the answer beside them.
+pub fn check_pairs(
+    rt: &impl Abort,
+    alloc: Global,
+    status: u8,
+    table: &[(&str, &str, &str)],
+) -> Result<(), Fail> {
+    for &(domain, problem, text) in table {
+        let row = Row {
+            name: domain,
+            words: &ACTION,
+            files: &[("domain", domain), ("problem", problem)],
+            status,
+            text,
+        };
+        check(rt, alloc, row)?;
+    }
+    Ok(())
+}
+
+/// Each domain, problem and side list of a table is answered by `run` with this status and with the answer beside them,
+/// over a certificate and a script that are none.
+pub fn check_runs(
+    rt: &impl Abort,
+    alloc: Global,
+    status: u8,
+    table: &[(&str, [&str; 3], &str)],
+) -> Result<(), Fail> {
+    for &(name, [domain, problem, side], text) in table {
+        let row = Row {
+            name,
+            words: &RUN,
+            files: &[
+                ("domain", domain),
+                ("problem", problem),
+                ("side", side),
+                ("cert", "no certificate"),
+                ("script", "no script"),
+            ],
+            status,
+            text,
+        };
+        check(rt, alloc, row)?;
+    }
     Ok(())
 }

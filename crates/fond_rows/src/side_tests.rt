@@ -1,10 +1,5 @@
-use crate::rows::{COIN, COIN_P, Row, Topic, check, check_texts};
-use std::alloc::Global;
-use std::process::Abort;
+use crate::rows::{COIN, COIN_P, RUN, Topic, check_runs, check_texts};
 use std::test::Fail;
-
-/// The words of a run over these files.
-const RUN: [&str; 6] = ["run", "domain", "problem", "side", "cert", "script"];
 
 /// Side lists with a fault, each with the line of its refusal.
 const REFUSED: [(&str, &str); 17] = [
@@ -86,8 +81,8 @@ const FIRST: [(&str, [&str; 3], &str); 9] = [
     ),
     (
         "one of form later in a file comes before one early in a later file",
-        ["(define (domain x)\n\n (:predicates (p ?x)))", "x", ")"],
-        "refused domain 3 15 F24\n",
+        ["(define (domain x)\n\n (:predicates (p x)))", "x", ")"],
+        "refused domain 3 18 F7\n",
     ),
 ];
 
@@ -116,33 +111,9 @@ fn side_lists_with_a_fault(rt: HostRuntime) -> Result<(), Fail> {
     check_texts(&rt, rt.alloc(), topic, &REFUSED)
 }
 
-fn check_the_first_fault_of_three_files(
-    rt: &impl Abort,
-    alloc: Global,
-    table: &[(&str, [&str; 3], &str)],
-) -> Result<(), Fail> {
-    for &(name, [domain, problem, side], line) in table {
-        let row = Row {
-            name,
-            words: &RUN,
-            files: &[
-                ("domain", domain),
-                ("problem", problem),
-                ("side", side),
-                ("cert", "no certificate"),
-                ("script", "no script"),
-            ],
-            status: 3,
-            text: line,
-        };
-        check(rt, alloc, row)?;
-    }
-    Ok(())
-}
-
 #[test]
 fn the_first_fault_of_three_files(rt: HostRuntime) -> Result<(), Fail> {
-    check_the_first_fault_of_three_files(&rt, rt.alloc(), &FIRST)
+    check_runs(&rt, rt.alloc(), 3, &FIRST)
 }
 
 #[test]

@@ -20,11 +20,21 @@ const BOTH: &str =
 
 const BOTH_P: &str = "(define (problem b) (:domain both) (:goal (p)))\n";
 
+const NAMES: &str =
+    "(define (domain x)\n(:types t u) (:predicates (p ?a - t))\n(:action a :effect (q)))\n";
+
+/// The domain `NAMES` without the atom that is not declared.
+const NAMED: &str =
+    "(define (domain x)\n(:types t u) (:predicates (p ?a - t))\n(:action a :effect ()))\n";
+
+const NAMES_P: &str =
+    "(define (problem y) (:domain x) (:objects o - u)\n(:init (p o)) (:goal ()))\n";
+
 const ONE_LINE: &str =
     "(define (domain coin) (:predicates (heads)) (:action flip :effect (oneof (heads) (and))))\n";
 
 /// The files of the rows of `succ`.
-const FILES: [(&str, &str); 11] = [
+const FILES: [(&str, &str); 14] = [
     ("coin.d", COIN),
     ("coin.p", COIN_P),
     ("won.p", WON_P),
@@ -34,12 +44,15 @@ const FILES: [(&str, &str); 11] = [
     ("both.p", BOTH_P),
     ("pit.d", PIT),
     ("pit.p", PIT_P),
+    ("names.d", NAMES),
+    ("named.d", NAMED),
+    ("names.p", NAMES_P),
     ("line.d", ONE_LINE),
     ("empty.d", ""),
 ];
 
 /// A name, the words after `succ`, and the status and the text of the answer.
-const SUCC: [(&str, &str, &str, &str, u8, &str); 13] = [
+const SUCC: [(&str, &str, &str, &str, u8, &str); 15] = [
     (
         "coin",
         "coin.d",
@@ -103,6 +116,22 @@ const SUCC: [(&str, &str, &str, &str, u8, &str); 13] = [
         "(go)",
         3,
         "refused problem 1 44 F15\n",
+    ),
+    (
+        "a predicate that is not declared",
+        "names.d",
+        "names.p",
+        "(a)",
+        3,
+        "refused domain 3 21 F15\n",
+    ),
+    (
+        "an object that does not fit",
+        "named.d",
+        "names.p",
+        "(a)",
+        3,
+        "refused problem 2 11 F17\n",
     ),
     (
         "a file that is not held",
