@@ -87,7 +87,7 @@ const DOMAINS: [(&str, &str); 22] = [
         "(define (domain x) (:types t) (:constants a) (:predicates (p ?x - t)) (:action m :effect (and (p a) (p) (q))))",
         "refused domain 1 98 F17\n",
     ),
-    // A type that is not declared fits everything.
+    // A type that is not declared: whether it fits is not asked.
     (
         "(define (domain x) (:action m :parameters (?x - t) :effect (p ?x)) (:predicates (p ?x - w)) (:types t))",
         "refused domain 1 89 F13\n",

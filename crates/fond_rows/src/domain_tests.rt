@@ -225,7 +225,7 @@ const REFUSED: [(&str, &str); 65] = [
     ),
 ];
 
-/// Domains without a fault of form, whatever their names are: the fault of the problem is reported.
+/// Domains without a fault of form, so that the problem's is reported.
 const READ: [(&str, &str); 13] = [
     (
         "(define (domain x) (:types t))",

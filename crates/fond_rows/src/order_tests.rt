@@ -59,8 +59,8 @@ const SIDES: [(&str, [&str; 3], &str); 6] = [
     ),
 ];
 
-/// The texts of three files that have faults of names, each with the line of the first fault.
-const FIRST: [(&str, [&str; 3], &str); 16] = [
+/// The texts of three files, each with the line of their first fault of names.
+const FIRST: [(&str, [&str; 3], &str); 17] = [
     (
         "a late fault of the domain comes before an early one of the problem",
         [
@@ -204,6 +204,15 @@ const FIRST: [(&str, [&str; 3], &str); 16] = [
             "",
         ],
         "refused problem 1 53 F15\n",
+    ),
+    (
+        "a task that is not plain, and has no fault, is refused at its domain",
+        [
+            "; lamps\n  (define (domain x) (:types t) (:predicates (p ?x - t)) (:action a :parameters (?y - t) :effect (p ?y)))",
+            "(define (problem y) (:domain x) (:objects o - t) (:goal (p o)))",
+            "A a",
+        ],
+        "refused domain 2 3 F24\n",
     ),
 ];
 

@@ -136,7 +136,7 @@ const REFUSED: [(&str, &str); 33] = [
     ),
 ];
 
-/// Problems without a fault of form, whatever their names are: the fault of the domain's names is reported.
+/// Problems without a fault of form, so that the domain's fault of names is reported.
 const READ: [(&str, &str); 5] = [
     (
         "(define (problem y) (:domain x) (:goal ()) (:objects o))",
