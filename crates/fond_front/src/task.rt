@@ -14,7 +14,8 @@ use std::alloc::Global;
 
 /// The task that three texts are read as, or their first fault (docs/FAULTS.md). A phase begins only if no earlier
 /// phase found a fault in any of the files. Takes time and memory in the length of the texts and in the size of the ranges of
-/// variables, of which equal ones are kept once.
+/// variables, of which equal ones are kept once, and for each different list of types of a variable the time of a look at
+/// each object.
 pub fn read_task(alloc: Global, texts: &TaskTexts) -> Result<LiftedTask, FrontError>
     ensures read { IfOk result (IsTaskOf texts.now) }
     ensures refused { IfErr result (Refuses (IsFirstFault texts.now)) }

@@ -25,11 +25,11 @@ use Rattle.fond_game.proofs.Lists.{Contains_numbered, same_numbered, Contains-he
 use Rattle.fond_game.proofs.Reached.{reached_long, next_lies}
 
 -- all states over this many atoms
-all_states : ℕ → List (List Bool)
+pub all_states : ℕ → List (List Bool)
 all_states zero = [] ∷ []
 all_states (suc n) = map (λ state. true ∷ state) (all_states n) ++ map (λ state. false ∷ state) (all_states n)
 
-is_among_all : (state : List Bool) → Contains (all_states (length state)) state
+pub is_among_all : (state : List Bool) → Contains (all_states (length state)) state
 unfolding all_states
 is_among_all [] = Contains-here [] []
 is_among_all (true ∷ state) = Contains-append_left _ _ _ (Contains-map (λ state. true ∷ state) (all_states (length state)) state (is_among_all state))

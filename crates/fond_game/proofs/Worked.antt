@@ -75,17 +75,18 @@ inside_lies (known ∷ cube) (wanted ∷ other) told (suc atom) sign is = inside
 No_is_not_Yes : ¬ No ≡ Yes
 No_is_not_Yes is = cc
 
--- an action without names
-abbrev action : Form → Bool → List (List Entry) → Act
-action pre unfair outcomes = record { ground = record { schema = 0; objects = [] }; pre = pre; unfair = unfair; outcomes = outcomes }
+-- an action of a schema without parameters
+abbrev action : ℕ → Form → Bool → List (List Entry) → Act
+action schema pre unfair outcomes = record { ground = record { schema = schema; objects = [] }; pre = pre; unfair = unfair; outcomes = outcomes }
 
 -- an entry that sets an atom, whatever the state
 abbrev sets : ℕ → Bool → Entry
 sets atom sign = record { cond = Truth true; atom = atom; add = sign }
 
 -- no names are needed in these games
-abbrev unnamed : Atom
-unnamed = record { predicate = 0; objects = [] }
+-- the atom without objects of a predicate
+abbrev atom : ℕ → Atom
+atom predicate = record { predicate = predicate; objects = [] }
 
 abbrev no_labels : Labels
 no_labels = record { predicates = []; objects = []; schemas = [] }
@@ -96,17 +97,22 @@ leads cube other outcome layer has told = record { other = other; one = has; lie
 
 -- coin: a flip gives heads or nothing, and the goal is heads
 abbrev flip : Bool → Act
-flip unfair = action (Truth true) unfair ((sets 0 true ∷ []) ∷ [] ∷ [])
+flip unfair = action 0 (Truth true) unfair ((sets 0 true ∷ []) ∷ [] ∷ [])
 
 abbrev coin : Bool → Task
 coin unfair = record {
-  atoms = unnamed ∷ [];
+  atoms = atom 0 ∷ [];
   acts = flip unfair ∷ [];
   init = false ∷ [];
   goal = Lit 0 true;
   labels = no_labels;
   few_atoms = omega arith;
   few_acts = omega arith;
+  distinct_atoms = refl;
+  distinct_acts = refl;
+  distinct_predicates = refl;
+  distinct_objects = refl;
+  distinct_schemas = refl;
   init_long = refl;
   goal_within = within-Lit 1 0 true;
   acts_within = simp within-Truth;
@@ -259,17 +265,22 @@ coin_lost = refusals_exclude (coin true) (no_heads ∷ []) (record {
 
 -- pit: a fair jump reaches the goal or falls into a pit, from which nothing leads out
 abbrev jump : Act
-jump = action (Lit 1 false) false ((sets 0 true ∷ []) ∷ (sets 1 true ∷ []) ∷ [])
+jump = action 0 (Lit 1 false) false ((sets 0 true ∷ []) ∷ (sets 1 true ∷ []) ∷ [])
 
 abbrev pit : Task
 pit = record {
-  atoms = unnamed ∷ unnamed ∷ [];
+  atoms = atom 0 ∷ atom 1 ∷ [];
   acts = jump ∷ [];
   init = false ∷ false ∷ [];
   goal = Lit 0 true;
   labels = no_labels;
   few_atoms = omega arith;
   few_acts = omega arith;
+  distinct_atoms = refl;
+  distinct_acts = refl;
+  distinct_predicates = refl;
+  distinct_objects = refl;
+  distinct_schemas = refl;
   init_long = refl;
   goal_within = within-Lit 2 0 true;
   acts_within = simp (within-Lit, within-Truth);
@@ -313,20 +324,25 @@ module _ (alloc : Global) where
   both = record { ptr = null_ptr; len = 2; cap = 2; alloc = alloc; items = Lit 0 true ∷ Lit 1 true ∷ []; ok = (refl, omega arith); small = omega arith }
 
   abbrev left : Act
-  left = action (Lit 1 true) false ((sets 0 true ∷ sets 1 false ∷ []) ∷ [])
+  left = action 0 (Lit 1 true) false ((sets 0 true ∷ sets 1 false ∷ []) ∷ [])
 
   abbrev right : Act
-  right = action (Lit 0 true) false ((sets 1 true ∷ sets 0 false ∷ []) ∷ [])
+  right = action 1 (Lit 0 true) false ((sets 1 true ∷ sets 0 false ∷ []) ∷ [])
 
   abbrev swap : Task
   swap = record {
-    atoms = unnamed ∷ unnamed ∷ [];
+    atoms = atom 0 ∷ atom 1 ∷ [];
     acts = left ∷ right ∷ [];
     init = true ∷ false ∷ [];
     goal = And both;
     labels = no_labels;
     few_atoms = omega arith;
     few_acts = omega arith;
+    distinct_atoms = refl;
+    distinct_acts = refl;
+    distinct_predicates = refl;
+    distinct_objects = refl;
+    distinct_schemas = refl;
     init_long = refl;
     goal_within = simp (within-And, within-Lit);
     acts_within = simp (within-Lit, within-Truth);
@@ -365,26 +381,31 @@ module _ (alloc : Global) where
 
 -- mix: a fair try until ready, an unfair split, and a fair way on from either side
 abbrev try : Act
-try = action (Truth true) false ((sets 0 true ∷ []) ∷ [] ∷ [])
+try = action 0 (Truth true) false ((sets 0 true ∷ []) ∷ [] ∷ [])
 
 abbrev split : Act
-split = action (Lit 0 true) true ((sets 0 false ∷ sets 1 true ∷ []) ∷ (sets 0 false ∷ sets 2 true ∷ []) ∷ [])
+split = action 1 (Lit 0 true) true ((sets 0 false ∷ sets 1 true ∷ []) ∷ (sets 0 false ∷ sets 2 true ∷ []) ∷ [])
 
 abbrev fix_left : Act
-fix_left = action (Lit 1 true) false ((sets 3 true ∷ []) ∷ [] ∷ [])
+fix_left = action 2 (Lit 1 true) false ((sets 3 true ∷ []) ∷ [] ∷ [])
 
 abbrev fix_right : Act
-fix_right = action (Lit 2 true) false ((sets 3 true ∷ []) ∷ [] ∷ [])
+fix_right = action 3 (Lit 2 true) false ((sets 3 true ∷ []) ∷ [] ∷ [])
 
 abbrev mix : Task
 mix = record {
-  atoms = unnamed ∷ unnamed ∷ unnamed ∷ unnamed ∷ [];
+  atoms = atom 0 ∷ atom 1 ∷ atom 2 ∷ atom 3 ∷ [];
   acts = try ∷ split ∷ fix_left ∷ fix_right ∷ [];
   init = false ∷ false ∷ false ∷ false ∷ [];
   goal = Lit 3 true;
   labels = no_labels;
   few_atoms = omega arith;
   few_acts = omega arith;
+  distinct_atoms = refl;
+  distinct_acts = refl;
+  distinct_predicates = refl;
+  distinct_objects = refl;
+  distinct_schemas = refl;
   init_long = refl;
   goal_within = within-Lit 4 3 true;
   acts_within = simp (within-Lit, within-Truth);
@@ -465,20 +486,25 @@ try_rule_sure = record {
 
 -- detour: a jump as in pit, and a walk around the pit
 abbrev walk : Act
-walk = action (Lit 1 false) false ((sets 2 true ∷ []) ∷ [] ∷ [])
+walk = action 1 (Lit 1 false) false ((sets 2 true ∷ []) ∷ [] ∷ [])
 
 abbrev enter : Act
-enter = action (Lit 2 true) false ((sets 0 true ∷ []) ∷ [])
+enter = action 2 (Lit 2 true) false ((sets 0 true ∷ []) ∷ [])
 
 abbrev detour : Task
 detour = record {
-  atoms = unnamed ∷ unnamed ∷ unnamed ∷ [];
+  atoms = atom 0 ∷ atom 1 ∷ atom 2 ∷ [];
   acts = jump ∷ walk ∷ enter ∷ [];
   init = false ∷ false ∷ false ∷ [];
   goal = Lit 0 true;
   labels = no_labels;
   few_atoms = omega arith;
   few_acts = omega arith;
+  distinct_atoms = refl;
+  distinct_acts = refl;
+  distinct_predicates = refl;
+  distinct_objects = refl;
+  distinct_schemas = refl;
   init_long = refl;
   goal_within = within-Lit 3 0 true;
   acts_within = simp (within-Lit, within-Truth);

@@ -22,7 +22,7 @@ drop_at xs i x is =
 
 -- the precondition of an action is over the atoms
 pub pre_within : (atoms : ℕ) (acts : List Act) (i : ℕ) (act : Act) → list_all (is_act_within atoms) acts ≡ true → slice_get acts i ≡ Some act → is_form_within atoms act.pre ≡ true
-pre_within atoms acts i act all is = (and_parts _ _ (and_parts _ _ (all_at (is_act_within atoms) acts i act all is)).0).0
+pre_within atoms acts i act all is = (and_parts _ _ (and_parts _ _ (and_parts _ _ (all_at (is_act_within atoms) acts i act all is)).0).0).0
 
 -- the entries of an outcome of an action are over the atoms
 pub outcome_within : (atoms : ℕ) (acts : List Act) (i : ℕ) (act : Act) (k : ℕ) (entries : List Entry) →

@@ -1,4 +1,5 @@
 pub mod Within
+pub mod Distinct
 pub mod Truth
 pub mod Steps
 pub mod Values

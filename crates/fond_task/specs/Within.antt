@@ -1,7 +1,7 @@
--- Forms, entries, actions and parts of tasks whose numbers all name atoms.
-use Rattle.std.specs.Prelude.{ℕ, ◌==◌, ◌&&◌, ◌^◌, Bool, true, List, nat_lt, length}
+-- Forms, entries and actions whose numbers all name atoms.
+use Rattle.std.specs.Prelude.{ℕ, ◌&&◌, Bool, true, nat_le, nat_lt, length}
 use Rattle.std.specs.List.{list_all}
-use Rattle.fond_text.specs.declared.atom.Atom.{Atom}
+use Rattle.fond_text.specs.declared.code.TheConstants.{MOST_OUTCOMES}
 use Rattle.fond_task.specs.declared.form.Form.{Form}
 use Rattle.fond_task.specs.declared.form.Form.TheOpen.{Form-F, Truth, Lit, And, Or}
 use Rattle.fond_task.specs.declared.form.Form.TheFolds.{fold-Form}
@@ -23,14 +23,8 @@ is_form_within atoms = fold-Form Bool (within_step atoms)
 abbrev pub is_entry_within : ℕ → Entry → Bool
 is_entry_within atoms entry = nat_lt entry.atom atoms && is_form_within atoms entry.cond
 
--- whether an action has an outcome, and its precondition and the entries of its outcomes are over this many atoms
+-- whether an action has 1 to 256 outcomes, and its precondition and the entries of its outcomes are over this many atoms
 abbrev pub is_act_within : ℕ → Act → Bool
 is_act_within atoms act =
-    is_form_within atoms act.pre && nat_lt 0 (length act.outcomes) && list_all (list_all (is_entry_within atoms)) act.outcomes
-
--- whether parts make a task: fewer than 2^32 atoms and actions, an initial state over all atoms, and a goal and
--- actions over these atoms
-abbrev pub are_parts : List Atom → List Act → List Bool → Form → Bool
-are_parts atoms acts init goal =
-    nat_lt (length atoms) (2 ^ 32) && nat_lt (length acts) (2 ^ 32) && length init == length atoms
-    && is_form_within (length atoms) goal && list_all (is_act_within (length atoms)) acts
+    is_form_within atoms act.pre && nat_lt 0 (length act.outcomes) && nat_le (length act.outcomes) MOST_OUTCOMES
+    && list_all (list_all (is_entry_within atoms)) act.outcomes

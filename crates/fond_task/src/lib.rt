@@ -6,7 +6,6 @@
 pub mod form;
 pub mod image;
 pub mod laws;
-pub mod parts;
 pub mod step;
 pub mod task;
 pub mod task_index;

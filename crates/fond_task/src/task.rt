@@ -1,6 +1,8 @@
 //! The types of a ground task.
 
+ghost use Rattle.fond_task.specs.Distinct.{are_distinct_atoms, are_distinct_acts};
 ghost use Rattle.fond_task.specs.Within.{is_form_within, is_act_within};
+ghost use Rattle.fond_text.specs.Lists.{are_distinct_texts};
 ghost use Rattle.std.specs.List.{list_all};
 ghost use Rattle.std.specs.Prelude.{◌≡◌, ◌<◌, ◌^◌, length, IsTrue};
 
@@ -45,8 +47,9 @@ pub struct Labels {
     pub schemas: Names,
 }
 
-/// A ground task. Its conditions and effects are over its atoms, its initial state gives a truth value to each of
-/// them, and each action has an outcome.
+/// A ground task. No atom and no action occurs twice, and no two predicates, objects or schemas have the same name. Its
+/// conditions and effects are over its atoms, its initial state gives a truth value to each of them, and each action has
+/// 1 to 256 outcomes.
 #[derive(Drop)]
 pub struct Task {
     pub atoms: Atoms,
@@ -56,6 +59,11 @@ pub struct Task {
     pub labels: Labels,
     pub ghost few_atoms: { length atoms < 2 ^ 32 },
     pub ghost few_acts: { length acts < 2 ^ 32 },
+    pub ghost distinct_atoms: { IsTrue (are_distinct_atoms atoms) },
+    pub ghost distinct_acts: { IsTrue (are_distinct_acts acts) },
+    pub ghost distinct_predicates: { IsTrue (are_distinct_texts labels.predicates) },
+    pub ghost distinct_objects: { IsTrue (are_distinct_texts labels.objects) },
+    pub ghost distinct_schemas: { IsTrue (are_distinct_texts labels.schemas) },
     pub ghost init_long: { length init ≡ length atoms },
     pub ghost goal_within: { IsTrue (is_form_within (length atoms) goal) },
     pub ghost acts_within: { IsTrue (list_all (is_act_within (length atoms)) acts) },

@@ -1,6 +1,6 @@
--- Lists: tests place by place, some item with those before it, and lists without repetition.
-use Rattle.std.specs.Prelude.{◌≡◌, ℕ, ◌&&◌, Bool, true, false, not, List, [], ◌∷◌, ◌++◌, Contains, ⊤}
-use Rattle.std.specs.List.{list_any}
+-- Lists: tests place by place, some item with those before it, concatenations, and lists without repetition.
+use Rattle.std.specs.Prelude.{◌≡◌, ℕ, ◌&&◌, Bool, true, false, not, List, [], ◌∷◌, ◌++◌, Contains, map, ⊤}
+use Rattle.std.specs.List.{flat_map, list_any}
 use Rattle.std.specs.Str.{bytes_eq}
 
 -- whether each test passes on the item at its place, and there are as many tests as items
@@ -16,6 +16,11 @@ pub record Somewhere {A : Type 0} (holds : List A → A → Type 0) (items : Lis
   pub after : List A
   pub split : items ≡ before ++ item ∷ after
   pub has : holds before item
+
+-- the concatenations of one list from each place, in order, the last place varying fastest
+abbrev pub concatenations : {A : Type 0} → List (List (List A)) → List (List A)
+concatenations [] = [] ∷ []
+concatenations (lists ∷ rest) = flat_map (λ list. map (λ more. list ++ more) (concatenations rest)) lists
 
 -- no item occurs twice in a list
 abbrev pub AreDistinct : {A : Type 0} → List A → Type 0

@@ -6,6 +6,15 @@ pub const LONGEST_TEXT: usize = 16_777_216;
 /// The most parentheses that may be open at a place.
 pub const DEEPEST: usize = 128;
 
+/// The most fluent atoms that a task may have.
+pub const MOST_ATOMS: usize = 16_384;
+
+/// The most ground actions that a task may keep.
+pub const MOST_ACTIONS: usize = 131_072;
+
+/// The most outcomes that a kept ground action may have.
+pub const MOST_OUTCOMES: usize = 256;
+
 /// A text has more bytes than [`LONGEST_TEXT`].
 pub const TOO_LONG: u8 = 1;
 
@@ -68,5 +77,11 @@ pub const REPEATED_NAME: u8 = 19;
 /// A leaf of the side list is not the name of a schema.
 pub const UNKNOWN_SCHEMA: u8 = 20;
 
-/// A form of the language is not supported yet.
-pub const UNSUPPORTED: u8 = 24;
+/// A task has more fluent atoms than [`MOST_ATOMS`].
+pub const TOO_MANY_ATOMS: u8 = 21;
+
+/// A task keeps more ground actions than [`MOST_ACTIONS`].
+pub const TOO_MANY_ACTIONS: u8 = 22;
+
+/// A schema with a kept ground action has more outcomes than [`MOST_OUTCOMES`].
+pub const TOO_MANY_OUTCOMES: u8 = 23;

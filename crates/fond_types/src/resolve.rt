@@ -29,7 +29,8 @@ fn resolved(alloc: Global, files: &Files) -> Result<LiftedTask, FrontError>
 
 /// The task of a domain, a problem and a side list. Declarations with a fault of names are refused with the first
 /// one, F13 to F20 (docs/FAULTS.md). Names are looked up by hash, so this takes time and memory in the sizes of the
-/// declarations and of the ranges of their variables.
+/// declarations and of the ranges of their variables, and for each different list of types of a variable the time of a
+/// look at each object.
 pub fn resolve(alloc: Global, d: &Domain, p: &Problem, s: &Side) -> Result<LiftedTask, FrontError>
     ensures resolved { IfOk result (IsResolved (record { domain = d.now; problem = p.now; side = s.now })) }
     ensures clean { OnOk result (AreClean (StandsInNames (record { domain = d.now; problem = p.now; side = s.now }))) }
