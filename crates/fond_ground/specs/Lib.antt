@@ -1,6 +1,5 @@
-pub mod Numbers
+pub mod Atoms
 pub mod Values
-pub mod Outcomes
 pub mod Grounds
-pub mod Tables
-pub mod Signs
+pub mod Faults
+pub mod Texts

@@ -1,5 +1,3 @@
 pub mod Outcomes
-pub mod Changes
-pub mod Fluents
-pub mod Nonempty
-pub mod Laws
+pub mod Counts
+pub mod Within
