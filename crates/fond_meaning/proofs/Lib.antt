@@ -1,6 +1,9 @@
 pub mod Atoms
 pub mod Bools
+pub mod Changes
+pub mod Choosing
 pub mod Local
 pub mod Members
 pub mod Occurs
+pub mod Tested
 pub mod Tuples
