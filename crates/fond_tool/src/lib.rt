@@ -6,8 +6,8 @@
 mod action;
 mod answer;
 mod commands;
+mod described;
 mod fetch;
-mod plain_task;
 mod rejection;
 mod run;
 pub mod status;
