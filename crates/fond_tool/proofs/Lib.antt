@@ -1,8 +1,7 @@
 mod ActionTrees
 mod Ends
 mod Fitting
-mod Found
+mod Names
 mod Lists
 mod Rejections
 mod Runs
-mod Successors

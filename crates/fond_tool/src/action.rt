@@ -59,9 +59,9 @@ pub fn read_action(alloc: Global, word: &Word) -> Result<Option<Tree>, NoMemory>
 fn name_in(tree: &Tree) -> &[u8]
     ensures { (name : List ℕ) → leaf_of tree.now ≡ Some name → result.now ≡ name }
 {
-    match tree {
-        Tree::Leaf(_, name) => name.bytes(),
-        Tree::Node(_, _) => &[],
+    match tree.leaf() {
+        Some(name) => name,
+        None => &[],
     }
 }
 
@@ -138,8 +138,11 @@ pub fn find_action(alloc: Global, task: &LiftedTask, word: &Word) -> Result<Opti
     requires { IsAction word.now }
     ensures { IfOk result (λ found. MatchOption found (NamesNone task.now word.now) (NamesAction task.now word.now)) }
 {
-    match read_action(alloc, word)? {
-        Some(Tree::Node(_, members)) => find_named(alloc, task, &members),
-        _ => unreachable!(),
-    }
+    let Some(action) = read_action(alloc, word)? else {
+        unreachable!()
+    };
+    let Some(members) = action.members() else {
+        unreachable!()
+    };
+    find_named(alloc, task, members)
 }

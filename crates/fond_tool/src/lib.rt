@@ -6,11 +6,11 @@
 mod action;
 mod answer;
 mod commands;
-mod described;
 mod fetch;
 mod rejection;
 mod run;
 pub mod status;
 mod succ;
+mod task_files;
 pub mod tool;
 mod words;

@@ -8,7 +8,7 @@ ghost use Rattle.fond_tool.specs.Runs.{RunReply};
 ghost use Rattle.std.specs.Prelude.{◌≡◌, ℕ, Bool, List, IfOk, IfErr};
 
 use crate::answer::Answer;
-use crate::described::described;
+use crate::task_files::read_files;
 use crate::rejection::Rejection;
 use crate::status::Status;
 use fond_cert::policy::read_policy;
@@ -50,7 +50,7 @@ pub fn run(
     ensures replied { IfOk result (RunReply texts.now cert.now script.now) }
     ensures rejected { IfErr result (Rejects (RunReply texts.now cert.now script.now)) }
 {
-    let files = described(alloc, texts)?;
+    let files = read_files(alloc, texts)?;
     let policy = read_policy(alloc, &files.game, cert)?;
     let numbers = read_script(alloc, script)?;
     Ok(trace_answer(alloc, &files.game, &policy.rules, &numbers)?)

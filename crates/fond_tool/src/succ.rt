@@ -13,7 +13,7 @@ ghost use Rattle.std.specs.Prelude.{◌≡◌, ◌↔◌, ◌<◌, ◌++◌, tru
 
 use crate::action::find_action;
 use crate::answer::{Answer, line};
-use crate::described::described;
+use crate::task_files::read_files;
 use crate::rejection::Rejection;
 use crate::status::Status;
 use fond_front::texts::TaskTexts;
@@ -95,7 +95,7 @@ pub fn succ(alloc: Global, texts: &TaskTexts, action: &Word) -> Result<Answer, R
     ensures replied { IfOk result (SuccReply texts.now action.now) }
     ensures rejected { IfErr result (Rejects (SuccReply texts.now action.now)) }
 {
-    let files = described(alloc, texts)?;
+    let files = read_files(alloc, texts)?;
     let Some(named) = find_action(alloc, &files.task, action)? else {
         return Err(Rejection::UnknownAction);
     };

@@ -15,17 +15,17 @@ use std::alloc::Global;
 
 /// A task and its ground task.
 #[derive(Drop)]
-pub struct Described {
+pub struct TaskFiles {
     pub task: LiftedTask,
     pub game: Task,
 }
 
 /// The task that three texts describe, with its ground task, or the fault with which they are refused.
-pub fn described(alloc: Global, texts: &TaskTexts) -> Result<Described, FrontError>
-    ensures read { IfOk result (λ d. DescribeGround texts.now d.task d.game) }
+pub fn read_files(alloc: Global, texts: &TaskTexts) -> Result<TaskFiles, FrontError>
+    ensures read { IfOk result (λ files. DescribeGround texts.now files.task files.game) }
     ensures refused { IfErr result (Refuses (IsRefusal texts.now)) }
 {
     let task = read_task(alloc, texts)?;
     let game = ground(alloc, &task)?;
-    Ok(Described { task, game })
+    Ok(TaskFiles { task, game })
 }
