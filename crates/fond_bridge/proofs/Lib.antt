@@ -1,0 +1,4 @@
+pub mod Bridges
+pub mod Lists
+pub mod Maps
+pub mod Places
