@@ -1,3 +1,4 @@
+pub mod Atoms
 pub mod Bridges
 pub mod Lists
 pub mod Maps
