@@ -3,3 +3,4 @@ pub mod Bridges
 pub mod Lists
 pub mod Maps
 pub mod Places
+pub mod States
