@@ -4,3 +4,4 @@ pub mod Lists
 pub mod Maps
 pub mod Places
 pub mod States
+pub mod Values
