@@ -3,5 +3,7 @@ pub mod Bridges
 pub mod Lists
 pub mod Maps
 pub mod Places
+pub mod Outcomes
 pub mod States
+pub mod Truths
 pub mod Values
