@@ -1,11 +1,11 @@
 -- A condition holds if and only if the test says so.
-use Rattle.std.proofs.Common.{◌≡◌, ◌⊎◌, inl, inr, ℕ, ◌∙◌, ◌||◌, Bool, true, false, not, List, [], ◌∷◌, ◌++◌, map, refl, sym, ap, subst, arith}
-use Rattle.std.specs.Prelude.{◌↔◌, ◌==◌, Contains, IsTrue}
+use Rattle.std.proofs.Common.{◌≡◌, inl, inr, ℕ, ◌∙◌, ◌||◌, Bool, true, false, not, List, [], ◌∷◌, ◌++◌, map, refl, sym, ap, arith}
+use Rattle.std.specs.Prelude.{◌↔◌, ◌==◌, IsTrue}
 use Rattle.std.specs.List.{list_all, list_any}
 use Rattle.std.specs.FinSet as set
 use Rattle.std.proofs.lemmas.Bool.{false≢true}
 use Rattle.std.proofs.lemmas.Bool.Decides.{nat_tests}
-use Rattle.fond_ast.specs.Ranges.{RangeList, objects_of}
+use Rattle.fond_ast.specs.Ranges.{objects_of}
 use Rattle.fond_ast.specs.declared.form.LCond.{LCond, Truth, Holds as HoldsAtom, Equal, And', Or', Not', Imply', Forall', Exists', Row_of-LCond, end_of-LCond, more_of-LCond}
 use Rattle.fond_ast.specs.declared.form.LCond.TheBlock.{items-the_row-LCond, items_shown-the_row-LCond-0}
 use Rattle.fond_ast.specs.declared.form.LCond.TheOpen.{LCond-F}
@@ -18,21 +18,21 @@ use Rattle.fond_meaning.specs.Laws.{TruthIsTested}
 use Rattle.fond_meaning.proofs.Bools.{and-both, and-parts, or-left, or-right, or-cases}
 use Rattle.fond_meaning.proofs.Members.{Member, Member-from_Contains, Contains-from_Member}
 
-all-members : {X : Type 0} (test : X → Bool) (xs : List X) → IsTrue (list_all test xs) → (x : X) → Member xs x → IsTrue (test x)
+pub all-members : {X : Type 0} (test : X → Bool) (xs : List X) → IsTrue (list_all test xs) → (x : X) → Member xs x → IsTrue (test x)
 all-members test [] all x none = absurd none
 all-members test (y ∷ xs) all x (inl e) = ap test e ∙ (and-parts (test y) (list_all test xs) all).0
 all-members test (y ∷ xs) all x (inr m) = all-members test xs (and-parts (test y) (list_all test xs) all).1 x m
 
-members-all : {X : Type 0} (test : X → Bool) (xs : List X) → ((x : X) → Member xs x → IsTrue (test x)) → IsTrue (list_all test xs)
+pub members-all : {X : Type 0} (test : X → Bool) (xs : List X) → ((x : X) → Member xs x → IsTrue (test x)) → IsTrue (list_all test xs)
 members-all test [] each = refl
 members-all test (y ∷ xs) each = and-both (test y) (list_all test xs) (each y (inl refl)) (members-all test xs (λ x m. each x (inr m)))
 
-some-member : {X : Type 0} (test : X → Bool) (xs : List X) → IsTrue (list_any test xs) → (x : X) × Member xs x × IsTrue (test x)
+pub some-member : {X : Type 0} (test : X → Bool) (xs : List X) → IsTrue (list_any test xs) → (x : X) × Member xs x × IsTrue (test x)
 some-member test [] some = absurd (false≢true some)
 some-member test (y ∷ xs) some =
     elim (or-cases (test y) (list_any test xs) some) [ inl e ↦ (y, inl refl, e) | inr e ↦ (let later = some-member test xs e in (later.0, inr later.1, later.2)) ]
 
-member-some : {X : Type 0} (test : X → Bool) (xs : List X) (x : X) → Member xs x → IsTrue (test x) → IsTrue (list_any test xs)
+pub member-some : {X : Type 0} (test : X → Bool) (xs : List X) (x : X) → Member xs x → IsTrue (test x) → IsTrue (list_any test xs)
 member-some test [] x none is = absurd none
 member-some test (y ∷ xs) x (inl e) is = or-left (test y) (list_any test xs) (sym (ap test e) ∙ is)
 member-some test (y ∷ xs) x (inr m) is = or-right (test y) (list_any test xs) (member-some test xs x m is)
