@@ -1,0 +1,11 @@
+pub mod Atoms
+pub mod Bridges
+pub mod Kept
+pub mod Lists
+pub mod Maps
+pub mod Places
+pub mod Outcomes
+pub mod Plays
+pub mod States
+pub mod Truths
+pub mod Values
