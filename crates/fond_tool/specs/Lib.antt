@@ -1,4 +1,3 @@
-pub mod Actions
 pub mod Commands
 pub mod Ends
 pub mod Fetches
@@ -7,7 +6,6 @@ pub mod Numbers
 pub mod Rejections
 pub mod Replies
 pub mod Runs
-pub mod Steps
 pub mod Successors
 pub mod Tasks
 pub mod Words

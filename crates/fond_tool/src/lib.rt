@@ -3,7 +3,6 @@
 //! replies mean is left to the layers below.
 #![tactic(auto)]
 
-mod action;
 mod answer;
 mod commands;
 mod fetch;

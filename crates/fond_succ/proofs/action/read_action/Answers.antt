@@ -1,8 +1,8 @@
 use Rattle.std.proofs.Common.{◌≡◌, ℕ, List, false, sym, ◌∙◌, subst}
 use Rattle.fond_tree.specs.Spelling.{IsReadAs}
-use Rattle.fond_tool.specs.Actions.{is_leaf_node}
-use Rattle.fond_tool.proofs.ActionTrees.{no_action}
-use Rattle.fond_tool.proofs.action.read_action.Goals as goal
+use Rattle.fond_succ.specs.Actions.{is_leaf_node}
+use Rattle.fond_succ.proofs.ActionTrees.{no_action}
+use Rattle.fond_succ.proofs.action.read_action.Goals as goal
 
 pub returns-else-is_node_of_leaves : goal.returns-else-is_node_of_leaves
 returns-else-is_node_of_leaves c =

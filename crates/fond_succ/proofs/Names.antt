@@ -8,8 +8,8 @@ use Rattle.fond_tree.specs.Marks.{tokens}
 use Rattle.fond_tree.specs.Spelling.{IsReadAs, spelling}
 use Rattle.fond_tree.specs.Tokens.{Token, Opens, Closes, Names}
 use Rattle.fond_tree.specs.Trees.{leaf_of, members_of}
-use Rattle.fond_tool.specs.Actions.{is_leaf_node, leaf_names, name_of, names_in}
-use Rattle.fond_tool.proofs.ActionTrees.{IsLeafTree, IsNodeTree, cases_of}
+use Rattle.fond_succ.specs.Actions.{is_leaf_node, leaf_names, name_of, names_in}
+use Rattle.fond_succ.proofs.ActionTrees.{IsLeafTree, IsNodeTree, cases_of}
 
 abbrev are_leaf_trees : List Tree → Bool
 are_leaf_trees trees = list_all (λ tree. is_some (leaf_of tree)) trees

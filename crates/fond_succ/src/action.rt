@@ -5,7 +5,7 @@ ghost use Rattle.fond_ast.specs.declared.task.LSchema.{LSchema};
 ghost use Rattle.fond_meaning.specs.Conditions.{IsTuple};
 ghost use Rattle.fond_task.specs.Texts.{name_at};
 ghost use Rattle.fond_text.specs.declared.atom.GroundAction.{GroundAction};
-ghost use Rattle.fond_tool.specs.Actions.{AreNamesOf, IsAction, NamesAction, NamesNone, is_leaf_node, leaf_names};
+ghost use Rattle.fond_succ.specs.Actions.{AreNamesOf, IsAction, NamesAction, NamesNone, is_leaf_node, leaf_names};
 ghost use Rattle.fond_tree.specs.Spelling.{IsReadAs};
 ghost use Rattle.fond_tree.specs.Trees.{leaf_of};
 ghost use Rattle.std.specs.List.{list_all};

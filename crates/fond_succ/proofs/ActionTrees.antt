@@ -11,7 +11,7 @@ use Rattle.fond_tree.specs.declared.tree.Tree.{Tree, out-Tree}
 use Rattle.fond_tree.specs.declared.tree.Tree.TheOpen.{Tree-F, Leaf, Node}
 use Rattle.fond_tree.specs.declared.tree.Tree.TheFolds.{fold_out-Tree, map-Tree}
 use Rattle.fond_tree.specs.Trees.{leaf_of, members_of, leaf_step, members_step}
-use Rattle.fond_tool.specs.Actions.{IsAction, is_leaf_node}
+use Rattle.fond_succ.specs.Actions.{IsAction, is_leaf_node}
 
 -- a tree is a leaf of this place and name
 pub record IsLeafTree (tree : Tree) : Type 0 where

@@ -1,0 +1,2 @@
+mod ActionTrees
+mod Names
