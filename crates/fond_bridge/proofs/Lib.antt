@@ -1,3 +1,4 @@
+pub mod Agrees
 pub mod Atoms
 pub mod Bridges
 pub mod Kept
@@ -7,5 +8,6 @@ pub mod Places
 pub mod Outcomes
 pub mod Plays
 pub mod States
+pub mod Texts
 pub mod Truths
 pub mod Values
