@@ -97,11 +97,12 @@ module _ (task : LiftedTask) (game : Task) (is : IsGroundOf task game) where
       let found = has_position (is_same_action action) (names_of game) action (Member-at (names_of game) number action (name_at number action at)) ((bytes_eq-Decides (action_numbers action) (action_numbers action)).1 refl) in
       found.1 ∙ ap Some (one_number found.0 number action (number_is action found.0 found.1) at)
 
-  restricted : (values : List Bool) → IsState game values → restrict task (stands task values) ≡ values
+  pub restricted : (values : List Bool) → IsState game values → restrict task (stands task values) ≡ values
   restricted values state = restrict_stands task (distinct task game is) values (long task game is values state)
 
-  has_name : (number : ℕ) (act : Act) → slice_get game.acts number ≡ Some act → (action : GroundAction) × (action_of game number ≡ Some action)
-  has_name number act at = (act.ground, ap (option_map (λ (act : Act). act.ground)) at)
+  -- an act of the ground task names the action of its number
+  pub names_action : (number : ℕ) (act : Act) → slice_get game.acts number ≡ Some act → action_of game number ≡ Some act.ground
+  names_action number act at = ap (option_map (λ (act : Act). act.ground)) at
 
   abbrev play : PlaysGameOf task game
   play = plays task game is
@@ -113,7 +114,7 @@ module _ (task : LiftedTask) (game : Task) (is : IsGroundOf task game) where
     first_fits = is_fits game.init game.init_long;
     first = play.first;
     goal = λ values fits. play.goal values (fits_is values fits);
-    has_action = λ values number applies. has_name number applies.act applies.numbered;
+    has_action = λ values number applies. (applies.act.ground, names_action number applies.act applies.numbered);
     next_applies = λ values number after next. record { act = next.act; numbered = next.numbered; holds = next.holds };
     comes_applies = λ state action after next. record { schema = next.schema; numbered = next.numbered; fits = next.fits; holds = next.holds };
     kept = λ values action fits applies. play.kept values action (fits_is values fits) applies;
