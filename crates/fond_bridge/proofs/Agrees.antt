@@ -1,15 +1,14 @@
 -- A ground task agrees with its task on solutions, reached states and their number.
-use Rattle.std.proofs.Common.{◌≡◌, ℕ, inl, inr, List, [], ◌∷◌, Bool, true, false, Option, Some, None, map, length, refl, sym, ap, ◌∙◌, subst}
-use Rattle.std.specs.Prelude.{◌↔◌, ◌==◌, ◌&&◌, slice_get, IsTrue, option_and_then, option_map}
+use Rattle.std.proofs.Common.{◌≡◌, ℕ, List, ◌∷◌, Bool, Option, Some, map, length, refl, sym, ap, ◌∙◌, subst}
+use Rattle.std.specs.Prelude.{◌↔◌, ◌==◌, slice_get, IsTrue, option_and_then, option_map}
 use Rattle.std.specs.List.{position}
 use Rattle.std.specs.FinSet as set
 use Rattle.std.specs.Str.{bytes_eq}
 use Rattle.std.proofs.lemmas.Bool.{and_parts, and_from, eqb-true, eq-eqb}
-use Rattle.std.proofs.lemmas.Option.{same_Some, slice_get-map}
+use Rattle.std.proofs.lemmas.Option.{slice_get-map}
 use Rattle.std.proofs.lemmas.Slice.Eq.{bytes_eq-Decides}
 use Rattle.fond_text.specs.declared.atom.GroundAction.{GroundAction}
 use Rattle.fond_ast.specs.declared.task.LiftedTask.{LiftedTask}
-use Rattle.fond_play.specs.Games as games
 use Rattle.fond_meaning.specs.Outcomes.{is_same_state}
 use Rattle.fond_meaning.specs.Solutions as lifted
 use Rattle.fond_meaning.specs.States.{State}
@@ -29,7 +28,7 @@ use Rattle.fond_bridge.proofs.Places.{same_tests, has_position, item-at, one_pla
 use Rattle.fond_bridge.proofs.Kept.{mapped}
 use Rattle.fond_bridge.proofs.Bridges.{Correspond, IsBridge, Naming, count_down, count_up, more_down, more_up, reach_down, reach_up, solution_down, solution_up}
 use Rattle.fond_bridge.proofs.Maps.{and_then, solvable_down, solvable_up}
-use Rattle.fond_bridge.proofs.Plays.{IsNamed, distinct, long, named, plays}
+use Rattle.fond_bridge.proofs.Plays.{distinct, long, plays}
 use Rattle.fond_bridge.proofs.States.{restrict_stands}
 
 -- the test of states tells whether they are equal
@@ -127,8 +126,7 @@ module _ (task : LiftedTask) (game : Task) (is : IsGroundOf task game) where
   -- the policy of a rule list chooses alike in both games
   rules_correspond : (rules : List Rule) → Correspond (naming task game) (selected rules) (rules_policy task game rules)
   rules_correspond rules values number action fits at =
-      let same : rules_policy task game rules (stands task values) ≡ option_and_then (action_of game) (selected rules values) = ap (λ one. option_and_then (action_of game) (selected rules one)) (restricted values (fits_is values fits)) in
-      (
+      let same : rules_policy task game rules (stands task values) ≡ option_and_then (action_of game) (selected rules values) = ap (λ one. option_and_then (action_of game) (selected rules one)) (restricted values (fits_is values fits)) in (
         λ chosen. same ∙ ap (option_and_then (action_of game)) chosen ∙ at,
         λ taken.
             let from = and_then (action_of game) (selected rules values) action (sym same ∙ taken) in

@@ -1,6 +1,5 @@
 -- The laws between a task and its ground task.
-use Rattle.std.proofs.Common.{◌≡◌, ap, sym, ◌∙◌, subst}
-use Rattle.fond_meaning.specs.Solutions.{initial}
+use Rattle.std.proofs.Common.{ap, sym, ◌∙◌, subst}
 use Rattle.fond_bridge.specs.Laws.{GroundTasksPlay, GroundTasksAgree, OutcomesLeadAlike, TextsAgree, StandsIsInjective, TracesAgree}
 use Rattle.fond_bridge.specs.Stands.{restrict, stands}
 use Rattle.fond_bridge.specs.Traces.{Trace}

@@ -1,12 +1,11 @@
 -- A trace of a ground task is one of its task, with the same lines.
-use Rattle.std.proofs.Common.{◌≡◌, ℕ, ◌≤◌, List, [], ◌∷◌, ◌++◌, Bool, not, ◌&&◌, ◌||◌, Option, Some, map, length, refl, sym, ap, ◌∙◌, subst}
-use Rattle.std.specs.Prelude.{slice_get, IsTrue, codes, option_and_then}
+use Rattle.std.proofs.Common.{◌≡◌, ℕ, ◌≤◌, List, [], ◌∷◌, ◌++◌, Bool, not, ◌&&◌, ◌||◌, Some, length, refl, sym, ap, ◌∙◌, subst}
+use Rattle.std.specs.Prelude.{slice_get, codes, option_and_then}
 use Rattle.std.specs.Fmt.{decimal}
 use Rattle.std.specs.List.{AllZip}
 use Rattle.std.specs.Option.{option_map_or}
 use Rattle.std.proofs.lemmas.Option.{same_Some}
-use Rattle.fond_text.specs.declared.atom.GroundAction.{GroundAction}
-use Rattle.fond_ast.specs.declared.task.LSchema.{LSchema}
+use Rattle.std.proofs.lemmas.Slice.Zip.{AllZip-long}
 use Rattle.fond_ast.specs.declared.task.LiftedTask.{LiftedTask}
 use Rattle.fond_meaning.specs.Outcomes.{Literal, outcomes, state_after}
 use Rattle.fond_meaning.specs.Solutions as lifted
@@ -21,20 +20,19 @@ use Rattle.fond_game.specs.declared.rule.Rule.{Rule}
 use Rattle.fond_game.specs.Policies as ground
 use Rattle.fond_game.specs.Policies.{selected}
 use Rattle.fond_rules.specs.Select.{selected_rule}
-use Rattle.fond_exec.specs.Steps.{IsChosen, IsStuck, IsTaken}
+use Rattle.fond_exec.specs.Steps.{IsChosen, IsStuck}
 use Rattle.fond_exec.specs.Traces as steps
 use Rattle.fond_exec.specs.Traces.{goal_line, outcome_line}
 use Rattle.fond_ground.specs.Grounds.{IsActOf, IsEntryOf, IsGroundOf}
-use Rattle.fond_ground.specs.Texts.{labels_of}
-use Rattle.fond_bridge.specs.Stands.{restrict, stands}
-use Rattle.fond_bridge.specs.Games.{IsState, PlaysGameOf, action_of}
+use Rattle.fond_bridge.specs.Stands.{stands}
+use Rattle.fond_bridge.specs.Games.{IsState, action_of}
 use Rattle.fond_bridge.specs.Solutions.{rules_policy}
 use Rattle.fond_bridge.specs.Traces.{Choose, ChooseNone, Trace, goal, ended, stuck, past, took, step_line}
 use Rattle.fond_bridge.proofs.Agrees.{names_action, restricted}
-use Rattle.fond_bridge.proofs.Lists.{zip-length, zip-right}
+use Rattle.fond_bridge.proofs.Lists.{zip-right}
 use Rattle.fond_bridge.proofs.Maps.{and_then}
 use Rattle.fond_bridge.proofs.Outcomes.{leads_alike}
-use Rattle.fond_bridge.proofs.Plays.{IsNamed, distinct, long, named, plays}
+use Rattle.fond_bridge.proofs.Plays.{distinct, long, named, plays}
 
 module _ (task : LiftedTask) (game : Task) (is : IsGroundOf task game) (rules : List Rule) where
   -- an act stands for the action that it names
@@ -48,7 +46,7 @@ module _ (task : LiftedTask) (game : Task) (is : IsGroundOf task game) (rules : 
 
   -- an action has as many choices as its act has outcomes
   choices_long : (number : ℕ) (act : Act) (at : slice_get game.acts number ≡ Some act) → length (choices_of number act at) ≡ length act.outcomes
-  choices_long number act at = zip-length (AllZip (IsEntryOf task)) (choices_of number act at) act.outcomes (act_is number act at).outcomes
+  choices_long number act at = sym (AllZip-long (AllZip (IsEntryOf task)) (choices_of number act at) act.outcomes (act_is number act at).outcomes)
 
   module _ (values : List Bool) (state : IsState game values) where
     policy_is : rules_policy task game rules (stands task values) ≡ option_and_then (action_of game) (selected rules values)
