@@ -1,7 +1,7 @@
 -- The fluent atoms of a task: which they are, and the number that each has.
-use Rattle.std.proofs.Common.{◌≡◌, ℕ, ◌+◌, ◌<◌, inl, inr, List, [], ◌∷◌, Bool, true, false, not, ◌&&◌, Option, Some, None, map, length, refl, sym, ap, ◌∙◌, subst, arith}
-use Rattle.std.specs.Prelude.{◌⊎◌, ◌↔◌, ◌==◌, slice_get, IsTrue, Contains, if◌then◌else◌}
-use Rattle.std.specs.List.{enumerate_from, position}
+use Rattle.std.proofs.Common.{◌≡◌, ℕ, ◌+◌, List, [], Bool, true, false, Option, Some, None, map, refl, sym, ap, ◌∙◌, subst, arith}
+use Rattle.std.specs.Prelude.{◌↔◌, ◌==◌, slice_get, IsTrue, if◌then◌else◌}
+use Rattle.std.specs.List.{enumerate_from}
 use Rattle.std.specs.Option.{option_map, option_map_or}
 use Rattle.std.specs.Ordering.{eq_by_cmp, is_eq, is_lt, ordering_reverse}
 use Rattle.std.specs.FinSet as set
@@ -9,7 +9,7 @@ use Rattle.std.specs.Str.{bytes_eq}
 use Rattle.std.specs.declared.cmp.Ordering.{Ordering}
 use Rattle.std.specs.declared.cmp.Ordering.TheVariants.{Less, Equal, Greater}
 use Rattle.std.proofs.lemmas.Bool.{false≢true, and_from, and_parts, eqb-true, eq-eqb}
-use Rattle.std.proofs.lemmas.Option.{none-some, same_Some, slice_get-map}
+use Rattle.std.proofs.lemmas.Option.{none-some, slice_get-map}
 use Rattle.std.proofs.lemmas.Slice.Eq.{bytes_eq-Decides}
 use Rattle.fond_text.specs.Lists.{each_passes}
 use Rattle.fond_text.specs.declared.atom.Atom.{Atom}
@@ -18,13 +18,13 @@ use Rattle.fond_ast.specs.Within.{is_fluent, is_initial_within}
 use Rattle.fond_ast.specs.declared.task.LPredicate.{LPredicate}
 use Rattle.fond_ast.specs.declared.task.LiftedTask.{LiftedTask}
 use Rattle.fond_meaning.specs.Conditions.{tuples}
-use Rattle.fond_meaning.specs.States.{State, atom_cmp, atoms_of}
+use Rattle.fond_meaning.specs.States.{atom_cmp, atoms_of}
 use Rattle.fond_meaning.proofs.Atoms.{atom_cmp_total, atom_cmp-IsAntisymmetric}
 use Rattle.fond_meaning.proofs.Members.{Member, Member-from_Contains, Member-flat_map, Member-from_flat_map, Member-map, Member-from_map}
 use Rattle.fond_meaning.proofs.Tuples.{tuples-lie-in-ranges}
 use Rattle.fond_task.specs.Distinct.{are_distinct_atoms, atom_numbers}
 use Rattle.fond_ground.specs.Atoms.{atom_number, atoms_over, fluent_atoms, is_same_atom}
-use Rattle.fond_bridge.proofs.Lists.{at-Member, Member-at}
+use Rattle.fond_bridge.proofs.Lists.{Member-at}
 use Rattle.fond_bridge.proofs.Places.{any-Member, Member-any, all-Member, item-at, has_position, one_place, at-enumerate, enumerate-at}
 
 -- atoms tie in their order if and only if they are equal

@@ -1,11 +1,12 @@
 -- Two games, where the states of the one stand for states of the other: walks, solutions and counts agree.
-use Rattle.std.proofs.Common.{◌≡◌, ℕ, List, [], ◌∷◌, Bool, true, false, Option, Some, None, map, length, refl, sym, ap, ◌∙◌, subst}
-use Rattle.std.specs.Prelude.{◌↔◌, Contains, IsSome, IsTrue, ⊤, ◌<◌}
+use Rattle.std.proofs.Common.{◌≡◌, ℕ, List, Bool, Option, Some, map, sym, ap, ◌∙◌, subst}
+use Rattle.std.specs.Prelude.{◌↔◌, Contains, IsTrue, ⊤, ◌<◌}
 use Rattle.std.proofs.lemmas.List.{length-map}
 use Rattle.std.proofs.lemmas.Option.{same_Some}
 use Rattle.fond_text.specs.Lists.{AreDistinct}
-use Rattle.fond_play.specs.Games.{Game, Policy, Walked, start, onward, Reach, StaysIn, IsTrap, IsSolution, ReachesCount, More}
-use Rattle.fond_bridge.proofs.Lists.{Contains-of_map, Contains-from_map, AreDistinct-map}
+use Rattle.fond_play.specs.Games.{Game, Policy, Walked, start, onward, Reach, StaysIn, IsSolution, ReachesCount, More}
+use Rattle.fond_game.proofs.Lists.{Contains-map}
+use Rattle.fond_bridge.proofs.Lists.{Contains-from_map, AreDistinct-map}
 
 -- how the states and actions of a game (V, N) name those of another (S, A): the state for which a state stands, and back; which
 -- states stand for one; the action of a number, and the number of an action
@@ -102,7 +103,7 @@ module _ {S A V N : Type 0} (names : Naming S A V N) (lifted : Game S A) (ground
 
   -- a list has the state for which a state stands, so the list back has the state
   pub back_has : (states : List S) (v : V) → IsTrue (names.fits v) → Contains states (names.stands v) → Contains (map names.back states) v
-  back_has states v fits has = subst (Contains (map names.back states)) (bridge.back_is v fits) (Contains-of_map names.back states (names.stands v) has)
+  back_has states v fits has = subst (Contains (map names.back states)) (bridge.back_is v fits) (Contains-map names.back states (names.stands v) has)
 
   -- more than a number of states can be reached in both games or in none
   pub more_down : (bound : ℕ) → More ground bound → More lifted bound
@@ -146,7 +147,7 @@ module _ {S A V N : Type 0} (names : Naming S A V N) (lifted : Game S A) (ground
       reached = each_down Chosen Taken agrees counts.states counts.reached;
       all = λ s reached.
           let here = reach_up s reached in
-          subst (Contains (map names.stands counts.states)) (sym here.stands) (Contains-of_map names.stands counts.states here.state (counts.all here.state here.walked));
+          subst (Contains (map names.stands counts.states)) (sym here.stands) (Contains-map names.stands counts.states here.state (counts.all here.state here.walked));
       counted = length-map counts.states names.stands ∙ counts.counted;
     }
 
@@ -215,11 +216,11 @@ module _ {S A V N : Type 0} (names : Naming S A V N) (lifted : Game S A) (ground
               let come = bridge.comes v act.number act.action after here.0 act.named next in
               let unfair : ¬ ground.IsUnfair stays.choice = λ unfair. fair ((bridge.unfair act.number act.action act.named).0 (subst ground.IsUnfair same unfair)) in
               let has = stays.fair unfair come.0 (subst (λ number. ground.IsNext v number come.0) (sym same) come.1) in
-              subst (Contains (map names.stands trap)) (sym come.2) (Contains-of_map names.stands trap come.0 has);
+              subst (Contains (map names.stands trap)) (sym come.2) (Contains-map names.stands trap come.0 has);
           unfair = λ unfair.
               let some = stays.unfair (subst ground.IsUnfair (sym same) ((bridge.unfair act.number act.action act.named).1 unfair)) in
               let led = bridge.leads v act.number act.action some.0 here.0 act.named (subst (λ number. ground.IsNext v number some.0) same some.1) in
-              (names.stands some.0, led.1, Contains-of_map names.stands trap some.0 some.2);
+              (names.stands some.0, led.1, Contains-map names.stands trap some.0 some.2);
         }
 
     stays_up : (trap : List S) (v : V) → IsTrue (names.fits v) → Reach ground choices v → StaysIn lifted policy trap (names.stands v) → Act v → StaysIn ground choices (map names.back trap) v
@@ -250,7 +251,7 @@ module _ {S A V N : Type 0} (names : Naming S A V N) (lifted : Game S A) (ground
           let act = act_down solution here.state here.walked (λ goal. open_ (subst lifted.IsGoal (sym here.stands) ((bridge.goal here.state here.fits).0 goal))) in
           (act.action, subst (λ state. policy state ≡ Some act.action) (sym here.stands) act.taken, subst (λ state. lifted.IsApplicable state act.action) (sym here.stands) act.applicable);
       free = λ trap is_trap. solution.free (map names.back trap) (record {
-        some = (names.back is_trap.some.0, Contains-of_map names.back trap is_trap.some.0 is_trap.some.1);
+        some = (names.back is_trap.some.0, Contains-map names.back trap is_trap.some.0 is_trap.some.1);
         each = λ v has.
             let from = Contains-from_map names.back trap v has in
             let stays = is_trap.each from.0 from.1 in
@@ -266,7 +267,7 @@ module _ {S A V N : Type 0} (names : Naming S A V N) (lifted : Game S A) (ground
     solution_up solution = record {
       acts = λ v reached open_. (let act = act_up solution v reached open_ in (act.number, act.chosen, act.applies));
       free = λ trap is_trap. solution.free (map names.stands trap) (record {
-        some = (names.stands is_trap.some.0, Contains-of_map names.stands trap is_trap.some.0 is_trap.some.1);
+        some = (names.stands is_trap.some.0, Contains-map names.stands trap is_trap.some.0 is_trap.some.1);
         each = λ s has.
             let from = Contains-from_map names.stands trap s has in
             let stays = is_trap.each from.0 from.1 in

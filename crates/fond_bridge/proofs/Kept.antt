@@ -1,5 +1,5 @@
 -- The kept actions of a task: their schemas and their objects.
-use Rattle.std.proofs.Common.{◌≡◌, ℕ, ◌+◌, inl, inr, List, [], ◌∷◌, Bool, true, false, Option, Some, None, map, refl, sym, ap, ◌∙◌, subst, arith}
+use Rattle.std.proofs.Common.{◌≡◌, ℕ, ◌+◌, List, Option, Some, None, map, refl, sym, ap, ◌∙◌, subst, arith}
 use Rattle.std.specs.Prelude.{slice_get, IsTrue, option_map}
 use Rattle.std.specs.List.{enumerate_from}
 use Rattle.std.proofs.lemmas.Option.{none-some, same_Some}
@@ -30,8 +30,7 @@ module _ (task : LiftedTask) where
       let from = Member-from_map (λ objects. record { schema = item.0.0; objects = objects }) (kept_args task item.0.1) action item.2 in
       let plain : 0 + at.0 ≡ at.0 = omega arith in
       let named : action.schema ≡ at.0 = ap (λ (one : GroundAction). one.schema) from.2 ∙ at.1 ∙ plain in
-      let objects : action.objects ≡ from.0 = ap (λ (one : GroundAction). one.objects) from.2 in
-      (
+      let objects : action.objects ≡ from.0 = ap (λ (one : GroundAction). one.objects) from.2 in (
         item.0.1,
         ap (slice_get task.schemas) named ∙ at.2,
         subst (Member (tuples (objects_of item.0.1.ranges))) (sym objects) (Member-from_filter (is_kept task item.0.1) (tuples (objects_of item.0.1.ranges)) from.0 from.1).0,

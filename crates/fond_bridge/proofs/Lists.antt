@@ -1,13 +1,10 @@
 -- Lists of which the items are the images of others, and items by their numbers.
-use Rattle.std.proofs.Common.{◌≡◌, ℕ, zero, suc, ◌+◌, ◌<◌, inl, inr, List, [], ◌∷◌, Bool, true, false, Option, Some, None, map, length, refl, sym, ap, ◌∙◌, subst, arith}
+use Rattle.std.proofs.Common.{◌≡◌, ℕ, zero, suc, inl, inr, List, [], ◌∷◌, Some, map, refl, sym, ap, subst}
 use Rattle.std.specs.Prelude.{Contains, slice_get}
-use Rattle.std.specs.List.{AllZip, enumerate_from}
+use Rattle.std.specs.List.{AllZip}
 use Rattle.std.proofs.lemmas.Option.{none-some, same_Some}
 use Rattle.fond_text.specs.Lists.{AreDistinct}
-use Rattle.fond_meaning.proofs.Members.{Member, Member-from_Contains, Contains-from_Member, Member-map, Member-from_map}
-
-pub Contains-of_map : {X Y : Type 0} (f : X → Y) (xs : List X) (x : X) → Contains xs x → Contains (map f xs) (f x)
-Contains-of_map f xs x has = Contains-from_Member (map f xs) (f x) (Member-map f xs x (Member-from_Contains xs x has))
+use Rattle.fond_meaning.proofs.Members.{Member, Member-from_Contains, Contains-from_Member, Member-from_map}
 
 pub Contains-from_map : {X Y : Type 0} (f : X → Y) (xs : List X) (y : Y) → Contains (map f xs) y → (x : X) × Contains xs x × (y ≡ f x)
 Contains-from_map f xs y has =
@@ -51,9 +48,3 @@ zip-right R [] (y ∷ ys) all i z is = absurd all
 zip-right R (x ∷ xs) [] all i y is = absurd (none-some y is)
 zip-right R (x ∷ xs) (y ∷ ys) all zero z is = (x, refl, subst (R x) (same_Some y z is) all.0)
 zip-right R (x ∷ xs) (y ∷ ys) all (suc i) z is = zip-right R xs ys all.1 i z is
-
-pub zip-length : {X Y : Type 0} (R : X → Y → Type 0) (xs : List X) (ys : List Y) → AllZip R xs ys → length xs ≡ length ys
-zip-length R [] [] all = refl
-zip-length R [] (y ∷ ys) all = absurd all
-zip-length R (x ∷ xs) [] all = absurd all
-zip-length R (x ∷ xs) (y ∷ ys) all = ap suc (zip-length R xs ys all.1)

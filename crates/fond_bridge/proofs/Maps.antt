@@ -1,10 +1,10 @@
 -- Finite maps that are solutions: from a game to the one whose states stand for its states, and back.
-use Rattle.std.proofs.Common.{◌≡◌, ◌⊎◌, inl, inr, List, [], ◌∷◌, Bool, true, false, Option, Some, None, map, refl, sym, ap, ◌∙◌, subst}
+use Rattle.std.proofs.Common.{◌≡◌, Bool, true, false, Option, Some, None, map, refl, sym, ap, ◌∙◌, subst}
 use Rattle.std.specs.Prelude.{◌↔◌, Contains, IsSome, IsTrue, if◌then◌else◌, option_and_then}
-use Rattle.std.proofs.lemmas.Bool.{false≢true, cond-true, cond-false, cases_Bool}
-use Rattle.std.proofs.lemmas.Option.{none-some, same_Some}
+use Rattle.std.proofs.lemmas.Bool.{false≢true, cond-true}
+use Rattle.std.proofs.lemmas.Option.{none-some}
 use Rattle.fond_play.specs.Games.{Game, Policy, IsFiniteMap, IsSolvable}
-use Rattle.fond_bridge.proofs.Lists.{Contains-of_map}
+use Rattle.fond_game.proofs.Lists.{Contains-map}
 use Rattle.fond_bridge.proofs.Bridges.{Naming, IsBridge, Correspond, solution_down, solution_up, back_has}
 
 -- a value that comes through a test comes if the test passes
@@ -54,7 +54,8 @@ module _ {S A V N : Type 0} (names : Naming S A V N) (lifted : Game S A) (ground
 
   pub solvable_up : IsSolvable lifted → IsSolvable ground
   solvable_up solvable = (
-    restricted names solvable.0, restricted_finite solvable.0 solvable.1,
+    restricted names solvable.0,
+    restricted_finite solvable.0 solvable.1,
     solution_up names lifted ground bridge (restricted names solvable.0) solvable.0 (restricted_corresponds solvable.0) solvable.2,
   )
 
@@ -63,8 +64,7 @@ module _ {S A V N : Type 0} (names : Naming S A V N) (lifted : Game S A) (ground
     raised_corresponds choices v n a fits named =
         let back = bridge.back_is v fits in
         let passes : IsTrue (same (names.stands (names.back (names.stands v))) (names.stands v)) = (same_is _ _).0 (ap names.stands back) in
-        let here : raised names same choices (names.stands v) ≡ option_and_then names.action_of (choices v) = cond-true _ _ _ passes ∙ ap (λ w. option_and_then names.action_of (choices w)) back in
-        (
+        let here : raised names same choices (names.stands v) ≡ option_and_then names.action_of (choices v) = cond-true _ _ _ passes ∙ ap (λ w. option_and_then names.action_of (choices w)) back in (
           λ chosen. here ∙ ap (option_and_then names.action_of) chosen ∙ named,
           λ taken.
               let from = and_then names.action_of (choices v) a (sym here ∙ taken) in
@@ -76,12 +76,13 @@ module _ {S A V N : Type 0} (names : Naming S A V N) (lifted : Game S A) (ground
       map names.stands finite.0,
       λ s has.
           let chosen = some_through (same (names.stands (names.back s)) s) (option_and_then names.action_of (choices (names.back s))) has in
-          let listed = Contains-of_map names.stands finite.0 (names.back s) (finite.1 (names.back s) (some_then names.action_of (choices (names.back s)) chosen.1)) in
+          let listed = Contains-map names.stands finite.0 (names.back s) (finite.1 (names.back s) (some_then names.action_of (choices (names.back s)) chosen.1)) in
           subst (Contains (map names.stands finite.0)) ((same_is _ _).1 chosen.0) listed,
     )
 
     pub solvable_down : IsSolvable ground → IsSolvable lifted
     solvable_down solvable = (
-      raised names same solvable.0, raised_finite solvable.0 solvable.1,
+      raised names same solvable.0,
+      raised_finite solvable.0 solvable.1,
       solution_down names lifted ground bridge solvable.0 (raised names same solvable.0) (raised_corresponds solvable.0) solvable.2,
     )

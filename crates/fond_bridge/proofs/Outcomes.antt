@@ -1,16 +1,15 @@
 -- The outcomes of an action lead to states that stand for those to which the outcomes of its effect lead.
-use Rattle.std.proofs.Common.{◌≡◌, ℕ, ◌<◌, inl, inr, List, [], ◌∷◌, Bool, true, false, not, ◌&&◌, ◌||◌, Option, Some, None, map, length, refl, sym, ap, ◌∙◌, subst, arith}
+use Rattle.std.proofs.Common.{◌≡◌, ℕ, ◌<◌, inl, inr, List, [], ◌∷◌, Bool, true, false, not, ◌&&◌, ◌||◌, Some, None, map, length, refl, sym, ap, ◌∙◌, subst, arith}
 use Rattle.std.specs.Prelude.{◌==◌, slice_get, IsTrue, filter}
 use Rattle.std.specs.List.{AllZip, list_any}
 use Rattle.std.specs.FinSet as set
-use Rattle.std.proofs.lemmas.Bool.{false≢true, cases_Bool, both_ways, and_parts, and_from, eqb-true, eq-eqb, false_from_ne_true}
+use Rattle.std.proofs.lemmas.Bool.{and_parts, and_from, eqb-true, eq-eqb, false_from_ne_true}
 use Rattle.std.proofs.lemmas.Option.{none-some, same_Some, slice_get_within}
 use Rattle.fond_text.specs.Bools.{is_same}
 use Rattle.fond_text.specs.declared.atom.Atom.{Atom}
 use Rattle.fond_ast.specs.declared.task.LiftedTask.{LiftedTask}
-use Rattle.fond_meaning.specs.States.{State, atoms_of}
-use Rattle.fond_meaning.specs.Effects.{after}
-use Rattle.fond_meaning.specs.Outcomes.{Literal, change_of, changed_atoms, state_after, takes_place}
+use Rattle.fond_meaning.specs.States.{State}
+use Rattle.fond_meaning.specs.Outcomes.{Literal, changed_atoms, state_after, takes_place}
 use Rattle.fond_meaning.specs.Solutions.{initial}
 use Rattle.fond_meaning.proofs.Atoms.{atom_cmp_total}
 use Rattle.fond_meaning.proofs.Members.{Member, Member-map, Member-from_map}
@@ -19,7 +18,7 @@ use Rattle.fond_task.specs.declared.task.Entry.{Entry}
 use Rattle.fond_task.specs.Distinct.{are_distinct_atoms}
 use Rattle.fond_task.specs.Steps.{adds, deletes, next_state}
 use Rattle.fond_task.specs.Truth.{is_true}
-use Rattle.fond_task.proofs.Indices.{get_or-by_index, length-by_index}
+use Rattle.fond_task.proofs.Indices.{get_or-by_index}
 use Rattle.fond_ground.specs.Atoms.{atom_number, fluent_atoms}
 use Rattle.fond_ground.specs.Grounds.{AreOutcomesOf, IsEntryOf}
 use Rattle.fond_bridge.specs.Stands.{stands}

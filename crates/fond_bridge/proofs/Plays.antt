@@ -1,18 +1,15 @@
 -- The ground task of a task plays its game.
-use Rattle.std.proofs.Common.{◌≡◌, ℕ, inl, inr, List, [], ◌∷◌, Bool, true, false, not, ◌&&◌, ◌||◌, Option, Some, None, map, length, refl, sym, ap, ◌∙◌, subst}
+use Rattle.std.proofs.Common.{◌≡◌, ℕ, List, [], Bool, not, ◌&&◌, ◌||◌, Some, map, length, refl, sym, ap, ◌∙◌, subst}
 use Rattle.std.specs.Prelude.{◌↔◌, slice_get, Contains, IsTrue, option_map}
 use Rattle.std.proofs.lemmas.Option.{same_Some}
-use Rattle.fond_text.specs.declared.atom.Atom.{Atom}
 use Rattle.fond_text.specs.declared.atom.GroundAction.{GroundAction}
-use Rattle.fond_ast.specs.Ranges.{objects_of}
 use Rattle.fond_ast.specs.declared.task.LSchema.{LSchema}
 use Rattle.fond_ast.specs.declared.task.LiftedTask.{LiftedTask}
-use Rattle.fond_meaning.specs.Conditions.{IsTuple, Holds, tuples}
-use Rattle.fond_meaning.specs.Laws.{OutcomesComeNext}
+use Rattle.fond_meaning.specs.Conditions.{IsTuple, Holds}
 use Rattle.fond_meaning.specs.Outcomes.{outcomes, state_after}
 use Rattle.fond_meaning.specs.Solutions as lifted
 use Rattle.fond_meaning.specs.States.{State}
-use Rattle.fond_meaning.specs.Truths.{holds}
+use Rattle.fond_meaning.proofs.Come.{outcomes-come-next}
 use Rattle.fond_meaning.proofs.Members.{Member, Member-from_Contains, Contains-from_Member}
 use Rattle.fond_meaning.proofs.Tested.{truth-is-tested}
 use Rattle.fond_task.specs.declared.task.Act.{Act}
@@ -23,12 +20,12 @@ use Rattle.fond_task.specs.Steps.{adds, deletes, next_state}
 use Rattle.fond_task.specs.Truth.{is_true}
 use Rattle.fond_task.proofs.Indices.{length-by_index}
 use Rattle.fond_game.specs.Policies as ground
+use Rattle.fond_game.proofs.Lists.{Contains-map}
 use Rattle.fond_ground.specs.Atoms.{fluent_atoms}
 use Rattle.fond_ground.specs.Grounds.{IsActOf, IsGroundOf, kept_actions}
-use Rattle.fond_ground.specs.Values.{StandsFor}
 use Rattle.fond_bridge.specs.Stands.{stands}
 use Rattle.fond_bridge.specs.Games.{IsState, PlaysGameOf, action_of}
-use Rattle.fond_bridge.proofs.Lists.{Contains-of_map, Contains-from_map, Member-at, at-Member, zip-left, zip-right}
+use Rattle.fond_bridge.proofs.Lists.{Contains-from_map, Member-at, at-Member, zip-left, zip-right}
 use Rattle.fond_bridge.proofs.Kept.{kept_fits, kept_from, mapped}
 use Rattle.fond_bridge.proofs.Outcomes.{all_lead_alike}
 use Rattle.fond_bridge.proofs.States.{stands_initial}
@@ -110,29 +107,26 @@ module _ (task : LiftedTask) (game : Task) (is : IsGroundOf task game) where
       alike : map leads_to one.act.outcomes ≡ map (state_after (stands task values)) (outcomes action.objects one.is.schema.effect)
       alike = all_lead_alike task distinct values (long values state) (outcomes action.objects one.is.schema.effect) one.act.outcomes one.is.outcomes
 
-      module _ (come_next : OutcomesComeNext) where
-        leads_down : (next : List Bool) → ground.IsNext game values number next → IsState game next × lifted.IsNext task (stands task values) action (stands task next)
-        leads_down next leads =
-            let same : leads.act ≡ one.act = same_Some _ _ (sym leads.numbered ∙ one.numbered) in
-            let applies = applies_down number action one (record { act = leads.act; numbered = leads.numbered; holds = leads.holds }) in
-            let has : Contains one.act.outcomes leads.outcome = subst (λ (act : Act). Contains act.outcomes leads.outcome) same leads.one in
-            let among = subst (λ states. Contains states (leads_to leads.outcome)) alike (Contains-of_map leads_to one.act.outcomes leads.outcome has) in
-            let comes = (come_next task (stands task values) action one.is.schema one.is.numbered applies (leads_to leads.outcome)).1 among in
-            (
-              ap length leads.given ∙ length-by_index (λ atom value. adds values leads.outcome atom || (value && not (deletes values leads.outcome atom))) values ∙ state,
-              subst (λ after. lifted.IsNext task (stands task values) action (stands task after)) (sym leads.given) comes,
-            )
+      leads_down : (next : List Bool) → ground.IsNext game values number next → IsState game next × lifted.IsNext task (stands task values) action (stands task next)
+      leads_down next leads =
+          let same : leads.act ≡ one.act = same_Some _ _ (sym leads.numbered ∙ one.numbered) in
+          let applies = applies_down number action one (record { act = leads.act; numbered = leads.numbered; holds = leads.holds }) in
+          let has : Contains one.act.outcomes leads.outcome = subst (λ (act : Act). Contains act.outcomes leads.outcome) same leads.one in
+          let among = subst (λ states. Contains states (leads_to leads.outcome)) alike (Contains-map leads_to one.act.outcomes leads.outcome has) in
+          let comes = (outcomes-come-next task (stands task values) action one.is.schema one.is.numbered applies (leads_to leads.outcome)).1 among in (
+            ap length leads.given ∙ length-by_index (λ atom value. adds values leads.outcome atom || (value && not (deletes values leads.outcome atom))) values ∙ state,
+            subst (λ after. lifted.IsNext task (stands task values) action (stands task after)) (sym leads.given) comes,
+          )
 
-        comes_up : (next : State) → lifted.IsNext task (stands task values) action next → (after : List Bool) × ground.IsNext game values number after × (next ≡ stands task after)
-        comes_up next comes =
-            let applies : lifted.IsApplicable task (stands task values) action = record { schema = comes.schema; numbered = comes.numbered; fits = comes.fits; holds = comes.holds } in
-            let among = (come_next task (stands task values) action one.is.schema one.is.numbered applies next).0 comes in
-            let from = Contains-from_map leads_to one.act.outcomes next (subst (λ states. Contains states next) (sym alike) among) in
-            (
-              next_state values from.0,
-              record { act = one.act; numbered = one.numbered; holds = pre_true number action one applies; outcome = from.0; one = from.1; given = refl },
-              from.2,
-            )
+      comes_up : (next : State) → lifted.IsNext task (stands task values) action next → (after : List Bool) × ground.IsNext game values number after × (next ≡ stands task after)
+      comes_up next comes =
+          let applies : lifted.IsApplicable task (stands task values) action = record { schema = comes.schema; numbered = comes.numbered; fits = comes.fits; holds = comes.holds } in
+          let among = (outcomes-come-next task (stands task values) action one.is.schema one.is.numbered applies next).0 comes in
+          let from = Contains-from_map leads_to one.act.outcomes next (subst (λ states. Contains states next) (sym alike) among) in (
+            next_state values from.0,
+            record { act = one.act; numbered = one.numbered; holds = pre_true number action one applies; outcome = from.0; one = from.1; given = refl },
+            from.2,
+          )
 
   unfair_alike : (number : ℕ) (action : GroundAction) (one : IsNamed task game number action) → ground.IsUnfair game number ↔ lifted.IsUnfair task action
   unfair_alike number action one = (
@@ -145,13 +139,13 @@ module _ (task : LiftedTask) (game : Task) (is : IsGroundOf task game) where
   )
 
   -- the ground task plays the game of the task
-  pub plays : OutcomesComeNext → PlaysGameOf task game
-  plays come_next = record {
+  pub plays : PlaysGameOf task game
+  plays = record {
     first = ap (stands task) is.init ∙ stands_initial task distinct;
     goal = goal_alike;
     applicable = λ values number action state at. (let one = named number action at in (applies_down values state number action one, applies_up values state number action one));
     kept = λ values action state applies. kept_alike values state action applies;
-    leads = λ values number action next state at leads. leads_down values state number action (named number action at) come_next next leads;
-    comes = λ values number action next state at comes. comes_up values state number action (named number action at) come_next next comes;
+    leads = λ values number action next state at leads. leads_down values state number action (named number action at) next leads;
+    comes = λ values number action next state at comes. comes_up values state number action (named number action at) next comes;
     unfair = λ number action at. unfair_alike number action (named number action at);
   }

@@ -1,8 +1,8 @@
 -- The states for which truth values of the fluent atoms stand.
-use Rattle.std.proofs.Common.{◌≡◌, ℕ, zero, suc, ◌<◌, inl, inr, List, [], ◌∷◌, Bool, true, false, not, ◌&&◌, ◌||◌, Option, Some, None, map, length, refl, sym, ap, ◌∙◌, subst, arith}
-use Rattle.std.specs.Prelude.{◌⊎◌, slice_get, IsTrue}
+use Rattle.std.proofs.Common.{◌≡◌, ℕ, zero, suc, inl, inr, List, [], ◌∷◌, Bool, true, false, not, ◌||◌, Some, None, map, length, refl, sym, ap, ◌∙◌, arith}
+use Rattle.std.specs.Prelude.{slice_get, IsTrue}
 use Rattle.std.specs.FinSet as set
-use Rattle.std.proofs.lemmas.Bool.{false≢true, cases_Bool, not-true, both_ways, or_cases, or_left, or_right, not_from_false, false_from_ne_true}
+use Rattle.std.proofs.lemmas.Bool.{false≢true, not-true, both_ways, or_cases, or_left, or_right, not_from_false, false_from_ne_true}
 use Rattle.std.proofs.lemmas.Option.{none-some, same_Some}
 use Rattle.fond_text.specs.declared.atom.Atom.{Atom}
 use Rattle.fond_ast.specs.Within.{is_fluent}
@@ -63,9 +63,9 @@ module _ (task : LiftedTask) (distinct : IsTrue (are_distinct_atoms (fluent_atom
   pub numbered_stands : (values : List Bool) (atom : Atom) (n : ℕ) → slice_get (fluent_atoms task) n ≡ Some atom → set.contains (stands task values) atom ≡ truth_at values n
   numbered_stands values atom n at = same_tests _ _
       (λ has. elim (or_cases _ _ (sym (in_stands values atom) ∙ has)) [
-        inl one ↦ (let place = true_place (fluent_atoms task) values atom ((in_atoms_of _ atom).0 one) in
-        let same : place.0 ≡ n = same_Some _ _ (sym (number-at task distinct atom place.0 place.1) ∙ number-at task distinct atom n at) in
-        ap (truth_at values) (sym same) ∙ place.2)
+        | inl one ↦ (let place = true_place (fluent_atoms task) values atom ((in_atoms_of _ atom).0 one) in
+            let same : place.0 ≡ n = same_Some _ _ (sym (number-at task distinct atom place.0 place.1) ∙ number-at task distinct atom n at) in
+            ap (truth_at values) (sym same) ∙ place.2)
         | inr static ↦ absurd (both_ways _ (static_has atom static).1 (fluent_has task atom (Member-at (fluent_atoms task) n atom at)))
       ])
       (λ is. in_stands values atom ∙ or_left _ _ ((in_atoms_of _ atom).1 (place_true (fluent_atoms task) values n atom at is)))
@@ -74,8 +74,8 @@ module _ (task : LiftedTask) (distinct : IsTrue (are_distinct_atoms (fluent_atom
   pub static_stands : (values : List Bool) (atom : Atom) → atom_number task atom ≡ None → set.contains (stands task values) atom ≡ set.contains (initial task) atom
   static_stands values atom none = same_tests _ _
       (λ has. elim (or_cases _ _ (sym (in_stands values atom) ∙ has)) [
-        inl one ↦ (let place = true_place (fluent_atoms task) values atom ((in_atoms_of _ atom).0 one) in
-        absurd (no_number task atom none (Member-at (fluent_atoms task) place.0 atom place.1)))
+        | inl one ↦ (let place = true_place (fluent_atoms task) values atom ((in_atoms_of _ atom).0 one) in
+            absurd (no_number task atom none (Member-at (fluent_atoms task) place.0 atom place.1)))
         | inr static ↦ (in_atoms_of task.init atom).1 (static_has atom static).0
       ])
       (λ has.
@@ -87,7 +87,7 @@ module _ (task : LiftedTask) (distinct : IsTrue (are_distinct_atoms (fluent_atom
   -- an atom whose predicate is not fluent is in the state if it is an initial atom
   pub unfluent_stands : (values : List Bool) (atom : Atom) → is_fluent task.predicates atom.predicate ≡ false → set.contains (stands task values) atom ≡ set.contains (initial task) atom
   unfluent_stands values atom static = static_stands values atom (elim (some_or_none (atom_number task atom)) [
-    inl one ↦ absurd (both_ways _ static (fluent_has task atom (Member-at (fluent_atoms task) one.0 atom (atom-at task atom one.0 one.1))))
+    | inl one ↦ absurd (both_ways _ static (fluent_has task atom (Member-at (fluent_atoms task) one.0 atom (atom-at task atom one.0 one.1))))
     | inr none ↦ none
   ])
 
@@ -95,7 +95,7 @@ module _ (task : LiftedTask) (distinct : IsTrue (are_distinct_atoms (fluent_atom
   pub stands_for : (values : List Bool) (state : State) → ((atom : Atom) (n : ℕ) → slice_get (fluent_atoms task) n ≡ Some atom → set.contains state atom ≡ truth_at values n)
       → ((atom : Atom) → atom_number task atom ≡ None → set.contains state atom ≡ set.contains (initial task) atom) → stands task values ≡ state
   stands_for values state fluent static = states-are-their-atoms (stands task values) state (λ atom. elim (some_or_none (atom_number task atom)) [
-    inl one ↦ (let at = atom-at task atom one.0 one.1 in numbered_stands values atom one.0 at ∙ sym (fluent atom one.0 at))
+    | inl one ↦ (let at = atom-at task atom one.0 one.1 in numbered_stands values atom one.0 at ∙ sym (fluent atom one.0 at))
     | inr none ↦ static_stands values atom none ∙ sym (static atom none)
   ])
 

@@ -1,11 +1,9 @@
 -- Ground conditions are true where the conditions for which they stand hold.
-use Rattle.std.proofs.Common.{◌≡◌, ℕ, zero, suc, ◌<◌, inl, inr, List, [], ◌∷◌, Bool, true, false, not, Option, Some, None, map, length, refl, sym, ap, ◌∙◌, subst, arith}
-use Rattle.std.specs.Prelude.{slice_get, IsTrue, ⊤, if◌then◌else◌}
-use Rattle.std.specs.List.{list_all}
+use Rattle.std.proofs.Common.{◌≡◌, ℕ, zero, suc, ◌<◌, inl, inr, List, [], ◌∷◌, Bool, true, false, not, Some, length, refl, sym, ap, ◌∙◌, subst, arith}
+use Rattle.std.specs.Prelude.{IsTrue, if◌then◌else◌}
 use Rattle.std.specs.FinSet as set
 use Rattle.std.proofs.lemmas.Bool.{cases_Bool}
 use Rattle.std.proofs.lemmas.Option.{none-some, same_Some, slice_get_within}
-use Rattle.fond_text.specs.Bools.{is_same}
 use Rattle.fond_text.specs.declared.atom.Atom.{Atom}
 use Rattle.fond_ast.specs.Within.{is_fluent}
 use Rattle.fond_ast.specs.declared.form.LCond.{LCond}
@@ -22,7 +20,7 @@ use Rattle.fond_task.specs.declared.form.Kleene.TheVariants.{No, Unknown, Yes}
 use Rattle.fond_task.specs.declared.task.Entry.{Entry}
 use Rattle.fond_task.specs.Distinct.{are_distinct_atoms}
 use Rattle.fond_task.specs.Truth.{is_true}
-use Rattle.fond_task.specs.Values.{least, literal_value, value}
+use Rattle.fond_task.specs.Values.{literal_value, value}
 use Rattle.fond_task.proofs.Tells.{Tells, Tells-value}
 use Rattle.fond_ground.specs.Atoms.{atom_number, fluent_atoms}
 use Rattle.fond_ground.specs.Grounds.{IsEntryOf}
@@ -58,15 +56,15 @@ known_truth values form truth is = told truth (let P : Kleene → Type 0 = λ v.
     told false tells = tells
 
 module _ (task : LiftedTask) (distinct : IsTrue (are_distinct_atoms (fluent_atoms task))) where
-  -- if the truth of its condition agrees with its value where nothing is known of the fluent atoms, an action is kept
+  -- the value of an atom if nothing is known of the fluent atoms agrees with its truth in each state
   open_tells : (values : List Bool) (atom : Atom) → Tells (open_value task atom) (set.contains (stands task values) atom)
   open_tells values atom = elim (cases_Bool (is_fluent task.predicates atom.predicate)) [
-    inl fluent ↦ subst (λ b. Tells (if b then Unknown else static_value task atom) (set.contains (stands task values) atom)) (sym fluent) tt
+    | inl fluent ↦ subst (λ b. Tells (if b then Unknown else static_value task atom) (set.contains (stands task values) atom)) (sym fluent) tt
     | inr static ↦ subst (λ b. Tells (if b then Unknown else static_value task atom) (set.contains (stands task values) atom)) (sym static)
         (subst (Tells (static_value task atom)) (sym (unfluent_stands task distinct values atom static)) (tells_kept.sure (set.contains (initial task) atom)))
   ]
 
-  -- a condition that holds in a state is not surely false where nothing is known of the fluent atoms
+  -- a condition that holds in some state is not surely false if nothing is known of the fluent atoms
   pub not_surely_false : (values : List Bool) (env : List ℕ) (condition : LCond) → IsTrue (holds (stands task values) env condition) → IsTrue (not (is_no (condition_value (open_value task) env condition)))
   not_surely_false values env condition is =
       open_ (condition_value (open_value task) env condition) (holds (stands task values) env condition) is (condition_fits Tells tells_kept (open_value task) (stands task values) (open_tells values) condition env)
@@ -80,10 +78,10 @@ module _ (task : LiftedTask) (distinct : IsTrue (are_distinct_atoms (fluent_atom
     -- on the full cube, the value of an atom is its truth in the state
     pub atom_known : (atom : Atom) → atom_value task (full_cube values) atom ≡ known (set.contains (stands task values) atom)
     atom_known atom = elim (some_or_none (atom_number task atom)) [
-      inl one ↦ (let at = atom-at task atom one.0 one.1 in
-      let below : one.0 < length (fluent_atoms task) = slice_get_within (fluent_atoms task) one.0 atom at in
-      ap (value_or (full_cube values) (static_value task atom)) one.1 ∙ ap (λ o. literal_value o true) (full_literal values one.0 (omega (arith, below, long))) ∙ literal_known (truth_at values one.0)
-      ∙ ap known (sym (numbered_stands task distinct values atom one.0 at)))
+      | inl one ↦ (let at = atom-at task atom one.0 one.1 in
+          let below : one.0 < length (fluent_atoms task) = slice_get_within (fluent_atoms task) one.0 atom at in
+          ap (value_or (full_cube values) (static_value task atom)) one.1 ∙ ap (λ o. literal_value o true) (full_literal values one.0 (omega (arith, below, long))) ∙ literal_known (truth_at values one.0)
+          ∙ ap known (sym (numbered_stands task distinct values atom one.0 at)))
       | inr none ↦ ap (value_or (full_cube values) (static_value task atom)) none ∙ ap known (sym (static_stands task distinct values atom none))
     ]
 
@@ -97,4 +95,4 @@ module _ (task : LiftedTask) (distinct : IsTrue (are_distinct_atoms (fluent_atom
     -- the condition of an entry is true where the literal for which it stands takes place
     pub entry_holds : (literal : Literal) (entry : Entry) → IsEntryOf task literal entry → is_true values entry.cond ≡ takes_place (stands task values) literal
     entry_holds literal entry is = known_truth values entry.cond _ (is.valued (full_cube values) ∙ least_fits IsKnown known_kept (λ (guard : Guard). condition_value (atom_value task (full_cube values)) guard.env guard.condition) (λ (guard : Guard). holds (stands task values) guard.env guard.condition)
-      (λ guard. condition_known guard.env guard.condition) literal.guards)
+        (λ guard. condition_known guard.env guard.condition) literal.guards)

@@ -1,13 +1,10 @@
 -- The values of conditions and their truth in states.
-use Rattle.std.proofs.Common.{◌≡◌, ℕ, zero, suc, ◌<◌, inl, inr, List, [], ◌∷◌, ◌++◌, Bool, true, false, not, ◌&&◌, ◌||◌, Option, Some, None, map, length, refl, sym, ap, ◌∙◌, subst, arith}
-use Rattle.std.specs.Prelude.{◌↔◌, ◌==◌, slice_get, fold, IsTrue, ⊤, if◌then◌else◌}
+use Rattle.std.proofs.Common.{◌≡◌, ℕ, List, [], ◌∷◌, ◌++◌, Bool, true, false, not, ◌&&◌, ◌||◌, map, refl, sym, ap, ◌∙◌, subst}
+use Rattle.std.specs.Prelude.{◌==◌, fold, if◌then◌else◌}
 use Rattle.std.specs.List.{list_all, list_any}
 use Rattle.std.specs.FinSet as set
-use Rattle.std.proofs.lemmas.Bool.{false≢true, cases_Bool, both_ways}
-use Rattle.std.proofs.lemmas.Option.{none-some, same_Some}
-use Rattle.fond_text.specs.Bools.{is_same}
 use Rattle.fond_text.specs.declared.atom.Atom.{Atom}
-use Rattle.fond_ast.specs.Ranges.{RangeList, objects_of}
+use Rattle.fond_ast.specs.Ranges.{objects_of}
 use Rattle.fond_ast.specs.declared.form.LCond.{LCond, Truth, Holds, Equal, And', Or', Not', Imply', Forall', Exists', Row_of-LCond, end_of-LCond, more_of-LCond}
 use Rattle.fond_ast.specs.declared.form.LCond.TheBlock.{items-the_row-LCond, items_shown-the_row-LCond-0}
 use Rattle.fond_ast.specs.declared.form.LCond.TheOpen.{LCond-F}
@@ -20,7 +17,7 @@ use Rattle.fond_join.specs.Values.{condition_step, condition_value, opposite}
 use Rattle.fond_task.specs.declared.form.Kleene.{Kleene}
 use Rattle.fond_task.specs.declared.form.Kleene.TheVariants.{No, Unknown, Yes}
 use Rattle.fond_task.specs.Values.{greater, greatest, least, lesser}
-use Rattle.fond_task.proofs.Tells.{Tells, Tells-lesser, Tells-greater, and_assoc, or_assoc}
+use Rattle.fond_task.proofs.Tells.{Tells, Tells-lesser, Tells-greater, and_assoc, or_assoc, or_none}
 
 -- the value of what is known to be true or false
 abbrev pub known : Bool → Kleene
@@ -76,25 +73,21 @@ pub tells_kept : IsKept Tells
 tells_kept = record { sure = Tells-known; at_lesser = Tells-lesser; at_greater = Tells-greater; at_opposite = Tells-opposite }
 
 module _ (Fits : Kleene → Bool → Type 0) (kept : IsKept Fits) where
-  here : (a : Kleene) (x y : Bool) → x ≡ y → Fits a x → Fits a y
-  here a x y same fits = subst (Fits a) same fits
+  moved : (a : Kleene) (x y : Bool) → x ≡ y → Fits a x → Fits a y
+  moved a x y same fits = subst (Fits a) same fits
 
-  all_true : (x : Bool) → x ≡ (x && true)
-  all_true true = refl
-  all_true false = refl
-
-  none_true : (x : Bool) → x ≡ (x || false)
-  none_true true = refl
-  none_true false = refl
+  and_all : (x : Bool) → x ≡ (x && true)
+  and_all true = refl
+  and_all false = refl
 
   module _ {X : Type 0} (value : X → Kleene) (truth : X → Bool) (each : (x : X) → Fits (value x) (truth x)) where
     least_from : (xs : List X) (a : Kleene) (x : Bool) → Fits a x → Fits (fold lesser a (map value xs)) (x && list_all truth xs)
-    least_from [] a x fits = here a x (x && true) (all_true x) fits
-    least_from (one ∷ xs) a x fits = here _ _ _ (and_assoc x (truth one) (list_all truth xs)) (least_from xs (lesser a (value one)) (x && truth one) (kept.at_lesser a (value one) x (truth one) fits (each one)))
+    least_from [] a x fits = moved a x (x && true) (and_all x) fits
+    least_from (one ∷ xs) a x fits = moved _ _ _ (and_assoc x (truth one) (list_all truth xs)) (least_from xs (lesser a (value one)) (x && truth one) (kept.at_lesser a (value one) x (truth one) fits (each one)))
 
     greatest_from : (xs : List X) (a : Kleene) (x : Bool) → Fits a x → Fits (fold greater a (map value xs)) (x || list_any truth xs)
-    greatest_from [] a x fits = here a x (x || false) (none_true x) fits
-    greatest_from (one ∷ xs) a x fits = here _ _ _ (or_assoc x (truth one) (list_any truth xs)) (greatest_from xs (greater a (value one)) (x || truth one) (kept.at_greater a (value one) x (truth one) fits (each one)))
+    greatest_from [] a x fits = moved a x (x || false) (or_none x) fits
+    greatest_from (one ∷ xs) a x fits = moved _ _ _ (or_assoc x (truth one) (list_any truth xs)) (greatest_from xs (greater a (value one)) (x || truth one) (kept.at_greater a (value one) x (truth one) fits (each one)))
 
     -- the least of the values of some items fits that all are true, and the greatest that some is
     pub least_fits : (xs : List X) → Fits (least (map value xs)) (list_all truth xs)
@@ -111,9 +104,9 @@ module _ (Fits : Kleene → Bool → Type 0) (kept : IsKept Fits) where
     values = fold-LCond (List ℕ → Kleene) (condition_step known_of)
 
     -- the value and the truth of a condition, by its layer
-    at : (env : List ℕ) (condition : LCond) (layer : LCond-F LCond) → out-LCond condition ≡ layer
+    by_layer : (env : List ℕ) (condition : LCond) (layer : LCond-F LCond) → out-LCond condition ≡ layer
         → Fits (condition_step known_of (map-LCond LCond (List ℕ → Kleene) values layer) env) (holds_step state (map-LCond LCond (List ℕ → Bool) tests layer) env) → Fits (condition_value known_of env condition) (holds state env condition)
-    at env condition layer is fits =
+    by_layer env condition layer is fits =
         let value_is : condition_value known_of env condition ≡ condition_step known_of (map-LCond LCond (List ℕ → Kleene) values layer) env =
         ap (λ value. value env) (fold_out-LCond (List ℕ → Kleene) (condition_step known_of) condition) ∙ ap (λ form. condition_step known_of (map-LCond LCond (List ℕ → Kleene) values form) env) is in
         let truth_is : holds state env condition ≡ holds_step state (map-LCond LCond (List ℕ → Bool) tests layer) env =
@@ -123,29 +116,29 @@ module _ (Fits : Kleene → Bool → Type 0) (kept : IsKept Fits) where
     mutual
       -- the value of a condition fits its truth, if the value of each atom does
       pub condition_fits : (condition : LCond) (env : List ℕ) → Fits (condition_value known_of env condition) (holds state env condition)
-      condition_fits Truth env = at env _ _ outs-Truth (kept.sure true)
-      condition_fits (Holds atom) env = at env _ _ (outs-Holds atom) (each (ground_atom env atom))
-      condition_fits (Equal term other) env = at env _ _ (outs-Equal term other) (kept.sure (object_of env term == object_of env other))
-      condition_fits (And' shape row) env = at env _ _ (outs-And' shape row)
+      condition_fits Truth env = by_layer env _ _ outs-Truth (kept.sure true)
+      condition_fits (Holds atom) env = by_layer env _ _ (outs-Holds atom) (each (ground_atom env atom))
+      condition_fits (Equal term other) env = by_layer env _ _ (outs-Equal term other) (kept.sure (object_of env term == object_of env other))
+      condition_fits (And' shape row) env = by_layer env _ _ (outs-And' shape row)
           (subst (λ parts. Fits (least (map (λ part. part env) (map values parts))) (list_all (λ part. part env) (map tests parts))) (sym (items_shown-the_row-LCond-0 shape row)) (row_least row env Yes true (kept.sure true)))
-      condition_fits (Or' shape row) env = at env _ _ (outs-Or' shape row)
+      condition_fits (Or' shape row) env = by_layer env _ _ (outs-Or' shape row)
           (subst (λ parts. Fits (greatest (map (λ part. part env) (map values parts))) (list_any (λ part. part env) (map tests parts))) (sym (items_shown-the_row-LCond-0 shape row)) (row_greatest row env No false (kept.sure false)))
-      condition_fits (Not' shape part) env = at env _ _ (outs-Not' shape part) (kept.at_opposite _ _ (condition_fits part env))
+      condition_fits (Not' shape part) env = by_layer env _ _ (outs-Not' shape part) (kept.at_opposite _ _ (condition_fits part env))
       condition_fits (Imply' shape part shape_of_other other) env =
-          at env _ _ (outs-Imply' shape part shape_of_other other) (kept.at_greater _ _ _ _ (kept.at_opposite _ _ (condition_fits part env)) (condition_fits other env))
-      condition_fits (Forall' ranges shape part) env = at env _ _ (outs-Forall' ranges shape part)
+          by_layer env _ _ (outs-Imply' shape part shape_of_other other) (kept.at_greater _ _ _ _ (kept.at_opposite _ _ (condition_fits part env)) (condition_fits other env))
+      condition_fits (Forall' ranges shape part) env = by_layer env _ _ (outs-Forall' ranges shape part)
           (least_fits (λ objects. condition_value known_of (env ++ objects) part) (λ objects. holds state (env ++ objects) part) (λ objects. condition_fits part (env ++ objects)) (tuples (objects_of ranges)))
-      condition_fits (Exists' ranges shape part) env = at env _ _ (outs-Exists' ranges shape part)
+      condition_fits (Exists' ranges shape part) env = by_layer env _ _ (outs-Exists' ranges shape part)
           (greatest_fits (λ objects. condition_value known_of (env ++ objects) part) (λ objects. holds state (env ++ objects) part) (λ objects. condition_fits part (env ++ objects)) (tuples (objects_of ranges)))
 
       row_least : {m : _} (row : Row_of-LCond m) (env : List ℕ) (a : Kleene) (x : Bool) → Fits a x
           → Fits (fold lesser a (map (λ part. part env) (map values (items-the_row-LCond _ row)))) (x && list_all (λ part. part env) (map tests (items-the_row-LCond _ row)))
-      row_least end_of-LCond env a x fits = here a x (x && true) (all_true x) fits
+      row_least end_of-LCond env a x fits = moved a x (x && true) (and_all x) fits
       row_least (more_of-LCond part rest) env a x fits =
-          here _ _ _ (and_assoc x (holds state env part) _) (row_least rest env (lesser a (condition_value known_of env part)) (x && holds state env part) (kept.at_lesser a _ x _ fits (condition_fits part env)))
+          moved _ _ _ (and_assoc x (holds state env part) _) (row_least rest env (lesser a (condition_value known_of env part)) (x && holds state env part) (kept.at_lesser a _ x _ fits (condition_fits part env)))
 
       row_greatest : {m : _} (row : Row_of-LCond m) (env : List ℕ) (a : Kleene) (x : Bool) → Fits a x
           → Fits (fold greater a (map (λ part. part env) (map values (items-the_row-LCond _ row)))) (x || list_any (λ part. part env) (map tests (items-the_row-LCond _ row)))
-      row_greatest end_of-LCond env a x fits = here a x (x || false) (none_true x) fits
+      row_greatest end_of-LCond env a x fits = moved a x (x || false) (or_none x) fits
       row_greatest (more_of-LCond part rest) env a x fits =
-          here _ _ _ (or_assoc x (holds state env part) _) (row_greatest rest env (greater a (condition_value known_of env part)) (x || holds state env part) (kept.at_greater a _ x _ fits (condition_fits part env)))
+          moved _ _ _ (or_assoc x (holds state env part) _) (row_greatest rest env (greater a (condition_value known_of env part)) (x || holds state env part) (kept.at_greater a _ x _ fits (condition_fits part env)))

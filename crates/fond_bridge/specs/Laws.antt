@@ -1,7 +1,6 @@
 -- The laws between a task and its ground task.
 use Rattle.std.specs.Prelude.{◌≡◌, ℕ, Bool, List, map}
 use Rattle.fond_text.specs.declared.atom.GroundAction.{GroundAction}
-use Rattle.fond_ast.specs.declared.task.LSchema.{LSchema}
 use Rattle.fond_ast.specs.declared.task.LiftedTask.{LiftedTask}
 use Rattle.fond_meaning.specs.Outcomes.{outcomes, state_after}
 use Rattle.fond_meaning.specs.Solutions.{initial}

@@ -1,6 +1,5 @@
 -- Solutions, reached states and their number agree between a ground task and its task.
-use Rattle.std.specs.Prelude.{◌≡◌, ◌↔◌, ℕ, Bool, List, Option, option_and_then}
-use Rattle.fond_text.specs.declared.atom.GroundAction.{GroundAction}
+use Rattle.std.specs.Prelude.{◌≡◌, ◌↔◌, ℕ, Bool, List, option_and_then}
 use Rattle.fond_ast.specs.declared.task.LiftedTask.{LiftedTask}
 use Rattle.fond_play.specs.Games as games
 use Rattle.fond_meaning.specs.States.{State}
