@@ -31,7 +31,7 @@ use Rattle.fond_bridge.proofs.Maps.{and_then, solvable_down, solvable_up}
 use Rattle.fond_bridge.proofs.Plays.{distinct, long, plays}
 use Rattle.fond_bridge.proofs.States.{restrict_stands}
 
--- the test of states tells whether they are equal
+-- states are equal if and only if they pass the test
 same_state_is : (state other : State) → (state ≡ other) ↔ IsTrue (is_same_state state other)
 same_state_is state other = (
   λ same. subst (λ one. IsTrue (is_same_state state one)) same (and_from (set.is_subset state state) _ (set.contains-is_subset atom_cmp_total state state (λ atom has. has)) (set.contains-is_subset atom_cmp_total state state (λ atom has. has))),

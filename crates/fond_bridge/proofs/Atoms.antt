@@ -53,7 +53,7 @@ in_atoms_of atoms atom = (
   λ m. set.contains-from_list atom_cmp_total atoms atom ∙ Member-any (eq_by_cmp atom_cmp atom) atoms atom m (self_ties (atom_cmp atom atom) (self_tie atom)),
 )
 
--- the test of atoms tells whether they are equal
+-- atoms that pass the test are equal
 pub same_atom : (atom other : Atom) → IsTrue (is_same_atom atom other) → atom ≡ other
 same_atom atom other is =
     let both = and_parts (atom.predicate == other.predicate) (bytes_eq atom.objects other.objects) is in
@@ -64,7 +64,7 @@ same_atom atom other is =
 pub is_itself : (atom : Atom) → IsTrue (is_same_atom atom atom)
 is_itself atom = and_from (atom.predicate == atom.predicate) (bytes_eq atom.objects atom.objects) (eq-eqb atom.predicate atom.predicate refl) ((bytes_eq-Decides atom.objects atom.objects).1 refl)
 
--- a predicate of a task is fluent if and only if it is declared and marked so
+-- a fluent predicate is declared, and marked as fluent
 pub fluent_predicate : (predicates : List LPredicate) (number : ℕ) → IsTrue (is_fluent predicates number) → (predicate : LPredicate) × (slice_get predicates number ≡ Some predicate) × IsTrue predicate.fluent
 fluent_predicate predicates number fluent = go (slice_get predicates number) refl fluent
   where

@@ -1,4 +1,5 @@
--- Two games, where the states of the one stand for states of the other: walks, solutions and counts agree.
+-- Two games, if each state of the one stands for a state of the other and both have the same moves: walks, solutions and the
+-- numbers of reached states agree.
 use Rattle.std.proofs.Common.{◌≡◌, ℕ, List, Bool, Option, Some, map, sym, ap, ◌∙◌, subst}
 use Rattle.std.specs.Prelude.{◌↔◌, Contains, IsTrue, ⊤, ◌<◌}
 use Rattle.std.proofs.lemmas.List.{length-map}
@@ -8,8 +9,8 @@ use Rattle.fond_play.specs.Games.{Game, Policy, Walked, start, onward, Reach, St
 use Rattle.fond_game.proofs.Lists.{Contains-map}
 use Rattle.fond_bridge.proofs.Lists.{Contains-from_map, AreDistinct-map}
 
--- how the states and actions of a game (V, N) name those of another (S, A): the state for which a state stands, and back; which
--- states stand for one; the action of a number, and the number of an action
+-- how the states V and the numbers N of one game name the states S and the actions A of another: the state for which a
+-- state stands, and the way back; whether a state stands for one; the action of a number, and the number of an action
 pub record Naming (S A V N : Type 0) : Type 0 where
   pub stands : V → S
   pub back : S → V
@@ -17,7 +18,7 @@ pub record Naming (S A V N : Type 0) : Type 0 where
   pub action_of : N → Option A
   pub number_of : A → Option N
 
--- the game over (V, N) is the one over (S, A), by their names
+-- two games have the same moves, by the names of their states and actions
 pub record IsBridge {S A V N : Type 0} (names : Naming S A V N) (lifted : Game S A) (ground : Game V N) : Type 0 where
   pub back_is : (v : V) → IsTrue (names.fits v) → names.back (names.stands v) ≡ v
   pub numbered : (n : N) (a : A) → names.action_of n ≡ Some a ↔ names.number_of a ≡ Some n
@@ -33,17 +34,17 @@ pub record IsBridge {S A V N : Type 0} (names : Naming S A V N) (lifted : Game S
   pub comes : (v : V) (n : N) (a : A) (t : S) → IsTrue (names.fits v) → names.action_of n ≡ Some a → lifted.IsNext (names.stands v) a t → (w : V) × ground.IsNext v n w × (t ≡ names.stands w)
   pub unfair : (n : N) (a : A) → names.action_of n ≡ Some a → ground.IsUnfair n ↔ lifted.IsUnfair a
 
--- at each state that stands for one, and each number with an action, what may be taken agrees
+-- in each state that stands for one, a number may be taken if and only if its action may be taken in the other game
 abbrev pub Agrees : {S A V N : Type 0} → Naming S A V N → (V → N → Type 0) → (S → A → Type 0) → Type 0
 Agrees {S} {A} {V} {N} names May Can = (v : V) (n : N) (a : A) → IsTrue (names.fits v) → names.action_of n ≡ Some a → May v n ↔ Can (names.stands v) a
 
--- two policies choose the same at each state that stands for one
+-- two policies choose the same action in each state that stands for one
 abbrev pub Correspond : {S A V N : Type 0} → Naming S A V N → Policy V N → Policy S A → Type 0
 Correspond names choices policy = Agrees names (λ v n. choices v ≡ Some n) (λ s a. policy s ≡ Some a)
 
 module _ {S A V N : Type 0} (names : Naming S A V N) (lifted : Game S A) (ground : Game V N) (bridge : IsBridge names lifted ground) where
   module _ (May : V → N → Type 0) (Can : S → A → Type 0) (agrees : Agrees names May Can) where
-    -- a walk to a state leads to the one for which the state stands
+    -- if a walk ends in a state, some walk of the other game ends in the one for which it stands
     pub walked_down : (v : V) → Walked ground May v → IsTrue (names.fits v) × Walked lifted Can (names.stands v)
     walked_down v start = (bridge.first_fits, subst (Walked lifted Can) (sym bridge.first) start)
     walked_down v (onward before number after walked open_ may next) =
@@ -52,14 +53,14 @@ module _ {S A V N : Type 0} (names : Naming S A V N) (lifted : Game S A) (ground
         let led = bridge.leads before number action.0 after here.0 action.1 next in
         (led.0, onward (names.stands before) action.0 (names.stands after) here.1 (λ goal. open_ ((bridge.goal before here.0).1 goal)) ((agrees before number action.0 here.0 action.1).0 may) led.1)
 
-    -- a state at the end of a walk with the state for which it stands
+    -- a state at the end of a walk that stands for this one
     pub record Stander (s : S) : Type 0 where
       pub state : V
       pub fits : IsTrue (names.fits state)
       pub walked : Walked ground May state
       pub stands : s ≡ names.stands state
 
-    -- each state at the end of a walk is one for which such a state stands
+    -- for each state at the end of a walk, some state at the end of a walk stands
     pub walked_up : (s : S) → Walked lifted Can s → Stander s
     walked_up s start = record { state = ground.first; fits = bridge.first_fits; walked = start; stands = sym bridge.first }
     walked_up s (onward before action after walked open_ can next) =
@@ -73,14 +74,14 @@ module _ {S A V N : Type 0} (names : Naming S A V N) (lifted : Game S A) (ground
         let may : May v number.0 = (agrees v number.0 action here.fits number.1).1 (subst (λ state. Can state action) here.stands can) in
         record { state = come.0; fits = led.0; walked = onward v number.0 come.0 here.walked still may come.1; stands = come.2 }
 
-    -- the state back from one at the end of a walk
+    -- the way back from the end of a walk is the end of a walk, and stands for it
     back_walked : (s : S) → Walked lifted Can s → Walked ground May (names.back s) × (names.stands (names.back s) ≡ s)
     back_walked s walked =
         let here = walked_up s walked in
         let same : names.back s ≡ here.state = ap names.back here.stands ∙ bridge.back_is here.state here.fits in
         (subst (Walked ground May) (sym same) here.walked, ap names.stands same ∙ sym here.stands)
 
-    -- distinct states at the ends of walks stand for distinct ones, and back
+    -- distinct states at the ends of walks stand for distinct ones, and the ways back from distinct ones are distinct
     pub distinct_down : (states : List V) → ((v : V) → Contains states v → Walked ground May v) → AreDistinct states → AreDistinct (map names.stands states)
     distinct_down states reached once = AreDistinct-map names.stands states
         (λ v w has also same. sym (bridge.back_is v (walked_down v (reached v has)).0) ∙ ap names.back same ∙ bridge.back_is w (walked_down w (reached w also)).0)
@@ -101,7 +102,7 @@ module _ {S A V N : Type 0} (names : Naming S A V N) (lifted : Game S A) (ground
         let from = Contains-from_map names.back states v has in
         subst (Walked ground May) (sym from.2) (back_walked from.0 (reached from.0 from.1)).0
 
-  -- a list has the state for which a state stands, so the list back has the state
+  -- if a list has the state for which a state stands, the list of the ways back has the state
   pub back_has : (states : List S) (v : V) → IsTrue (names.fits v) → Contains states (names.stands v) → Contains (map names.back states) v
   back_has states v fits has = subst (Contains (map names.back states)) (bridge.back_is v fits) (Contains-map names.back states (names.stands v) has)
 
@@ -162,7 +163,7 @@ module _ {S A V N : Type 0} (names : Naming S A V N) (lifted : Game S A) (ground
       counted = length-map counts.states names.back ∙ counts.counted;
     }
 
-    -- a choice at a state, and the same choice at the one for which it stands
+    -- a choice that is applicable in a state, and the same choice in the one for which the state stands
     record Act (v : V) : Type 0 where
       number : N
       action : A
@@ -202,7 +203,7 @@ module _ {S A V N : Type 0} (names : Naming S A V N) (lifted : Game S A) (ground
           applicable = acts.2;
         }
 
-    -- where a state stays in a trap, the one for which it stands stays in the trap of those
+    -- if a state stays in a trap, the one for which it stands stays in the list of those for which the trap's states stand
     stays_down : (trap : List V) (v : V) → StaysIn ground choices trap v → Act v → StaysIn lifted policy (map names.stands trap) (names.stands v)
     stays_down trap v stays act =
         let here = reach_down v stays.reached in

@@ -13,7 +13,7 @@ use Rattle.fond_join.specs.Kept.{is_kept, kept_args}
 use Rattle.fond_ground.specs.Grounds.{kept_actions}
 use Rattle.fond_bridge.proofs.Places.{Member-filter, Member-from_filter, at-enumerate, enumerate-at}
 
--- a value that an option is mapped to comes from its value
+-- if an option's value is mapped to a value, it has one that is mapped there
 pub mapped : {X Y : Type 0} (f : X → Y) (o : Option X) (y : Y) → option_map f o ≡ Some y → (x : X) × (o ≡ Some x) × (f x ≡ y)
 mapped f None y is = absurd (none-some y is)
 mapped f (Some x) y is = (x, refl, same_Some (f x) y is)
@@ -36,7 +36,7 @@ module _ (task : LiftedTask) where
         subst (Member (tuples (objects_of item.0.1.ranges))) (sym objects) (Member-from_filter (is_kept task item.0.1) (tuples (objects_of item.0.1.ranges)) from.0 from.1).0,
       )
 
-  -- an action of which the schema and the objects are kept is a kept action
+  -- an action is kept if its objects lie in the ranges of its schema and its precondition is not surely false
   pub kept_from : (action : GroundAction) (schema : LSchema) → slice_get task.schemas action.schema ≡ Some schema → Member (tuples (objects_of schema.ranges)) action.objects → IsTrue (is_kept task schema action.objects) → Member (kept_actions task) action
   kept_from action schema at fits kept =
       let numbered : Member (enumerate_from 0 task.schemas) (0 + action.schema, schema) = enumerate-at 0 task.schemas action.schema schema at in

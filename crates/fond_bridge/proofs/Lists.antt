@@ -1,4 +1,4 @@
--- Lists of which the items are the images of others, and items by their numbers.
+-- Images of lists, and items at one place of two lists.
 use Rattle.std.proofs.Common.{◌≡◌, ℕ, zero, suc, inl, inr, List, [], ◌∷◌, Some, map, refl, sym, ap, subst}
 use Rattle.std.specs.Prelude.{Contains, slice_get}
 use Rattle.std.specs.List.{AllZip}

@@ -1,4 +1,4 @@
--- Finite maps that are solutions: from a game to the one whose states stand for its states, and back.
+-- If two games have the same moves, one is solvable by a finite map if and only if the other is.
 use Rattle.std.proofs.Common.{◌≡◌, Bool, true, false, Option, Some, None, map, refl, sym, ap, ◌∙◌, subst}
 use Rattle.std.specs.Prelude.{◌↔◌, Contains, IsSome, IsTrue, if◌then◌else◌, option_and_then}
 use Rattle.std.proofs.lemmas.Bool.{false≢true, cond-true}
@@ -7,7 +7,7 @@ use Rattle.fond_play.specs.Games.{Game, Policy, IsFiniteMap, IsSolvable}
 use Rattle.fond_game.proofs.Lists.{Contains-map}
 use Rattle.fond_bridge.proofs.Bridges.{Naming, IsBridge, Correspond, solution_down, solution_up, back_has}
 
--- a value that comes through a test comes if the test passes
+-- if a test guards an option and the whole has a value, the test passes and the option has the value
 through : {X : Type 0} (test : Bool) (o : Option X) (x : X) → (if test then o else None) ≡ Some x → IsTrue test × (o ≡ Some x)
 through true o x is = (refl, is)
 through false o x is = absurd (none-some x is)
@@ -16,7 +16,7 @@ some_through : {X : Type 0} (test : Bool) (o : Option X) → IsSome (if test the
 some_through true o has = (refl, has)
 some_through false o has = absurd (false≢true has)
 
--- a value that comes from an option's value
+-- if a function of an option's value gives a value, the option has one that gives it
 pub and_then : {X Y : Type 0} (f : X → Option Y) (o : Option X) (y : Y) → option_and_then f o ≡ Some y → (x : X) × (o ≡ Some x) × (f x ≡ Some y)
 and_then f None y is = absurd (none-some y is)
 and_then f (Some x) y is = (x, refl, is)
@@ -26,12 +26,12 @@ some_then f None has = has
 some_then f (Some x) has = refl
 
 module _ {S A V N : Type 0} (names : Naming S A V N) where
-  -- the policy that a policy becomes at the states that stand for one
+  -- a policy, in the states that stand for those of the other game: it chooses the number of the action, if there is one
   abbrev restricted : Policy S A → Policy V N
   restricted policy v = if names.fits v then option_and_then names.number_of (policy (names.stands v)) else None
 
   module _ (same : S → S → Bool) where
-    -- the policy that a policy becomes at the states for which one stands
+    -- a policy, in the states for which some state stands: it chooses the action of the number
     abbrev raised : Policy V N → Policy S A
     raised choices s = if same (names.stands (names.back s)) s then option_and_then names.action_of (choices (names.back s)) else None
 

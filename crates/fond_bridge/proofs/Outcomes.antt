@@ -48,7 +48,7 @@ changing state sign outcome atom has =
 changes : (state : State) (sign : Bool) (outcome : List Literal) (literal : Literal) → Member outcome literal → IsTrue (counts state sign literal) → IsTrue (set.contains (changed_atoms state sign outcome) literal.atom)
 changes state sign outcome literal m is = (in_atoms_of _ literal.atom).1 (Member-map (λ (literal : Literal). literal.atom) (filter (counts state sign) outcome) literal (Member-filter (counts state sign) outcome literal m is))
 
--- an item of the one list with its partner in the other
+-- each item of one of two lists that agree place by place has a partner in the other
 partner-left : {X Y : Type 0} (R : X → Y → Type 0) (xs : List X) (ys : List Y) → AllZip R xs ys → (x : X) → Member xs x → (y : Y) × Member ys y × R x y
 partner-left R [] ys all x none = absurd none
 partner-left R (one ∷ xs) [] all x m = absurd all

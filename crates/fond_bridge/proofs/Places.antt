@@ -23,7 +23,7 @@ pub some_or_none : {X : Type 0} (o : Option X) → ((x : X) × (o ≡ Some x)) �
 some_or_none None = inr refl
 some_or_none (Some x) = inl (x, refl)
 
--- what passes a test among some items
+-- some item passes a test if and only if a member does
 pub any-Member : {X : Type 0} (test : X → Bool) (xs : List X) → IsTrue (list_any test xs) → (x : X) × Member xs x × IsTrue (test x)
 any-Member test [] some = absurd (false≢true some)
 any-Member test (y ∷ xs) some = elim (or-cases (test y) (list_any test xs) some) [ inl e ↦ (y, inl refl, e) | inr e ↦ (let later = any-Member test xs e in (later.0, inr later.1, later.2)) ]
@@ -58,7 +58,7 @@ Member-from_filter test (y ∷ xs) x m = go (test y) refl (Member-from_filter te
     go true is later (inr h) = let inner = later h in (inr inner.0, inner.1)
     go false is later h = let inner = later h in (inr inner.0, inner.1)
 
--- a position is that of an item which passes
+-- the item at a position passes the test
 pub item-at : {X : Type 0} (test : X → Bool) (xs : List X) (d : X) (n : ℕ) → position test xs ≡ Some n → (x : X) × (slice_get xs n ≡ Some x) × IsTrue (test x)
 item-at test xs d n is = let at = position-Some test xs n d is in (_, slice_get-get_or xs n d at.0, at.1)
 
@@ -89,7 +89,7 @@ one_place (first ∷ texts) distinct zero (suc j) text is also = absurd (later_d
 one_place (first ∷ texts) distinct (suc i) zero text is also = absurd (later_differs first texts (and_parts _ _ distinct).0 i (is ∙ sym also))
 one_place (first ∷ texts) distinct (suc i) (suc j) text is also = ap suc (one_place texts (and_parts _ _ distinct).1 i j text is also)
 
--- an enumerated item is at its number
+-- an item is listed with its number
 pub at-enumerate : {X : Type 0} (n : ℕ) (xs : List X) (item : ℕ × X) → Member (enumerate_from n xs) item → (i : ℕ) × (item.0 ≡ n + i) × (slice_get xs i ≡ Some item.1)
 at-enumerate n [] item none = absurd none
 at-enumerate n (x ∷ xs) item (inl e) = let here : n ≡ n + zero = omega arith in (zero, ap (λ (one : ℕ × _). one.0) e ∙ here, ap Some (sym (ap (λ (one : ℕ × _). one.1) e)))

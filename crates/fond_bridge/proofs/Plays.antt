@@ -31,7 +31,7 @@ use Rattle.fond_bridge.proofs.Outcomes.{all_lead_alike}
 use Rattle.fond_bridge.proofs.States.{stands_initial}
 use Rattle.fond_bridge.proofs.Truths.{form_holds, not_surely_false}
 
--- a ground action by its number: its act, which stands for it
+-- an action that has a number: the act of the number stands for it, and its objects lie in the ranges of its schema
 pub record IsNamed (task : LiftedTask) (game : Task) (number : ℕ) (action : GroundAction) : Type 0 where
   pub act : Act
   pub numbered : slice_get game.acts number ≡ Some act
@@ -61,7 +61,7 @@ module _ (task : LiftedTask) (game : Task) (is : IsGroundOf task game) where
         fits = subst (λ (one : LSchema). IsTuple one.ranges action.objects) schema (Contains-from_Member _ _ kept.2);
       }
 
-  -- the act of a kept action
+  -- each kept action has a number
   pub numbered : (action : GroundAction) → Member (kept_actions task) action → (number : ℕ) × (action_of game number ≡ Some action)
   numbered action m =
       let at = at-Member (kept_actions task) action m in

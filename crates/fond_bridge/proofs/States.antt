@@ -38,7 +38,7 @@ place_true (first ∷ atoms) (false ∷ values) zero atom at is = absurd (false�
 place_true (first ∷ atoms) (true ∷ values) (suc i) atom at is = inr (place_true atoms values i atom at is)
 place_true (first ∷ atoms) (false ∷ values) (suc i) atom at is = place_true atoms values i atom at is
 
--- the truth values that a function gives to atoms
+-- the truth value of an atom is what a function gives to it, if the truth values are those of the function
 truth-map : (test : Atom → Bool) (atoms : List Atom) (i : ℕ) (atom : Atom) → slice_get atoms i ≡ Some atom → truth_at (map test atoms) i ≡ test atom
 truth-map test [] i atom at = absurd (none-some atom at)
 truth-map test (first ∷ atoms) zero atom at = ap test (same_Some first atom at)
@@ -59,7 +59,7 @@ module _ (task : LiftedTask) (distinct : IsTrue (are_distinct_atoms (fluent_atom
       let one = Member-from_filter (λ (one : Atom). not (is_fluent task.predicates one.predicate)) task.init atom ((in_atoms_of (static_atoms task) atom).0 has) in
       (one.0, not-true _ one.1)
 
-  -- a numbered atom is in the state for which truth values stand if its value is true
+  -- a numbered atom is in the state for which truth values stand if and only if its value is true
   pub numbered_stands : (values : List Bool) (atom : Atom) (n : ℕ) → slice_get (fluent_atoms task) n ≡ Some atom → set.contains (stands task values) atom ≡ truth_at values n
   numbered_stands values atom n at = same_tests _ _
       (λ has. elim (or_cases _ _ (sym (in_stands values atom) ∙ has)) [
@@ -70,7 +70,7 @@ module _ (task : LiftedTask) (distinct : IsTrue (are_distinct_atoms (fluent_atom
       ])
       (λ is. in_stands values atom ∙ or_left _ _ ((in_atoms_of _ atom).1 (place_true (fluent_atoms task) values n atom at is)))
 
-  -- an atom without a number is in the state if it is an initial atom
+  -- an atom without a number is in the state if and only if it is an initial atom
   pub static_stands : (values : List Bool) (atom : Atom) → atom_number task atom ≡ None → set.contains (stands task values) atom ≡ set.contains (initial task) atom
   static_stands values atom none = same_tests _ _
       (λ has. elim (or_cases _ _ (sym (in_stands values atom) ∙ has)) [
@@ -84,7 +84,7 @@ module _ (task : LiftedTask) (distinct : IsTrue (are_distinct_atoms (fluent_atom
       in_stands values atom
       ∙ or_right _ _ ((in_atoms_of (static_atoms task) atom).1 (Member-filter (λ (one : Atom). not (is_fluent task.predicates one.predicate)) task.init atom m (not_from_false _ static))))
 
-  -- an atom whose predicate is not fluent is in the state if it is an initial atom
+  -- an atom whose predicate is not fluent is in the state if and only if it is an initial atom
   pub unfluent_stands : (values : List Bool) (atom : Atom) → is_fluent task.predicates atom.predicate ≡ false → set.contains (stands task values) atom ≡ set.contains (initial task) atom
   unfluent_stands values atom static = static_stands values atom (elim (some_or_none (atom_number task atom)) [
     | inl one ↦ absurd (both_ways _ static (fluent_has task atom (Member-at (fluent_atoms task) one.0 atom (atom-at task atom one.0 one.1))))
@@ -99,7 +99,7 @@ module _ (task : LiftedTask) (distinct : IsTrue (are_distinct_atoms (fluent_atom
     | inr none ↦ static_stands values atom none ∙ sym (static atom none)
   ])
 
-  -- the truth values of the state for which truth values stand are these
+  -- the state for which truth values stand has these truth values
   pub restrict_stands : (values : List Bool) → length values ≡ length (fluent_atoms task) → restrict task (stands task values) ≡ values
   restrict_stands values long = map-truth (set.contains (stands task values)) (fluent_atoms task) values long (λ n atom at. numbered_stands values atom n at)
 

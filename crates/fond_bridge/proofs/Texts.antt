@@ -22,7 +22,7 @@ use Rattle.fond_bridge.proofs.States.{numbered_stands}
 abbrev line : Labels → Bool → Atom → List ℕ
 line labels truth atom = if truth then atom_text labels atom ++ codes "\n" else []
 
--- the lines of atoms are the same if their truth is
+-- the lines of atoms are the same if their truth values are
 lines_alike : (labels : Labels) (values : List Bool) (state : State) (from : ℕ) (atoms : List Atom) → ((i : ℕ) (atom : Atom) → slice_get atoms i ≡ Some atom → truth_at values (from + i) ≡ set.contains state atom)
     → flat_map (λ item. line labels (truth_at values item.0) item.1) (enumerate_from from atoms) ≡ flat_map (λ atom. line labels (set.contains state atom) atom) atoms
 lines_alike labels values state from [] each = refl

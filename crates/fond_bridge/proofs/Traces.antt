@@ -72,7 +72,7 @@ module _ (task : LiftedTask) (game : Task) (is : IsGroundOf task game) (rules : 
     open_alike : ¬ ground.IsGoal game values → ¬ lifted.IsGoal task (stands task values)
     open_alike open_ is_goal = open_ (((plays task game is).goal values state).1 is_goal)
 
-    -- the choice of which the entries of an outcome make the change
+    -- each outcome of an act has a choice of the action that leads to the same state
     choice_at : (number : ℕ) (act : Act) (at : slice_get game.acts number ≡ Some act) (outcome : ℕ) (entries : List Entry) → slice_get act.outcomes outcome ≡ Some entries
         → (literals : List Literal) × (slice_get (choices_of number act at) outcome ≡ Some literals) × (stands task (next_state values entries) ≡ state_after (stands task values) literals)
     choice_at number act at outcome entries picked =
@@ -82,7 +82,7 @@ module _ (task : LiftedTask) (game : Task) (is : IsGroundOf task game) (rules : 
     next_long : (entries : List Entry) → IsState game (next_state values entries)
     next_long entries = length-by_index (λ atom value. adds values entries atom || (value && not (deletes values entries atom))) values ∙ state
 
-  -- both steps are written alike
+  -- a step is written alike in both games
   lines_alike : (rule number outcome : ℕ) (act : Act) → slice_get game.acts number ≡ Some act → steps.step_line game rule number outcome ≡ step_line task rule act.ground outcome
   lines_alike rule number outcome act at =
       ap (λ text. codes "rule " ++ decimal rule ++ codes " " ++ text ++ codes " outcome " ++ decimal outcome ++ codes "\n")

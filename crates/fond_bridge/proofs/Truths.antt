@@ -1,4 +1,5 @@
--- Ground conditions are true where the conditions for which they stand hold.
+-- A ground condition is true in a state if and only if the condition for which it stands holds in the state for which the state
+-- stands.
 use Rattle.std.proofs.Common.{◌≡◌, ℕ, zero, suc, ◌<◌, inl, inr, List, [], ◌∷◌, Bool, true, false, not, Some, length, refl, sym, ap, ◌∙◌, subst, arith}
 use Rattle.std.specs.Prelude.{IsTrue, if◌then◌else◌}
 use Rattle.std.specs.FinSet as set
@@ -47,7 +48,7 @@ literal_known : (truth : Bool) → literal_value (Some truth) true ≡ known tru
 literal_known true = refl
 literal_known false = refl
 
--- a form of which the value is known on the full cube has that truth
+-- if the value of a form on the full cube is known, it is the truth of the form
 known_truth : (values : List Bool) (form : Form) (truth : Bool) → value (full_cube values) form ≡ known truth → is_true values form ≡ truth
 known_truth values form truth is = told truth (let P : Kleene → Type 0 = λ v. Tells v (is_true values form) in subst P is (Tells-value values (full_cube values) (lies_in_full values) form))
   where
@@ -88,11 +89,11 @@ module _ (task : LiftedTask) (distinct : IsTrue (are_distinct_atoms (fluent_atom
     condition_known : (env : List ℕ) (condition : LCond) → condition_value (atom_value task (full_cube values)) env condition ≡ known (holds (stands task values) env condition)
     condition_known env condition = condition_fits IsKnown known_kept (atom_value task (full_cube values)) (stands task values) atom_known condition env
 
-    -- a form that stands for a condition is true where the condition holds
+    -- a form that stands for a condition is true if and only if the condition holds
     pub form_holds : (env : List ℕ) (condition : LCond) (form : Form) → StandsFor task env condition form → is_true values form ≡ holds (stands task values) env condition
     form_holds env condition form is = known_truth values form _ (is (full_cube values) ∙ condition_known env condition)
 
-    -- the condition of an entry is true where the literal for which it stands takes place
+    -- the condition of an entry is true if and only if the literal for which the entry stands takes place
     pub entry_holds : (literal : Literal) (entry : Entry) → IsEntryOf task literal entry → is_true values entry.cond ≡ takes_place (stands task values) literal
     entry_holds literal entry is = known_truth values entry.cond _ (is.valued (full_cube values) ∙ least_fits IsKnown known_kept (λ (guard : Guard). condition_value (atom_value task (full_cube values)) guard.env guard.condition) (λ (guard : Guard). holds (stands task values) guard.env guard.condition)
         (λ guard. condition_known guard.env guard.condition) literal.guards)

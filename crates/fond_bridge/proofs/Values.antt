@@ -1,4 +1,4 @@
--- The values of conditions and their truth in states.
+-- What the value of a condition tells of its truth, if the values of the atoms tell of theirs.
 use Rattle.std.proofs.Common.{◌≡◌, ℕ, List, [], ◌∷◌, ◌++◌, Bool, true, false, not, ◌&&◌, ◌||◌, map, refl, sym, ap, ◌∙◌, subst}
 use Rattle.std.specs.Prelude.{◌==◌, fold, if◌then◌else◌}
 use Rattle.std.specs.List.{list_all, list_any}
@@ -19,11 +19,11 @@ use Rattle.fond_task.specs.declared.form.Kleene.TheVariants.{No, Unknown, Yes}
 use Rattle.fond_task.specs.Values.{greater, greatest, least, lesser}
 use Rattle.fond_task.proofs.Tells.{Tells, Tells-lesser, Tells-greater, and_assoc, or_assoc, or_none}
 
--- the value of what is known to be true or false
+-- Yes for true, and No for false
 abbrev pub known : Bool → Kleene
 known truth = if truth then Yes else No
 
--- a relation of values and truths that the connectives keep
+-- the connectives keep a relation between values and truth values
 pub record IsKept (Fits : Kleene → Bool → Type 0) : Type 0 where
   pub sure : (truth : Bool) → Fits (known truth) truth
   pub at_lesser : (a b : Kleene) (x y : Bool) → Fits a x → Fits b y → Fits (lesser a b) (x && y)
@@ -50,7 +50,7 @@ known-opposite : (x : Bool) → opposite (known x) ≡ known (not x)
 known-opposite true = refl
 known-opposite false = refl
 
--- the connectives keep that a value is known
+-- the connectives keep that a value is Yes or No
 pub known_kept : IsKept IsKnown
 known_kept = record {
   sure = λ truth. refl;
@@ -89,7 +89,7 @@ module _ (Fits : Kleene → Bool → Type 0) (kept : IsKept Fits) where
     greatest_from [] a x fits = moved a x (x || false) (or_none x) fits
     greatest_from (one ∷ xs) a x fits = moved _ _ _ (or_assoc x (truth one) (list_any truth xs)) (greatest_from xs (greater a (value one)) (x || truth one) (kept.at_greater a (value one) x (truth one) fits (each one)))
 
-    -- the least of the values of some items fits that all are true, and the greatest that some is
+    -- the least of some values fits the truth of all items, and the greatest that of some item
     pub least_fits : (xs : List X) → Fits (least (map value xs)) (list_all truth xs)
     least_fits xs = least_from xs Yes true (kept.sure true)
 
@@ -103,7 +103,7 @@ module _ (Fits : Kleene → Bool → Type 0) (kept : IsKept Fits) where
     abbrev values : LCond → List ℕ → Kleene
     values = fold-LCond (List ℕ → Kleene) (condition_step known_of)
 
-    -- the value and the truth of a condition, by its layer
+    -- the value of a condition fits its truth if those of its layer do
     by_layer : (env : List ℕ) (condition : LCond) (layer : LCond-F LCond) → out-LCond condition ≡ layer
         → Fits (condition_step known_of (map-LCond LCond (List ℕ → Kleene) values layer) env) (holds_step state (map-LCond LCond (List ℕ → Bool) tests layer) env) → Fits (condition_value known_of env condition) (holds state env condition)
     by_layer env condition layer is fits =

@@ -1,5 +1,5 @@
-//! The laws between a task and its ground task: they play the same game, have the same solutions and write the same
-//! texts and traces. What a ground task is stands below (fond_ground), and so does what a solution is (fond_play).
+//! The laws between a task and its ground task: both play the same game, have the same solutions, and write the same
+//! texts and traces. fond_meaning says what a task means, and fond_ground which ground task it has.
 #![tactic(auto)]
 
 pub mod laws;
