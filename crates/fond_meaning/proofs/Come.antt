@@ -16,7 +16,7 @@ use Rattle.fond_meaning.proofs.Given.{given, gives}
 use Rattle.fond_meaning.proofs.Members.{Member, Member-from_Contains, Contains-from_Member, Member-map, Member-from_map}
 
 -- a test that all items pass is passed by the item at an index
-all-at : {X : Type 0} (test : X → Bool) (xs : List X) (i : ℕ) (x : X) → slice_get xs i ≡ Some x → list_all test xs ≡ true → test x ≡ true
+pub all-at : {X : Type 0} (test : X → Bool) (xs : List X) (i : ℕ) (x : X) → slice_get xs i ≡ Some x → list_all test xs ≡ true → test x ≡ true
 all-at test [] i x got all = cc
 all-at test (y ∷ xs) zero x got all = let same : y ≡ x = cc in ap test (sym same) ∙ (and-parts (test y) (list_all test xs) all).0
 all-at test (y ∷ xs) (suc i) x got all = all-at test xs i x got (and-parts (test y) (list_all test xs) all).1

@@ -1,14 +1,17 @@
 -- The names in an action word are those of the leaves of the tree that it is read as.
-use Rattle.std.proofs.Common.{◌≡◌, ℕ, ◌∙◌, ◌⊎◌, inl, inr, ◌&&◌, Bool, true, false, List, [], ◌∷◌, ◌++◌, Some, None, is_some, Option, append-nil, refl, sym, ap}
+use Rattle.std.proofs.Common.{◌≡◌, ℕ, ◌∙◌, ◌⊎◌, inl, inr, ◌&&◌, Bool, true, false, List, [], ◌∷◌, ◌++◌, Some, None, is_some, Option, append-nil, refl, sym, ap, subst, Result, IfOk, MatchOption}
 use Rattle.std.specs.List.{filter_map, flat_map, list_all}
 use Rattle.std.proofs.lemmas.Bool.{and_parts, false≢true}
 use Rattle.std.proofs.lemmas.List.Elements.{filter_map-append}
+use Rattle.fond_text.specs.declared.atom.GroundAction.{GroundAction}
+use Rattle.fond_text.specs.declared.fault.NoMemory.{NoMemory}
+use Rattle.fond_ast.specs.declared.task.LiftedTask.{LiftedTask}
 use Rattle.fond_tree.specs.declared.tree.Tree.{Tree}
 use Rattle.fond_tree.specs.Marks.{tokens}
 use Rattle.fond_tree.specs.Spelling.{IsReadAs, spelling}
 use Rattle.fond_tree.specs.Tokens.{Token, Opens, Closes, Names}
 use Rattle.fond_tree.specs.Trees.{leaf_of, members_of}
-use Rattle.fond_succ.specs.Actions.{is_leaf_node, leaf_names, name_of, names_in}
+use Rattle.fond_succ.specs.Actions.{AreNamesOf, NamesAction, NamesNone, is_leaf_node, leaf_names, name_of, names_in}
 use Rattle.fond_succ.proofs.ActionTrees.{IsLeafTree, IsNodeTree, cases_of}
 
 abbrev are_leaf_trees : List Tree → Bool
@@ -39,3 +42,10 @@ names_of_leaves word tree members read is all = ap (filter_map name_of) read.spe
 -- a node of leaves has members, which are all leaves
 pub leaves_of_node : (tree : Tree) (members : List Tree) → is_leaf_node tree ≡ true → members_of tree ≡ Some members → are_leaf_trees members ≡ true
 leaves_of_node tree members is some = let told = rw some at is in (and_parts _ _ told).1
+
+-- the action that the leaves name is that which the word names
+pub by_word : (task : LiftedTask) (word : List ℕ) (tree : Tree) (members : List Tree) → IsReadAs word tree → members_of tree ≡ Some members → are_leaf_trees members ≡ true → (found : Result (Option GroundAction) NoMemory)
+    → IfOk found (λ option. MatchOption option ((action : GroundAction) → ¬ AreNamesOf task (leaf_names members) action) (AreNamesOf task (leaf_names members)))
+    → IfOk found (λ option. MatchOption option (NamesNone task word) (NamesAction task word))
+by_word task word tree members read is all found has =
+    subst (λ (names : List (List ℕ)). IfOk found (λ option. MatchOption option ((action : GroundAction) → ¬ AreNamesOf task names action) (AreNamesOf task names))) (sym (names_of_leaves word tree members read is all)) has

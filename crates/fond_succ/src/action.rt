@@ -119,7 +119,7 @@ fn find_named(alloc: Global, task: &LiftedTask, leaves: &[Tree]) -> Result<Optio
     requires { IsTrue (list_all (λ tree. is_some (leaf_of tree)) leaves.now) }
     ensures { IfOk result (λ found. MatchOption found ((action : GroundAction) → ¬ AreNamesOf task.now (leaf_names leaves.now) action) (AreNamesOf task.now (leaf_names leaves.now))) }
 {
-    let [first, rest @ ..] = leaves else {
+    let Some((first, rest)) = leaves.split_first() else {
         return Ok(None);
     };
     let Some(schema) = find_schema(&task.schemas, name_in(first)) else {
