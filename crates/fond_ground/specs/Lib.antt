@@ -3,3 +3,4 @@ pub mod Values
 pub mod Grounds
 pub mod Faults
 pub mod Texts
+pub mod Places
