@@ -1,1 +1,6 @@
+pub mod Indexed
 pub mod Odometer
+pub mod Signs
+pub mod Withins
+pub mod Literals
+pub mod Counts

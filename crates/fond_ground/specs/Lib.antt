@@ -4,3 +4,4 @@ pub mod Grounds
 pub mod Faults
 pub mod Texts
 pub mod Places
+pub mod Signs

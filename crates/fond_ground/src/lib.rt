@@ -2,5 +2,9 @@
 //! that is too large is refused. That both are the same game is left to the crate above.
 #![tactic(auto)]
 
+mod atoms;
+mod forms;
 pub mod ground;
+mod junction;
+mod table;
 mod tuples;
