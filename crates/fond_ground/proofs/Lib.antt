@@ -4,3 +4,5 @@ pub mod Signs
 pub mod Withins
 pub mod Literals
 pub mod Counts
+pub mod Grounded
+pub mod Zips

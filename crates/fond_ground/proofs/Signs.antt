@@ -74,7 +74,7 @@ decided_stays true (v ∷ values) = decided_stays true values
 decided_stays false [] = refl
 decided_stays false (v ∷ values) = decided_stays false values
 
-map-map : {X Y Z : Type 0} (f : X → Y) (g : Y → Z) (xs : List X) → map g (map f xs) ≡ map (λ x. g (f x)) xs
+pub map-map : {X Y Z : Type 0} (f : X → Y) (g : Y → Z) (xs : List X) → map g (map f xs) ≡ map (λ x. g (f x)) xs
 map-map f g [] = refl
 map-map f g (x ∷ xs) = ap (λ rest. g (f x) ∷ rest) (map-map f g xs)
 

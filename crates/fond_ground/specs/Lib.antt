@@ -5,3 +5,4 @@ pub mod Faults
 pub mod Texts
 pub mod Places
 pub mod Signs
+pub mod Effects

@@ -3,6 +3,7 @@
 #![tactic(auto)]
 
 mod atoms;
+mod effects;
 mod forms;
 pub mod ground;
 mod junction;
