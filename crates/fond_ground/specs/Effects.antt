@@ -25,10 +25,14 @@ numbered_step task (Forall ranges part) env = list_all (λ objects. part.value (
 numbered_step task (When condition part) env = part.value env
 numbered_step task (OneOf parts) env = not (length parts.items == 0) && list_all (λ part. part env) parts.items
 
--- whether the atom of each literal of an effect is a fluent atom, and each choice has a member, where these are the objects
--- of the variables around the effect
+-- whether the atom of each literal of an effect is a fluent atom, and each choice has a member, by the objects of the
+-- variables around the effect
+abbrev pub numbered_by : LiftedTask → LEffect → List ℕ → Bool
+numbered_by task = fold-LEffect (List ℕ → Bool) (numbered_step task)
+
+-- the same, where these are the objects of the variables around the effect
 abbrev pub is_numbered : LiftedTask → List ℕ → LEffect → Bool
-is_numbered task env effect = fold-LEffect (List ℕ → Bool) (numbered_step task) effect env
+is_numbered task env effect = numbered_by task effect env
 
 -- a literal over the numbers of atoms stands for a literal of an outcome: it has the number of its atom, and its sign, and
 -- on every cube the least of the values of its conditions is that of the literal's conditions

@@ -3,7 +3,7 @@
 
 ghost use Rattle.fond_ast.specs.Ranges.{objects_of};
 ghost use Rattle.fond_ground.specs.Atoms.{atom_number};
-ghost use Rattle.fond_ground.specs.Effects.{is_numbered, HasOutcomes, HaveOutcomes};
+ghost use Rattle.fond_ground.specs.Effects.{is_numbered, numbered_by, HasOutcomes, HaveOutcomes};
 ghost use Rattle.fond_meaning.specs.Conditions.{ground_atom, tuples};
 ghost use Rattle.fond_meaning.specs.Outcomes.{alone, outcomes};
 ghost use Rattle.fond_task.specs.Values.{value};
@@ -92,7 +92,7 @@ fn ground_members(
     members: &[LEffect],
     env: &mut Vec<u32>,
 ) -> Result<GroundEffects, NoMemory>
-    requires numbered { list_all (is_numbered table.now.facts.task.now env.old.items) members.now ≡ true }
+    requires numbered { list_all (λ member. member env.old.items) (map (numbered_by table.now.facts.task.now) members.now) ≡ true }
     ensures effects { IfOk result (λ effects. HaveOutcomes table.now.facts.task.now (map (outcomes env.old.items) members.now) effects.items) }
     ensures env { OnOk result (env.new.items ≡ env.old.items) }
 {

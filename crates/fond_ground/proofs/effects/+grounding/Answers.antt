@@ -33,21 +33,6 @@ ground_effect-ground_literal-requires-in-Delete t c =
     ap (λ objects. is_some (atom_number task (ground_atom objects c.in-Delete.atom))) c.deref-in-Delete.ensures.value
     ∙ sym (numbered-Delete task env c.in-Delete.atom) ∙ ap (is_numbered task env) (sym c.in-Delete.is) ∙ c.requires.numbered
 
-pub ground_effect-ground_members-requires : goal.ground_effect-ground_members-requires
-ground_effect-ground_members-requires t c =
-    let task = c.args.table.now.facts.task.now in
-    let env = c.args.env.now.items in
-    let fact = ap (list_all (is_numbered task env)) c.deref-in-And.ensures.value ∙ sym (numbered-And task env c.in-And.members) ∙ ap (is_numbered task env) (sym c.in-And.is) ∙ c.requires.numbered in
-    (search rules, fact)
-
-pub ground_effect-ground_members-requires-in-OneOf : goal.ground_effect-ground_members-requires-in-OneOf
-ground_effect-ground_members-requires-in-OneOf t c =
-    let task = c.args.table.now.facts.task.now in
-    let env = c.args.env.now.items in
-    let whole = sym (numbered-OneOf task env c.in-OneOf.members) ∙ ap (is_numbered task env) (sym c.in-OneOf.is) ∙ c.requires.numbered in
-    let fact = ap (list_all (is_numbered task env)) c.deref-in-OneOf.ensures.value ∙ (and-parts (not (length c.in-OneOf.members.items == 0)) (list_all (is_numbered task env) c.in-OneOf.members.items) whole).1 in
-    (search rules, fact)
-
 pub ground_effect-returns-in_ok-parts-in-And-clause-effect : goal.ground_effect-returns-in_ok-parts-in-And-clause-effect
 ground_effect-returns-in_ok-parts-in-And-clause-effect t c =
     let task = c.args.table.now.facts.task.now in

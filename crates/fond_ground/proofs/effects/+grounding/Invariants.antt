@@ -4,14 +4,14 @@ use Rattle.fond_ast.specs.Ranges.{objects_of}
 use Rattle.fond_meaning.specs.Conditions.{tuples}
 use Rattle.fond_meaning.specs.Outcomes.{outcomes}
 use Rattle.fond_oneof.specs.declared.effect.GroundEffect.{GroundEffect}
-use Rattle.fond_ground.specs.Effects.{is_numbered, HaveOutcomes}
+use Rattle.fond_ground.specs.Effects.{is_numbered, numbered_by, HaveOutcomes}
 use Rattle.fond_ground.proofs.effects.+grounding.Given as goal
 
 -- the effects so far, with those of what is left, are the whole
 abbrev pub invariant-ground_members-loop-member : goal.invariant-ground_members-loop-member
 invariant-ground_members-loop-member l = record {
   env : l.env.items ≡ l.initial.env.items;
-  numbered : list_all (is_numbered l.table.facts.task.now l.initial.env.items) (drop l.member-index l.members) ≡ true;
+  numbered : list_all (λ member. member l.initial.env.items) (map (numbered_by l.table.facts.task.now) (drop l.member-index l.members)) ≡ true;
   effects : (rest : List GroundEffect) → HaveOutcomes l.table.facts.task.now (map (outcomes l.initial.env.items) (drop l.member-index l.members)) rest
       → HaveOutcomes l.table.facts.task.now (map (outcomes l.initial.env.items) l.members) (l.effects.items ++ rest);
 }
