@@ -67,3 +67,13 @@ count_more most predicates i predicate count here next whole at is grown before 
     ap (λ n. min (n + length rest) most) grown
     ∙ counted most count (length (tuples (objects_of predicate.ranges))) (length rest) here predicate.fluent (atoms_over i predicate.ranges) is (length-map (tuples (objects_of predicate.ranges)) (λ objects. record { predicate = i; objects = objects }))
     ∙ ap (λ n. min (count + n) most) (sym (ap length (atoms_next predicates i predicate at) ∙ length-append (if predicate.fluent then atoms_over i predicate.ranges else []) rest)) ∙ before
+
+-- one more item that is mapped
+pub mapped_more : {X Y : Type 0} (f : X → Y) (xs : List X) (i : ℕ) (x : X) (made next whole : List Y) → slice_get xs i ≡ Some x → next ≡ made ++ f x ∷ [] → made ++ map f (drop i xs) ≡ whole → next ++ map f (drop (i + 1) xs) ≡ whole
+mapped_more f xs i x made next whole at is before =
+    ap (λ list. list ++ map f (drop (i + 1) xs)) is ∙ append_assoc made (f x ∷ []) (map f (drop (i + 1) xs)) ∙ ap (λ list. made ++ map f list) (sym (drop_item xs i x at)) ∙ before
+
+-- one more item
+pub items_more : {X : Type 0} (xs : List X) (i : ℕ) (x : X) (made next whole : List X) → slice_get xs i ≡ Some x → next ≡ made ++ x ∷ [] → made ++ drop i xs ≡ whole → next ++ drop (i + 1) xs ≡ whole
+items_more xs i x made next whole at is before =
+    ap (λ list. list ++ drop (i + 1) xs) is ∙ append_assoc made (x ∷ []) (drop (i + 1) xs) ∙ ap (λ list. made ++ list) (sym (drop_item xs i x at)) ∙ before

@@ -23,3 +23,6 @@ same_position f g (x ∷ xs) i same = ap (λ b. cond b (Some i) (position_from f
 pub first-same : (atoms : List Atom) (atom : Atom) → position (λ other. bytes_eq (atom_numbers other) (atom_numbers atom)) atoms ≡ position (is_same_atom atom) atoms
 first-same atoms atom =
     position_from-zero _ atoms ∙ same_position _ _ atoms 0 (λ other. sym (same-atom atom other)) ∙ sym (position_from-zero (is_same_atom atom) atoms)
+
+pub same-itself : (atom : Atom) → is_same_atom atom atom ≡ true
+same-itself atom = same-atom atom atom ∙ (bytes_decides (atom_numbers atom) (atom_numbers atom)).1 refl

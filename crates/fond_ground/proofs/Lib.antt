@@ -6,3 +6,8 @@ pub mod Literals
 pub mod Counts
 pub mod Grounded
 pub mod Zips
+pub mod Kept
+pub mod Actions
+pub mod Numbered
+pub mod Distincts
+pub mod Refusals

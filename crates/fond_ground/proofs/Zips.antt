@@ -49,3 +49,11 @@ zip-length R [] [] h = refl
 zip-length R [] (b ∷ ys) h = absurd h
 zip-length R (a ∷ xs) [] h = absurd h
 zip-length R (a ∷ xs) (b ∷ ys) h = ap (λ n. suc n) (zip-length R xs ys h.1)
+
+pub zip-trans : {A B C : Type 0} (R : A → B → Type 0) (S : B → C → Type 0) (T : A → C → Type 0) → ((a : A) (b : B) (c : C) → R a b → S b c → T a c) → (xs : List A) (ys : List B) (zs : List C) → AllZip R xs ys → AllZip S ys zs → AllZip T xs zs
+zip-trans R S T step [] [] [] h k = tt
+zip-trans R S T step [] [] (z ∷ zs) h k = absurd k
+zip-trans R S T step [] (y ∷ ys) zs h k = absurd h
+zip-trans R S T step (x ∷ xs) [] zs h k = absurd h
+zip-trans R S T step (x ∷ xs) (y ∷ ys) [] h k = absurd k
+zip-trans R S T step (x ∷ xs) (y ∷ ys) (z ∷ zs) h k = (step x y z h.0 k.0, zip-trans R S T step xs ys zs h.1 k.1)

@@ -6,3 +6,4 @@ pub mod Texts
 pub mod Places
 pub mod Signs
 pub mod Effects
+pub mod Limits

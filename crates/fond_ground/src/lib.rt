@@ -2,6 +2,7 @@
 //! that is too large is refused. That both are the same game is left to the crate above.
 #![tactic(auto)]
 
+mod acts;
 mod atoms;
 mod effects;
 mod forms;
