@@ -1,19 +1,17 @@
 -- What a search leaves out, and what it keeps.
-use Rattle.std.proofs.Common.{◌≡◌, ◌≤◌, ◌<◌, inl, inr, ℕ, zero, suc, ◌+◌, ◌&&◌, Bool, true, false, not, List, [], ◌∷◌, ◌++◌, Option, Some, None, map, length, refl, sym, ap, subst, ◌∙◌, true≢false, drop, get_or, replicate, set, arith}
-use Rattle.std.specs.Prelude.{filter, is_some, unwrap_or, slice_get, if◌then◌else◌, IsTrue}
+use Rattle.std.proofs.Common.{◌≡◌, ◌<◌, inl, inr, ℕ, zero, suc, ◌+◌, Bool, true, false, not, List, [], ◌∷◌, ◌++◌, Option, Some, None, map, length, refl, sym, ap, subst, ◌∙◌, true≢false, drop, get_or, set}
+use Rattle.std.specs.Prelude.{filter, is_some, slice_get, if◌then◌else◌, IsTrue}
 use Rattle.std.specs.List.{flat_map, list_all}
 use Rattle.std.specs.declared.alloc.Global.{Global}
 use Rattle.std.specs.declared.rc.Rc.{Rc}
-use Rattle.std.proofs.lemmas.List.{map-append, append_assoc, append-nil}
+use Rattle.std.proofs.lemmas.List.{map-append, append_assoc}
 use Rattle.fond_ast.specs.Ranges.{RangeList, objects_of}
 use Rattle.fond_ast.specs.declared.task.LSchema.{LSchema}
 use Rattle.fond_ast.specs.declared.task.LiftedTask.{LiftedTask}
-use Rattle.fond_meaning.specs.Conditions.{tuples}
 use Rattle.fond_task.specs.declared.form.Kleene.{Kleene}
-use Rattle.fond_task.specs.declared.form.Kleene.TheVariants.{No, Unknown, Yes}
 use Rattle.fond_join.specs.Kept.{is_kept, is_no, open_value}
 use Rattle.fond_join.specs.Partial.{partial_value}
-use Rattle.fond_join.specs.Search.{arguments, completions, IsOrder, kept_completions, Searched}
+use Rattle.fond_join.specs.Search.{arguments, completions, IsOrder, kept_completions}
 use Rattle.fond_join.specs.Values.{condition_value}
 use Rattle.fond_join.proofs.Items.{drop_item}
 use Rattle.fond_join.proofs.Sound.{Agree, Tells, TellsObject, told}

@@ -73,11 +73,11 @@ fold_flat some of parts a (x ∷ xs) =
     ∙ ap (λ v. fold (joined some) v (map of (flat_map parts xs))) (fold_all some a (map of (parts x)))
     ∙ fold_flat some of parts (joined some a (joined_all some (map of (parts x)))) xs
 
-map_map : {X Y Z : Type 0} (f : Y → Z) (g : X → Y) (xs : List X) → map f (map g xs) ≡ map (λ x. f (g x)) xs
+pub map_map : {X Y Z : Type 0} (f : Y → Z) (g : X → Y) (xs : List X) → map f (map g xs) ≡ map (λ x. f (g x)) xs
 map_map f g [] = refl
 map_map f g (x ∷ xs) = ap (λ rest. f (g x) ∷ rest) (map_map f g xs)
 
-map_same : {X Y : Type 0} (f g : X → Y) → ((x : X) → f x ≡ g x) → (xs : List X) → map f xs ≡ map g xs
+pub map_same : {X Y : Type 0} (f g : X → Y) → ((x : X) → f x ≡ g x) → (xs : List X) → map f xs ≡ map g xs
 map_same f g same [] = refl
 map_same f g same (x ∷ xs) = λ i. same x i ∷ map_same f g same xs i
 
@@ -90,12 +90,12 @@ module _ (task : LiftedTask) (env : List (Option ℕ)) (part : LCond) (some : Bo
   pub over_first : (range : List ℕ) (ranges : List (List ℕ)) →
       joined_all some (map (over_rest ranges) range) ≡ joined_all some (map (λ objects. partial_value task (env ++ map Some objects) part) (tuples (range ∷ ranges)))
   over_first range ranges = sym (
-    fold_flat some (λ (objects : List ℕ). partial_value task (env ++ map Some objects) part) (λ object. map (λ objects. object ∷ objects) (tuples ranges)) (joined_none some) range
-    ∙ ap (joined_all some) (map_same _ (over_rest ranges) (λ object. ap (joined_all some) (
+      fold_flat some (λ (objects : List ℕ). partial_value task (env ++ map Some objects) part) (λ object. map (λ objects. object ∷ objects) (tuples ranges)) (joined_none some) range
+      ∙ ap (joined_all some) (map_same _ (over_rest ranges) (λ object. ap (joined_all some) (
       map_map (λ (objects : List ℕ). partial_value task (env ++ map Some objects) part) (λ objects. object ∷ objects) (tuples ranges)
       ∙ map_same _ _ (λ objects. ap (λ around. partial_value task around part) (sym (append_assoc env (Some object ∷ []) (map Some objects)))) (tuples ranges)
-    )) range)
-  )
+      )) range)
+      )
 
 -- one more value is joined
 pub joined_next : {X : Type 0} (some : Bool) (of : X → Kleene) (a : Kleene) (xs : List X) (i : ℕ) (x : X) → i < length xs → x ≡ get_or xs i x →

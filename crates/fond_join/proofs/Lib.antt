@@ -1,4 +1,6 @@
 pub mod Completed
+pub mod Declared
+pub mod Found
 pub mod Items
 pub mod Joined
 pub mod Sound

@@ -1,5 +1,5 @@
 -- A value under some objects is the value under all objects, or Unknown.
-use Rattle.std.proofs.Common.{◌≡◌, ◌⊎◌, inl, inr, ℕ, zero, suc, Bool, true, false, List, [], ◌∷◌, ◌++◌, Option, Some, None, map, refl, sym, ap, subst, ◌∙◌, true≢false}
+use Rattle.std.proofs.Common.{◌≡◌, ◌⊎◌, inl, inr, ℕ, zero, suc, Bool, true, false, List, [], ◌∷◌, ◌++◌, Option, Some, None, map, refl, ap, subst}
 use Rattle.std.specs.Prelude.{◌==◌, fold, option_map, slice_index_or, if◌then◌else◌}
 use Rattle.fond_ast.specs.Ranges.{objects_of}
 use Rattle.fond_ast.specs.Within.{is_fluent}
@@ -15,7 +15,7 @@ use Rattle.fond_task.specs.declared.form.Kleene.{Kleene}
 use Rattle.fond_task.specs.declared.form.Kleene.TheVariants.{No, Unknown, Yes}
 use Rattle.fond_task.specs.Values.{greater, lesser}
 use Rattle.fond_join.specs.Kept.{open_value, static_value}
-use Rattle.fond_join.specs.Partial.{all_known, joined, joined_all, known_object, partial_atom, partial_equal, partial_step, partial_value, static_if_known}
+use Rattle.fond_join.specs.Partial.{all_known, joined, known_object, partial_atom, partial_equal, partial_step, partial_value, static_if_known}
 use Rattle.fond_join.specs.Values.{condition_step, condition_value, opposite}
 
 -- a value is another, or it is Unknown and not all objects are known

@@ -8,7 +8,7 @@ ghost use Rattle.std.specs.Prelude.{◌≡◌, ◌≤◌, [], ◌∷◌, length,
 
 use crate::facts::Facts;
 use crate::matching::ArgsList;
-use crate::value::{value, Scope};
+use crate::value::{Scope, value};
 use fond_ast::form::LCond;
 use fond_ast::task::LSchema;
 use fond_task::form::Kleene;
@@ -38,12 +38,7 @@ fn arguments(alloc: Global, env: &[Option<u32>]) -> Result<Objects, NoMemory>
 }
 
 /// Adds the objects of the parameters to those found, and returns whether there were not too many.
-fn keep(
-    alloc: Global,
-    scope: &Scope,
-    most: usize,
-    found: &mut ArgsList,
-) -> Result<bool, NoMemory>
+fn keep(alloc: Global, scope: &Scope, most: usize, found: &mut ArgsList) -> Result<bool, NoMemory>
     requires { length found.old ≤ most }
     ensures { IfOk result (Searched most found.old (arguments scope.now.env.items ∷ []) found.new) }
 {

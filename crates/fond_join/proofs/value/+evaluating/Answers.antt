@@ -1,4 +1,4 @@
-use Rattle.std.proofs.Common.{◌≡◌, ◌+◌, ◌-◌, ◌<◌, ◌≤◌, ◌++◌, ◌∷◌, [], Some, length, map, take, drop, get_or, refl, sym, ap, subst, ◌∙◌, IfOk, true, false, vec_len, arith}
+use Rattle.std.proofs.Common.{◌≡◌, ◌+◌, ◌-◌, ◌++◌, ◌∷◌, [], Some, length, map, take, drop, get_or, refl, sym, ap, subst, ◌∙◌, IfOk, true, false, vec_len, arith}
 use Rattle.std.proofs.lemmas.Grind.{common_steps}
 use Rattle.std.specs.Prelude.{fold}
 use Rattle.std.proofs.lemmas.List.{get_or_default}
@@ -141,15 +141,19 @@ value-value-requires-in-Imply-2 t c =
     (let heavy = ap weight c.in-Imply.is ∙ weight-Imply c.in-Imply.part c.in-Imply.other in let other = ap weight c.deref-in-Imply-2.ensures in omega arith, tt)
 
 pub value-range_value-requires : goal.value-range_value-requires
-value-range_value-requires t c =
-    (let heavy = ap weight c.in-Forall.is ∙ weight-Forall c.in-Forall.ranges c.in-Forall.part in
-    let part = ap weight c.deref-in-Forall.ensures in
-    let long = ap length c.as_slice.ensures in
-    omega arith, tt)
+value-range_value-requires t c = (
+  let heavy = ap weight c.in-Forall.is ∙ weight-Forall c.in-Forall.ranges c.in-Forall.part in
+      let part = ap weight c.deref-in-Forall.ensures in
+      let long = ap length c.as_slice.ensures in
+      omega arith,
+  tt,
+)
 
 pub value-range_value-requires-in-Exists : goal.value-range_value-requires-in-Exists
-value-range_value-requires-in-Exists t c =
-    (let heavy = ap weight c.in-Exists.is ∙ weight-Exists c.in-Exists.ranges c.in-Exists.part in
-    let part = ap weight c.deref-in-Exists.ensures in
-    let long = ap length c.as_slice-in-Exists.ensures in
-    omega arith, tt)
+value-range_value-requires-in-Exists t c = (
+  let heavy = ap weight c.in-Exists.is ∙ weight-Exists c.in-Exists.ranges c.in-Exists.part in
+      let part = ap weight c.deref-in-Exists.ensures in
+      let long = ap length c.as_slice-in-Exists.ensures in
+      omega arith,
+  tt,
+)
