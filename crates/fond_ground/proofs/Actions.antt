@@ -1,24 +1,20 @@
 -- Ground actions, their outcomes, and lists of them.
-use Rattle.std.proofs.Common.{◌≡◌, ℕ, zero, suc, ◌+◌, ◌<◌, ◌≤◌, ◌∙◌, ◌&&◌, nat_le, nat_lt, Bool, true, false, List, [], ◌∷◌, ◌++◌, Option, Some, None, Result, Ok, Err, IfErr, IsErrAnd, length, get_or, slice_get, take, drop, map, refl, sym, ap, subst, arith}
+use Rattle.std.proofs.Common.{◌≡◌, ℕ, zero, suc, ◌+◌, ◌<◌, ◌≤◌, ◌∙◌, ◌&&◌, nat_le, nat_lt, Bool, true, false, List, [], ◌∷◌, ◌++◌, Some, Result, Ok, Err, IfErr, IsErrAnd, length, get_or, slice_get, take, map, refl, sym, ap, subst, arith}
 use Rattle.std.specs.List.{AllZip, list_all}
 use Rattle.std.proofs.lemmas.Bool.Decides.{nat_tests}
-use Rattle.std.proofs.lemmas.List.{append_assoc}
 use Rattle.std.proofs.lemmas.List.Folds.{list_all-append}
 use Rattle.fond_text.specs.Faults.{Refuses}
 use Rattle.fond_text.specs.declared.fault.Fault.{Fault}
 use Rattle.fond_text.specs.declared.fault.FrontError.{FrontError}
 use Rattle.fond_text.specs.declared.fault.FrontError.TheVariants.{Refused, NoMemory}
 use Rattle.fond_ast.specs.declared.task.LiftedTask.{LiftedTask}
-use Rattle.fond_join.specs.Values.{condition_value}
 use Rattle.fond_meaning.specs.Outcomes.{Literal}
 use Rattle.fond_meaning.proofs.Bools.{and-both, and-parts}
 use Rattle.fond_oneof.specs.Outcomes as ground
 use Rattle.fond_oneof.specs.declared.effect.GroundEffect.{GroundEffect}
-use Rattle.fond_task.specs.Values.{least, value}
 use Rattle.fond_task.specs.declared.task.Entry.{Entry}
 use Rattle.fond_ground.specs.Effects.{HasOutcomes, StandsForLiteral}
 use Rattle.fond_ground.specs.Grounds.{AreOutcomesOf, IsEntryOf}
-use Rattle.fond_ground.specs.Values.{atom_value}
 use Rattle.fond_ground.proofs.Zips.{zip-trans, zip-length}
 
 entry_stands : (task : LiftedTask) (literal : Literal) (number : ground.Literal) (entry : Entry) → StandsForLiteral task literal number → ground.IsEntryOf number entry → IsEntryOf task literal entry

@@ -1,5 +1,5 @@
 -- Lists of objects, atoms and actions without repetition.
-use Rattle.std.proofs.Common.{◌≡◌, inl, inr, ◌⊎◌, ℕ, ◌+◌, ◌<◌, ◌≤◌, ◌∙◌, ◌&&◌, nat_lt, Bool, true, false, not, List, [], ◌∷◌, ◌++◌, length, map, filter, cond, refl, sym, ap, subst, arith}
+use Rattle.std.proofs.Common.{◌≡◌, inl, inr, ℕ, ◌+◌, ◌<◌, ◌≤◌, ◌∙◌, ◌&&◌, nat_lt, Bool, true, false, not, List, [], ◌∷◌, ◌++◌, length, map, filter, cond, refl, sym, ap, subst, arith}
 use Rattle.std.specs.Prelude.{if◌then◌else◌}
 use Rattle.std.specs.List.{AllZip, enumerate_from, flat_map, list_all, list_any}
 use Rattle.std.specs.Str.{bytes_eq}
@@ -8,7 +8,7 @@ use Rattle.std.proofs.lemmas.Bool.Decides.{nat_tests}
 use Rattle.fond_text.specs.Lists.{are_distinct_texts}
 use Rattle.fond_text.specs.declared.atom.Atom.{Atom}
 use Rattle.fond_text.specs.declared.atom.GroundAction.{GroundAction}
-use Rattle.fond_ast.specs.Ranges.{RangeList, objects_of, is_rising}
+use Rattle.fond_ast.specs.Ranges.{objects_of, is_rising}
 use Rattle.fond_ast.specs.Within.{are_ranges_within, is_schema_within, is_condition_within, is_effect_within}
 use Rattle.fond_ast.specs.declared.task.LPredicate.{LPredicate}
 use Rattle.fond_ast.specs.declared.task.LSchema.{LSchema}
@@ -54,9 +54,9 @@ distinct-flat f key name keyed [] h each = tt
 distinct-flat f key name keyed (x ∷ xs) h each =
     distinct-append (f x) (flat_map f xs) (each x (inl refl)) (distinct-flat f key name keyed xs h.1 (λ y m. each y (inr m)))
     (λ y left right.
-      let other = Member-from_flat_map f xs y right in
-      let same : name x ≡ name other.0 = sym (keyed x y left) ∙ keyed other.0 y other.2 in
-      h.0 (subst (Member (map name xs)) (sym same) (Member-map name xs other.0 other.1)))
+    let other = Member-from_flat_map f xs y right in
+    let same : name x ≡ name other.0 = sym (keyed x y left) ∙ keyed other.0 y other.2 in
+    h.0 (subst (Member (map name xs)) (sym same) (Member-map name xs other.0 other.1)))
 
 distinct-filter : {X : Type 0} (keep : X → Bool) (xs : List X) → Distinct xs → Distinct (filter keep xs)
 distinct-filter keep [] h = tt
@@ -70,6 +70,7 @@ distinct-filter keep (x ∷ xs) h = by (keep x) (distinct-filter keep xs h.1)
         inner true (inl e) rest = inl e
         inner true (inr m) rest = inr (rest m)
         inner false m rest = inr (rest m)
+
     by : (b : Bool) → Distinct (filter keep xs) → Distinct (cond b (x ∷ filter keep xs) (filter keep xs))
     by true rest = (λ m. h.0 (kept xs x m), rest)
     by false rest = rest
@@ -142,10 +143,10 @@ pub atoms-distinct : (task : LiftedTask) → are_distinct_atoms (fluent_atoms ta
 atoms-distinct task =
     let count = length task.objects in
     let one = distinct-flat (λ (item : ℕ × LPredicate). if item.1.fluent then atoms_over item.0 item.1.ranges else []) (λ (atom : Atom). atom.predicate) (λ item. item.0) (λ item atom m. over_fluent item.0 item.1 item.1.fluent atom m)
-        (enumerate_from 0 task.predicates) (numbers-distinct task.predicates 0)
-        (λ item m. distinct-if item.1.fluent (atoms_over item.0 item.1.ranges)
-          (distinct-map (λ objects. record { predicate = item.0; objects = objects }) (λ x y e. ap (λ (atom : Atom). atom.objects) e) (tuples (objects_of item.1.ranges))
-            (tuples-distinct count (objects_of item.1.ranges) (item-passes (λ predicate. are_ranges_within count predicate.ranges) task.predicates 0 item task.predicates_within m)))) in
+    (enumerate_from 0 task.predicates) (numbers-distinct task.predicates 0)
+    (λ item m. distinct-if item.1.fluent (atoms_over item.0 item.1.ranges)
+    (distinct-map (λ objects. record { predicate = item.0; objects = objects }) (λ x y e. ap (λ (atom : Atom). atom.objects) e) (tuples (objects_of item.1.ranges))
+    (tuples-distinct count (objects_of item.1.ranges) (item-passes (λ predicate. are_ranges_within count predicate.ranges) task.predicates 0 item task.predicates_within m)))) in
     texts-distinct (map atom_numbers (fluent_atoms task))
     (distinct-map atom_numbers (λ x y e. let p : x.predicate ≡ y.predicate = cc in let o : x.objects ≡ y.objects = cc in λ i. record { predicate = p i; objects = o i }) (fluent_atoms task) one)
 
@@ -153,14 +154,14 @@ actions-distinct : (task : LiftedTask) → Distinct (map action_numbers (kept_ac
 actions-distinct task =
     let count = length task.objects in
     let one = distinct-flat (λ (item : ℕ × LSchema). map (λ objects. record { schema = item.0; objects = objects }) (kept_args task item.1)) (λ (action : GroundAction). action.schema) (λ item. item.0)
-        (λ item action m. let other = Member-from_map (λ objects. record { schema = item.0; objects = objects }) (kept_args task item.1) action m in ap (λ (one : GroundAction). one.schema) other.2)
-        (enumerate_from 0 task.schemas) (numbers-distinct task.schemas 0)
-        (λ item m. distinct-map (λ objects. record { schema = item.0; objects = objects }) (λ x y e. ap (λ (action : GroundAction). action.objects) e) (kept_args task item.1)
-          (distinct-filter (is_kept task item.1) (tuples (objects_of item.1.ranges))
-            (tuples-distinct count (objects_of item.1.ranges)
-              (and-parts (are_ranges_within count item.1.ranges) _
-                (and-parts (are_ranges_within count item.1.ranges && is_condition_within count task.predicates item.1.pre (objects_of item.1.ranges)) (is_effect_within count task.predicates item.1.effect (objects_of item.1.ranges))
-                  (item-passes (is_schema_within count task.predicates) task.schemas 0 item task.schemas_within m)).0).0))) in
+    (λ item action m. let other = Member-from_map (λ objects. record { schema = item.0; objects = objects }) (kept_args task item.1) action m in ap (λ (one : GroundAction). one.schema) other.2)
+    (enumerate_from 0 task.schemas) (numbers-distinct task.schemas 0)
+    (λ item m. distinct-map (λ objects. record { schema = item.0; objects = objects }) (λ x y e. ap (λ (action : GroundAction). action.objects) e) (kept_args task item.1)
+    (distinct-filter (is_kept task item.1) (tuples (objects_of item.1.ranges))
+    (tuples-distinct count (objects_of item.1.ranges)
+    (and-parts (are_ranges_within count item.1.ranges) _
+    (and-parts (are_ranges_within count item.1.ranges && is_condition_within count task.predicates item.1.pre (objects_of item.1.ranges)) (is_effect_within count task.predicates item.1.effect (objects_of item.1.ranges))
+    (item-passes (is_schema_within count task.predicates) task.schemas 0 item task.schemas_within m)).0).0))) in
     distinct-map action_numbers (λ x y e. let s : x.schema ≡ y.schema = cc in let o : x.objects ≡ y.objects = cc in λ i. record { schema = s i; objects = o i }) (kept_actions task) one
 
 named : (task : LiftedTask) (actions : List GroundAction) (acts : List Act) → AllZip (IsActOf task) actions acts → map action_numbers actions ≡ map (λ act. action_numbers act.ground) acts

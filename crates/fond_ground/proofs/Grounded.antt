@@ -5,7 +5,6 @@ use Rattle.std.specs.List.{AllZip, flat_map, fold, list_all}
 use Rattle.std.proofs.lemmas.List.{length-map}
 use Rattle.std.proofs.lemmas.List.Folds.{list_all-map}
 use Rattle.fond_text.specs.Lists.{concatenations}
-use Rattle.fond_text.specs.declared.atom.Atom.{Atom}
 use Rattle.fond_ast.specs.Ranges.{RangeList, objects_of}
 use Rattle.fond_ast.specs.declared.form.LAtom.{LAtom}
 use Rattle.fond_ast.specs.declared.form.LCond.{LCond}
@@ -17,14 +16,14 @@ use Rattle.fond_ast.specs.declared.task.LiftedTask.{LiftedTask}
 use Rattle.fond_join.specs.Values.{condition_value}
 use Rattle.fond_meaning.specs.Conditions.{ground_atom, tuples}
 use Rattle.fond_meaning.specs.Outcomes.{Guard, Literal, guarded, outcomes, outcomes_step}
-use Rattle.fond_meaning.proofs.Bools.{and-both, and-parts}
+use Rattle.fond_meaning.proofs.Bools.{and-both}
 use Rattle.fond_oneof.specs.Outcomes as ground
 use Rattle.fond_oneof.specs.Within.{has_members, is_effect_over, members_step, over_step}
 use Rattle.fond_oneof.specs.declared.effect.GroundEffect.{GroundEffect}
 use Rattle.fond_oneof.specs.declared.effect.GroundEffect as made
 use Rattle.fond_oneof.specs.declared.effect.GroundEffect.TheOpen as open_ground
 use Rattle.fond_oneof.specs.declared.effect.GroundEffect.TheViews as rolls
-use Rattle.fond_oneof.specs.declared.effect.GroundEffect.TheFolds.{fold-GroundEffect, fold-roll-GroundEffect}
+use Rattle.fond_oneof.specs.declared.effect.GroundEffect.TheFolds.{fold-roll-GroundEffect}
 use Rattle.fond_task.specs.declared.form.Form.{Form}
 use Rattle.fond_task.specs.declared.form.Kleene.{Kleene}
 use Rattle.fond_task.specs.declared.form.Kleene.TheVariants.{No, Unknown, Yes}
@@ -155,7 +154,7 @@ module _ (task : LiftedTask) where
       outcomes = subst (AllZip (AllZip (StandsForLiteral task)) (map (map (guarded guard)) lists))
           (sym (ap ground.outcome_lists (sym (rolls.rolls-When form part)) ∙ fold-roll-GroundEffect (List (List ground.Literal)) ground.outcomes_step (open_ground.When form part)))
           (zip-map (AllZip (StandsForLiteral task)) (AllZip (StandsForLiteral task)) (map (guarded guard)) (map (ground.guarded form))
-            (λ list other. zip-map (StandsForLiteral task) (StandsForLiteral task) (guarded guard) (ground.guarded form) guarded_literal list other) lists (ground.outcome_lists part.value) has.outcomes);
+          (λ list other. zip-map (StandsForLiteral task) (StandsForLiteral task) (guarded guard) (ground.guarded form) guarded_literal list other) lists (ground.outcome_lists part.value) has.outcomes);
       members = ap has_members (sym (rolls.rolls-When form part)) ∙ fold-roll-GroundEffect Bool members_step (open_ground.When form part) ∙ has.members;
       over = ap (is_effect_over (length (fluent_atoms task))) (sym (rolls.rolls-When form part)) ∙ fold-roll-GroundEffect Bool (over_step (length (fluent_atoms task))) (open_ground.When form part) ∙ and-both _ _ within has.over;
     }
@@ -165,7 +164,7 @@ module _ (task : LiftedTask) where
     has-always lists part always has = record {
       outcomes = subst (AllZip (AllZip (StandsForLiteral task)) (map (map (guarded guard)) lists)) (same_lists (ground.outcome_lists part))
           (zip-map (AllZip (StandsForLiteral task)) (AllZip (StandsForLiteral task)) (map (guarded guard)) (map (λ number. number))
-            (λ list other. zip-map (StandsForLiteral task) (StandsForLiteral task) (guarded guard) (λ number. number) dropped list other) lists (ground.outcome_lists part) has.outcomes);
+          (λ list other. zip-map (StandsForLiteral task) (StandsForLiteral task) (guarded guard) (λ number. number) dropped list other) lists (ground.outcome_lists part) has.outcomes);
       members = has.members;
       over = has.over;
     }
@@ -173,9 +172,11 @@ module _ (task : LiftedTask) where
         same_list : {X : Type 0} (xs : List X) → map (λ x. x) xs ≡ xs
         same_list [] = refl
         same_list (x ∷ xs) = ap (λ rest. x ∷ rest) (same_list xs)
+
         same_lists : {X : Type 0} (xss : List (List X)) → map (map (λ x. x)) xss ≡ xss
         same_lists [] = refl
         same_lists (xs ∷ xss) = λ i. same_list xs i ∷ same_lists xss i
+
         dropped : (literal : Literal) (number : ground.Literal) → StandsForLiteral task literal number → StandsForLiteral task (guarded guard literal) number
         dropped literal number is = record {
           numbered = is.numbered;

@@ -1,5 +1,5 @@
 -- The kept actions of schemas, schema by schema.
-use Rattle.std.proofs.Common.{◌≡◌, ℕ, ◌+◌, ◌∙◌, List, ◌∷◌, ◌++◌, Some, length, slice_get, map, drop, ap, length-append}
+use Rattle.std.proofs.Common.{◌≡◌, ℕ, ◌+◌, ◌∙◌, List, ◌++◌, Some, length, slice_get, map, drop, ap, length-append}
 use Rattle.std.specs.List.{enumerate_from, flat_map}
 use Rattle.std.proofs.lemmas.List.{length-map}
 use Rattle.fond_text.specs.declared.atom.GroundAction.{GroundAction}

@@ -1,5 +1,5 @@
 -- Ground literals: fluent atoms have numbers, and static atoms are constants.
-use Rattle.std.proofs.Common.{◌≡◌, ℕ, ◌+◌, ◌-◌, ◌<◌, ◌∙◌, Bool, true, false, List, [], ◌∷◌, Option, Some, None, length, take, drop, refl, sym, ap, arith, nat_lt, position}
+use Rattle.std.proofs.Common.{◌≡◌, ℕ, ◌-◌, ◌<◌, ◌∙◌, Bool, true, false, List, ◌∷◌, Option, Some, None, length, take, drop, refl, sym, ap, arith, nat_lt}
 use Rattle.std.specs.Prelude.{if◌then◌else◌}
 use Rattle.std.specs.FinSet as set
 use mathlib.Core.Bool.{beq}
@@ -10,8 +10,7 @@ use Rattle.fond_text.specs.declared.atom.Atom.{Atom}
 use Rattle.fond_ast.specs.declared.task.LiftedTask.{LiftedTask}
 use Rattle.fond_join.specs.Kept.{static_value}
 use Rattle.fond_meaning.specs.Solutions.{initial}
-use Rattle.fond_task.specs.declared.form.Form.{Form, Truth, Lit}
-use Rattle.fond_task.specs.declared.form.Kleene.{Kleene}
+use Rattle.fond_task.specs.declared.form.Form.{Truth, Lit}
 use Rattle.fond_task.specs.declared.form.Kleene.TheVariants.{No, Yes}
 use Rattle.fond_task.specs.Values.{value}
 use Rattle.fond_task.specs.Within.{is_form_within}

@@ -1,21 +1,19 @@
 -- The atoms of the literals of effects are fluent atoms.
-use Rattle.std.proofs.Common.{◌≡◌, ◌⊎◌, inl, inr, ℕ, zero, suc, ◌+◌, ◌<◌, ◌∙◌, ◌&&◌, ◌||◌, nat_lt, Bool, true, false, not, List, [], ◌∷◌, ◌++◌, Vec, Box, Global, Option, Some, None, is_some, length, get_or, slice_get, map, filter, cond, position, refl, sym, ap, subst, arith}
-use Rattle.std.specs.Prelude.{◌==◌, if◌then◌else◌, IsTrue, Contains}
-use Rattle.std.specs.List.{enumerate_from, flat_map, list_all, list_any, position_from}
+use Rattle.std.proofs.Common.{◌≡◌, inl, inr, ℕ, zero, suc, ◌+◌, ◌∙◌, ◌&&◌, nat_lt, Bool, true, false, not, List, [], ◌∷◌, ◌++◌, Option, Some, None, is_some, length, get_or, slice_get, map, filter, cond, refl, sym, ap, subst, arith}
+use Rattle.std.specs.Prelude.{◌==◌, if◌then◌else◌}
+use Rattle.std.specs.List.{enumerate_from, list_all, position_from}
 use Rattle.std.specs.Option.{option_map_or}
 use Rattle.std.proofs.lemmas.Bool.Decides.{nat_tests}
 use Rattle.std.proofs.lemmas.Iterator.Adapters.{position_from-zero}
-use Rattle.std.proofs.lemmas.List.{map-append}
 use Rattle.fond_text.specs.Lists.{each_passes}
 use Rattle.fond_text.specs.declared.atom.Atom.{Atom}
-use Rattle.fond_ast.specs.Ranges.{RangeList, objects_of, is_among}
-use Rattle.fond_ast.specs.Within.{term_objects, fits_range, is_term_within, is_atom_within, is_fluent, is_effect_within, effect_within_step, is_effect_fluent, fluent_step, is_schema_within, is_schema_fluent, are_ranges_within, is_condition_within}
+use Rattle.fond_ast.specs.Ranges.{objects_of, is_among}
+use Rattle.fond_ast.specs.Within.{fits_range, is_term_within, is_atom_within, is_fluent, is_effect_within, effect_within_step, is_effect_fluent, fluent_step, is_schema_within, is_schema_fluent, are_ranges_within, is_condition_within}
 use Rattle.fond_ast.specs.declared.form.LAtom.{LAtom}
 use Rattle.fond_ast.specs.declared.form.LTerm.{LTerm}
 use Rattle.fond_ast.specs.declared.form.LTerm.TheVariants.{Object, Variable}
 use Rattle.fond_ast.specs.declared.form.LEffect.{LEffect, Nothing, Add, Delete, And', Forall', When', OneOf', Row_of-LEffect, end_of-LEffect, more_of-LEffect}
 use Rattle.fond_ast.specs.declared.form.LEffect.TheBlock.{items-the_row-LEffect, items_shown-the_row-LEffect-0}
-use Rattle.fond_ast.specs.declared.form.LEffect.TheOpen as open_effect
 use Rattle.fond_ast.specs.declared.form.LEffect.TheOpen.{LEffect-F}
 use Rattle.fond_ast.specs.declared.form.LEffect.TheViews.{out-LEffect, outs-Nothing, outs-Add, outs-Delete, outs-And', outs-Forall', outs-When', outs-OneOf'}
 use Rattle.fond_ast.specs.declared.form.LEffect.TheFolds.{fold-LEffect, fold_out-LEffect, map-LEffect}
@@ -37,8 +35,9 @@ among-all range [] object all here = cc
 among-all range (other ∷ objects) object all here =
     let parts = and-parts (is_among range other) (list_all (is_among range) objects) all in
     elim (or-cases (other == object) (is_among objects object) here) [
-      inl e ↦ (let same : other ≡ object = grind (arith, nat_tests, e) in subst (λ o. is_among range o ≡ true) same parts.0)
-    | inr h ↦ among-all range objects object parts.1 h ]
+      | inl e ↦ (let same : other ≡ object = grind (arith, nat_tests, e) in subst (λ o. is_among range o ≡ true) same parts.0)
+      | inr h ↦ among-all range objects object parts.1 h
+    ]
 
 variable-among : (around : List (List ℕ)) (env range : List ℕ) (number : ℕ) → each_passes (map is_among around) env ≡ true → option_map_or (list_all (is_among range)) (slice_get around number) false ≡ true
     → is_among range (get_or env number 0) ≡ true
@@ -144,15 +143,15 @@ module _ (task : LiftedTask) (count : ℕ) where
     numbered_effect (And' shape row) env around inside within fluent =
         numbered-at (And' shape row) _ (outs-And' shape row) env ∙ ap (λ parts. list_all (λ part. part env) (map (numbered_by task) parts)) (items_shown-the_row-LEffect-0 shape row)
         ∙ numbered_row row env around inside
-          (sym (within-at (And' shape row) _ (outs-And' shape row) around ∙ ap (λ parts. list_all (λ part. part around) (map within_by parts)) (items_shown-the_row-LEffect-0 shape row)) ∙ within)
-          (sym (fold-at (fluent_step task.predicates) (And' shape row) _ (outs-And' shape row) ∙ ap (λ parts. list_all (λ part. part) (map fluent_by parts)) (items_shown-the_row-LEffect-0 shape row)) ∙ fluent)
+        (sym (within-at (And' shape row) _ (outs-And' shape row) around ∙ ap (λ parts. list_all (λ part. part around) (map within_by parts)) (items_shown-the_row-LEffect-0 shape row)) ∙ within)
+        (sym (fold-at (fluent_step task.predicates) (And' shape row) _ (outs-And' shape row) ∙ ap (λ parts. list_all (λ part. part) (map fluent_by parts)) (items_shown-the_row-LEffect-0 shape row)) ∙ fluent)
     numbered_effect (OneOf' shape row) env around inside within fluent =
         let parts = and-parts _ _ (sym (within-at (OneOf' shape row) _ (outs-OneOf' shape row) around ∙ ap (λ parts. not (length (map within_by parts) == 0) && list_all (λ part. part around) (map within_by parts)) (items_shown-the_row-LEffect-0 shape row)) ∙ within) in
         numbered-at (OneOf' shape row) _ (outs-OneOf' shape row) env
         ∙ ap (λ parts. not (length (map (numbered_by task) parts) == 0) && list_all (λ part. part env) (map (numbered_by task) parts)) (items_shown-the_row-LEffect-0 shape row)
         ∙ and-both _ _ (some_members row parts.0)
-          (numbered_row row env around inside parts.1
-            (sym (fold-at (fluent_step task.predicates) (OneOf' shape row) _ (outs-OneOf' shape row) ∙ ap (λ parts. list_all (λ part. part) (map fluent_by parts)) (items_shown-the_row-LEffect-0 shape row)) ∙ fluent))
+        (numbered_row row env around inside parts.1
+        (sym (fold-at (fluent_step task.predicates) (OneOf' shape row) _ (outs-OneOf' shape row) ∙ ap (λ parts. list_all (λ part. part) (map fluent_by parts)) (items_shown-the_row-LEffect-0 shape row)) ∙ fluent))
     numbered_effect (When' condition shape part) env around inside within fluent =
         let parts = and-parts _ _ (sym (within-at (When' condition shape part) _ (outs-When' condition shape part) around) ∙ within) in
         numbered-at (When' condition shape part) _ (outs-When' condition shape part) env
@@ -162,8 +161,8 @@ module _ (task : LiftedTask) (count : ℕ) where
         let rest = sym (fold-at (fluent_step task.predicates) (Forall' ranges shape part) _ (outs-Forall' ranges shape part)) ∙ fluent in
         numbered-at (Forall' ranges shape part) _ (outs-Forall' ranges shape part) env
         ∙ all_objects _ (tuples (objects_of ranges))
-          (λ objects m. numbered_effect part (env ++ objects) (around ++ objects_of ranges)
-            (passes-append around (objects_of ranges) env objects inside ((tuples-lie-in-ranges (objects_of ranges) objects).0 (Contains-from_Member (tuples (objects_of ranges)) objects m))) parts.1 rest)
+        (λ objects m. numbered_effect part (env ++ objects) (around ++ objects_of ranges)
+        (passes-append around (objects_of ranges) env objects inside ((tuples-lie-in-ranges (objects_of ranges) objects).0 (Contains-from_Member (tuples (objects_of ranges)) objects m))) parts.1 rest)
 
     numbered_row : {m : _} (row : Row_of-LEffect m) (env : List ℕ) (around : List (List ℕ)) → each_passes (map is_among around) env ≡ true → list_all (λ part. part around) (map within_by (items-the_row-LEffect _ row)) ≡ true
         → list_all (λ part. part) (map fluent_by (items-the_row-LEffect _ row)) ≡ true → list_all (λ part. part env) (map (numbered_by task) (items-the_row-LEffect _ row)) ≡ true

@@ -1,14 +1,13 @@
 -- The lists of one object of each range, from the places of one of them to those of the next.
-use Rattle.std.proofs.Common.{◌≡◌, ℕ, suc, zero, ◌+◌, ◌-◌, ◌<◌, ◌≤◌, ◌∙◌, ◌&&◌, add-one, Bool, true, false, not, List, [], ◌∷◌, ◌++◌, length, get_or, set, replicate, take, drop, map, refl, sym, ap, subst, arith}
+use Rattle.std.proofs.Common.{◌≡◌, ℕ, suc, zero, ◌+◌, ◌-◌, ◌<◌, ◌≤◌, ◌∙◌, Bool, true, false, not, List, [], ◌∷◌, ◌++◌, length, get_or, set, replicate, drop, map, refl, sym, ap, subst, arith}
 use Rattle.std.specs.declared.alloc.Global.{Global}
 use Rattle.std.specs.declared.rc.Rc.{Rc}
-use Rattle.std.specs.List.{flat_map, list_all}
-use Rattle.std.proofs.lemmas.Bool.Decides.{nat_tests}
+use Rattle.std.specs.List.{flat_map}
 use Rattle.std.proofs.lemmas.List.{at_drop_more, length-map, length-replicate}
 use Rattle.fond_ast.specs.Ranges.{RangeList, objects_of}
 use Rattle.fond_meaning.specs.Conditions.{tuples}
 use Rattle.fond_meaning.proofs.Bools.{and-parts}
-use Rattle.fond_ground.specs.Places.{has_object, have_objects, objects_at, tuples_after, tuples_from}
+use Rattle.fond_ground.specs.Places.{has_object, have_objects, tuples_after, tuples_from}
 
 -- the places before this one, and then the starts of the ranges
 abbrev pub reset_from : ℕ → List ℕ → List ℕ
@@ -209,6 +208,7 @@ all-lists ranges places empty is test = ap (λ b. tuples_from b (objects_of rang
   where
     long : length places ≡ length ranges
     long = ap length is ∙ length-replicate (length ranges) 0
+
     by : (b : Bool) → have_objects (objects_of ranges) ≡ b → tuples_from (not b) (objects_of ranges) places ≡ tuples (objects_of ranges)
     by true some = ap (tuples_from false (objects_of ranges)) (sym (starts_replicate places (length ranges) long is)) ∙ sym (first-list (objects_of ranges) places (long ∙ sym (length-ranges ranges)) some)
     by false none = sym (empty-range (objects_of ranges) none)

@@ -1,17 +1,16 @@
 -- Faults of tasks that are too large.
-use Rattle.std.proofs.Common.{◌≡◌, inl, inr, ℕ, ◌<◌, ◌≤◌, ◌∙◌, ◌&&◌, nat_le, Bool, true, false, List, [], ◌∷◌, ◌++◌, length, refl, sym, ap, subst, arith}
-use Rattle.std.specs.Prelude.{Contains}
+use Rattle.std.proofs.Common.{◌≡◌, inl, inr, ℕ, ◌<◌, ◌≤◌, ◌∙◌, ◌&&◌, nat_le, Bool, true, false, List, [], ◌∷◌, length, refl, sym, ap, subst, arith}
 use Rattle.std.specs.List.{list_all}
 use Rattle.std.proofs.lemmas.Bool.Decides.{nat_tests}
 use Rattle.fond_text.specs.Lists.{Somewhere}
-use Rattle.fond_text.specs.declared.code.TheConstants.{MOST_ACTIONS, MOST_ATOMS, MOST_OUTCOMES, TOO_MANY_ACTIONS, TOO_MANY_ATOMS, TOO_MANY_OUTCOMES}
+use Rattle.fond_text.specs.declared.code.TheConstants.{MOST_ACTIONS, MOST_ATOMS, MOST_OUTCOMES, TOO_MANY_ACTIONS, TOO_MANY_ATOMS}
 use Rattle.fond_text.specs.declared.fault.Fault.{Fault}
 use Rattle.fond_ast.specs.declared.task.LSchema.{LSchema}
 use Rattle.fond_ast.specs.declared.task.LiftedTask.{LiftedTask}
 use Rattle.fond_join.specs.Kept.{kept_args}
 use Rattle.fond_meaning.specs.Outcomes.{outcomes}
 use Rattle.fond_meaning.proofs.Bools.{and-parts}
-use Rattle.fond_meaning.proofs.Members.{Member, Member-from_Contains, Contains-from_Member, Member-left, Member-right}
+use Rattle.fond_meaning.proofs.Members.{Member, Member-from_Contains, Contains-from_Member, Member-right}
 use Rattle.fond_ground.specs.Atoms.{fluent_atoms}
 use Rattle.fond_ground.specs.Faults.{at_domain, HasManyActions, HasManyAtoms, HasManyOutcomes, IsGroundFault, many_atoms, many_actions, many_outcomes}
 use Rattle.fond_ground.specs.Grounds.{kept_actions}
@@ -57,13 +56,13 @@ refused_outcomes task few fewer fault h =
     let has = h.has in
     subst (IsGroundFault task) (sym has.2)
     (many_outcomes h.item.place (few_has _ _ few) (few_has _ _ fewer)
-      (record {
-        before = h.before;
-        item = h.item;
-        after = h.after;
-        split = h.split;
-        has = (λ other m. few_not_many task other (member-passes (has_few_outcomes task) h.before other has.0 (Member-from_Contains h.before other m)), many_if_not_few task h.item has.1, refl);
-      }))
+    (record {
+      before = h.before;
+      item = h.item;
+      after = h.after;
+      split = h.split;
+      has = (λ other m. few_not_many task other (member-passes (has_few_outcomes task) h.before other has.0 (Member-from_Contains h.before other m)), many_if_not_few task h.item has.1, refl);
+    }))
 
 pub no_fault : (task : LiftedTask) → length (fluent_atoms task) ≤ MOST_ATOMS → length (kept_actions task) ≤ MOST_ACTIONS → list_all (has_few_outcomes task) task.schemas ≡ true → (fault : Fault) → ¬ IsGroundFault task fault
 no_fault task few fewer all fault (many_atoms h) = few_has _ _ few h

@@ -1,5 +1,5 @@
 -- Lists whose items are related place by place.
-use Rattle.std.proofs.Common.{◌≡◌, ℕ, suc, ◌&&◌, Bool, true, List, [], ◌∷◌, ◌++◌, length, map, refl, ap, ◌∙◌}
+use Rattle.std.proofs.Common.{◌≡◌, suc, Bool, true, List, [], ◌∷◌, ◌++◌, length, map, refl, ap}
 use Rattle.std.specs.List.{AllZip, flat_map, list_all}
 use Rattle.fond_meaning.proofs.Bools.{and-both}
 use Rattle.fond_text.specs.Lists.{concatenations}

@@ -33,10 +33,7 @@ use std::alloc::Global;
 
 /// The argument lists of the kept actions of each schema, or none if there are more than [`MOST_ACTIONS`] of them. Of a
 /// schema, no more lists are looked for than are left of that number.
-pub(crate) fn kept_lists(
-    alloc: Global,
-    table: &Table,
-) -> Result<Option<Vec<ArgsList>>, NoMemory>
+pub(crate) fn kept_lists(alloc: Global, table: &Table) -> Result<Option<Vec<ArgsList>>, NoMemory>
     ensures { IfOk result (λ found. MatchOption found (MOST_ACTIONS < length (kept_actions table.now.facts.task.now))
         (λ lists. (lists.items ≡ map (kept_args table.now.facts.task.now) table.now.facts.task.now.schemas) × (length (kept_actions table.now.facts.task.now) ≤ MOST_ACTIONS))) }
 {
@@ -130,11 +127,7 @@ fn put_acts(
 }
 
 /// The actions with these lists of objects, schema by schema, or the fault of the first schema with too many outcomes.
-pub(crate) fn acts_of(
-    alloc: Global,
-    table: &Table,
-    lists: &[ArgsList],
-) -> Result<Acts, FrontError>
+pub(crate) fn acts_of(alloc: Global, table: &Table, lists: &[ArgsList]) -> Result<Acts, FrontError>
     requires { lists.now ≡ map (kept_args table.now.facts.task.now) table.now.facts.task.now.schemas }
     ensures acts { IfOk result (AllZip (IsActOf table.now.facts.task.now) (kept_actions table.now.facts.task.now)) }
     ensures within { IfOk result (λ acts. list_all (is_act_within (length (fluent_atoms table.now.facts.task.now))) acts ≡ true) }

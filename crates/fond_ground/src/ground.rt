@@ -71,7 +71,9 @@ fn first_state(alloc: Global, table: &Table, atoms: &Atoms) -> Result<State, NoM
     let mut state = State::new(alloc, atoms.len() as u32)?;
     for i in 0..atoms.len() {
         let atom = atoms.get(i);
-        let is_initial = table.facts.contains(atom.predicate, atom.objects.as_slice());
+        let is_initial = table
+            .facts
+            .contains(atom.predicate, atom.objects.as_slice());
         state.set(i as u32, is_initial);
     }
     Ok(state)

@@ -59,11 +59,7 @@ pub(crate) fn object(term: LTerm, env: &[u32]) -> u32
 }
 
 /// The numbers of the ground atom of an atom.
-pub(crate) fn ground_numbers(
-    alloc: Global,
-    atom: &LAtom,
-    env: &[u32],
-) -> Result<Vec<u32>, NoMemory>
+pub(crate) fn ground_numbers(alloc: Global, atom: &LAtom, env: &[u32]) -> Result<Vec<u32>, NoMemory>
     ensures { IfOk result (λ numbers. numbers.items ≡ atom_numbers (ground_atom env.now atom.now)) }
 {
     let mut numbers = Vec::with_capacity(alloc, atom.terms.len().saturating_add(1))?;

@@ -1,4 +1,4 @@
-use Rattle.std.proofs.Common.{◌≡◌, ◌<◌, ◌≤◌, ◌∙◌, ℕ, List, false, refl, sym, ap, subst, length, arith}
+use Rattle.std.proofs.Common.{◌≡◌, ◌<◌, ◌≤◌, ◌∙◌, ℕ, List, false, refl, sym, subst, length}
 use Rattle.fond_meaning.specs.Outcomes.{outcomes}
 use Rattle.fond_oneof.specs.Outcomes.{outcome_lists}
 use Rattle.fond_text.specs.declared.code.TheConstants.{MOST_OUTCOMES, TOO_MANY_OUTCOMES}
@@ -50,5 +50,5 @@ returns-in_err-outcomes-clause-many c =
     let same = count_same task _ c.in_ok-effect.effect has in
     handed_on _ _ _ c.from_residual-in_err-outcomes.ensures.1
     (refuses_map (λ (fault : Fault). (fault ≡ at_domain c.args.schema.now.place TOO_MANY_OUTCOMES) × (MOST_OUTCOMES < length (outcome_lists c.in_ok-effect.effect)))
-      (λ (fault : Fault). (fault ≡ at_domain c.args.schema.now.place TOO_MANY_OUTCOMES) × (has_few c.args.schema.now.effect c.args.objects.now ≡ false))
-      (λ fault h. (h.0, more_than _ MOST_OUTCOMES (subst (λ (n : ℕ). MOST_OUTCOMES < n) (sym same) h.1))) _ c.in_err-outcomes.ensures.many)
+    (λ (fault : Fault). (fault ≡ at_domain c.args.schema.now.place TOO_MANY_OUTCOMES) × (has_few c.args.schema.now.effect c.args.objects.now ≡ false))
+    (λ fault h. (h.0, more_than _ MOST_OUTCOMES (subst (λ (n : ℕ). MOST_OUTCOMES < n) (sym same) h.1))) _ c.in_err-outcomes.ensures.many)

@@ -1,4 +1,4 @@
-use Rattle.std.proofs.Common.{◌≡◌, ◌∙◌, ◌+◌, ◌∷◌, ◌++◌, [], ℕ, List, true, false, length, map, take, drop, sym, ap, subst, arith}
+use Rattle.std.proofs.Common.{◌≡◌, ◌∙◌, ◌+◌, ◌++◌, [], ℕ, List, false, take, drop, sym, ap, subst, arith}
 use Rattle.std.specs.List.{list_all, AllZip}
 use Rattle.std.proofs.lemmas.Grind.{common_steps}
 use Rattle.std.proofs.lemmas.List.{append_assoc, append-nil, take-append-drop}
@@ -60,12 +60,12 @@ returns-in_err-put_acts-clause-many c =
     let kept = mapped_at (kept_args task) task.schemas c.args.lists.now i schema c.index-lists-i.result c.requires c.get.ensures c.index-lists-i.is in
     handed_on _ _ _ c.from_residual.ensures.1
     (refuses_map (λ (fault : Fault). (fault ≡ at_domain schema.place TOO_MANY_OUTCOMES) × (list_all (has_few schema.effect) c.index-lists-i.result ≡ false))
-      (λ (fault : Fault). Somewhere (IsFirstMany task fault) task.schemas)
-      (λ fault h. record {
-          before = take i task.schemas;
-          item = schema;
-          after = drop (i + 1) task.schemas;
-          split = sym (take-append-drop i task.schemas) ∙ ap (λ rest. take i task.schemas ++ rest) (drop_item task.schemas i schema c.get.ensures);
-          has = (c.loop-i.invariant.few, sym (ap (list_all (has_few schema.effect)) kept) ∙ h.1, h.0);
-        })
-      _ c.in_err-put_acts.ensures.many)
+    (λ (fault : Fault). Somewhere (IsFirstMany task fault) task.schemas)
+    (λ fault h. record {
+      before = take i task.schemas;
+      item = schema;
+      after = drop (i + 1) task.schemas;
+      split = sym (take-append-drop i task.schemas) ∙ ap (λ rest. take i task.schemas ++ rest) (drop_item task.schemas i schema c.get.ensures);
+      has = (c.loop-i.invariant.few, sym (ap (list_all (has_few schema.effect)) kept) ∙ h.1, h.0);
+    })
+    _ c.in_err-put_acts.ensures.many)

@@ -1,10 +1,8 @@
-use Rattle.std.proofs.Common.{◌≡◌, ◌∙◌, ◌+◌, ◌∷◌, ◌++◌, [], ℕ, List, true, length, map, drop, sym, ap, subst, arith}
-use Rattle.std.specs.List.{list_all, AllZip}
+use Rattle.std.proofs.Common.{◌≡◌, ◌∙◌, ◌+◌, ◌∷◌, ◌++◌, [], ℕ, List, length, drop, sym, ap, subst, arith}
+use Rattle.std.specs.List.{AllZip}
 use Rattle.std.proofs.lemmas.Grind.{common_steps}
 use Rattle.std.proofs.lemmas.List.{append_assoc, append-nil}
 use Rattle.fond_task.specs.Within.{is_act_within}
-use Rattle.fond_task.specs.declared.task.Act.{Act}
-use Rattle.fond_text.specs.declared.atom.GroundAction.{GroundAction}
 use Rattle.fond_ground.specs.Atoms.{fluent_atoms}
 use Rattle.fond_ground.specs.Effects.{is_numbered}
 use Rattle.fond_ground.specs.Grounds.{IsActOf}

@@ -2,7 +2,6 @@ use Rattle.std.proofs.Common.{◌≡◌, ◌++◌, List, true, length, map, drop
 use Rattle.std.specs.List.{list_all, AllZip}
 use Rattle.fond_task.specs.Within.{is_act_within}
 use Rattle.fond_task.specs.declared.task.Act.{Act}
-use Rattle.fond_text.specs.declared.atom.GroundAction.{GroundAction}
 use Rattle.fond_ground.specs.Atoms.{fluent_atoms}
 use Rattle.fond_ground.specs.Effects.{is_numbered}
 use Rattle.fond_ground.specs.Grounds.{IsActOf}

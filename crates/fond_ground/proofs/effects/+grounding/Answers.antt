@@ -1,23 +1,19 @@
-use Rattle.std.proofs.Common.{◌≡◌, ◌∙◌, ◌&&◌, ◌++◌, not, ℕ, [], List, Bool, true, Option, length, map, drop, refl, sym, ap, subst, arith, rules}
+use Rattle.std.proofs.Common.{◌≡◌, ◌∙◌, ◌++◌, not, ℕ, [], List, true, length, map, drop, sym, ap, subst, arith}
 use Rattle.std.specs.Prelude.{◌==◌, is_some}
 use Rattle.std.specs.List.{list_all, flat_map}
 use Rattle.std.proofs.lemmas.Grind.{common_steps}
 use Rattle.std.proofs.lemmas.List.{append-nil, length-map}
 use Rattle.fond_text.specs.Lists.{concatenations}
-use Rattle.fond_ast.specs.Ranges.{RangeList, objects_of}
+use Rattle.fond_ast.specs.Ranges.{objects_of}
 use Rattle.fond_ast.specs.declared.form.LEffect.{LEffect}
 use Rattle.fond_meaning.specs.Conditions.{ground_atom, tuples}
 use Rattle.fond_meaning.specs.Outcomes.{Literal, outcomes}
 use Rattle.fond_meaning.proofs.Bools.{and-parts}
 use Rattle.fond_oneof.specs.declared.effect.GroundEffect as made
 use Rattle.fond_oneof.specs.declared.effect.GroundEffect.{GroundEffect}
-use Rattle.fond_task.specs.declared.form.Form.{Form, Truth}
-use Rattle.fond_task.specs.declared.form.Kleene.TheVariants.{Yes}
-use Rattle.fond_task.specs.Values.{value}
 use Rattle.fond_ground.specs.Atoms.{atom_number}
 use Rattle.fond_ground.specs.Effects.{is_numbered, HasOutcomes, HaveOutcomes}
-use Rattle.fond_ground.proofs.Grounded.{numbered-Add, numbered-Delete, numbered-And, numbered-OneOf, outcomes-And, outcomes-OneOf, outcomes-Forall, outcomes-When, has-And, has-OneOf, has-When, has-always}
-use Rattle.fond_ground.proofs.Withins.{value-Truth}
+use Rattle.fond_ground.proofs.Grounded.{numbered-Add, numbered-Delete, numbered-OneOf, outcomes-And, outcomes-OneOf, outcomes-Forall, outcomes-When, has-And, has-OneOf, has-When, has-always}
 use Rattle.fond_ground.proofs.effects.+grounding.Goals as goal
 
 pub ground_effect-ground_literal-requires : goal.ground_effect-ground_literal-requires
@@ -66,7 +62,7 @@ ground_effect-returns-in_ok-parts-in-Forall-clause-effect t c =
     let lists = map (λ objects. outcomes (env ++ objects) c.deref-in-Forall.result.now) (tuples (objects_of c.as_slice.result.now)) in
     subst (λ (some : List (List Literal)). HasOutcomes task some (made.And parts))
     ((λ i. concatenations (map (λ objects. outcomes (env ++ objects) (c.deref-in-Forall.ensures i)) (tuples (objects_of (c.as_slice.ensures i)))))
-      ∙ sym (ap (outcomes env) c.in-Forall.is ∙ outcomes-Forall task env c.in-Forall.ranges c.in-Forall.part))
+    ∙ sym (ap (outcomes env) c.in-Forall.is ∙ outcomes-Forall task env c.in-Forall.ranges c.in-Forall.part))
     (has-And task lists parts c.in_ok-parts-in-Forall.ensures.effects)
 
 pub ground_effect-returns-then-is_always-clause-effect : goal.ground_effect-returns-then-is_always-clause-effect
@@ -78,7 +74,7 @@ ground_effect-returns-then-is_always-clause-effect t c =
     let same : outcomes c.form_of.new.env.items c.deref-in-When.result.now ≡ outcomes env c.in-When.part.value = λ i. outcomes (c.in_ok-condition-in-When.ensures.env i) (c.deref-in-When.ensures i) in
     subst (λ (some : List (List Literal)). HasOutcomes task some part) (sym (ap (outcomes env) c.in-When.is ∙ outcomes-When task env c.in-When.condition c.in-When.part))
     (has-always task env c.in-When.condition form c.in_ok-condition-in-When.ensures.value (outcomes env c.in-When.part.value) part (c.is_always.ensures c.if-is_always.true)
-      (subst (λ (some : List (List Literal)). HasOutcomes task some part) same c.in_ok-part-in-When.ensures.effect))
+    (subst (λ (some : List (List Literal)). HasOutcomes task some part) same c.in_ok-part-in-When.ensures.effect))
 
 pub ground_effect-returns-in_ok-new-in-When-clause-effect : goal.ground_effect-returns-in_ok-new-in-When-clause-effect
 ground_effect-returns-in_ok-new-in-When-clause-effect t c =
@@ -89,8 +85,8 @@ ground_effect-returns-in_ok-new-in-When-clause-effect t c =
     let same : outcomes c.form_of.new.env.items c.deref-in-When.result.now ≡ outcomes env c.in-When.part.value = λ i. outcomes (c.in_ok-condition-in-When.ensures.env i) (c.deref-in-When.ensures i) in
     subst (λ (some : List (List Literal)). HasOutcomes task some (made.When form boxed)) (sym (ap (outcomes env) c.in-When.is ∙ outcomes-When task env c.in-When.condition c.in-When.part))
     (has-When task env c.in-When.condition form c.in_ok-condition-in-When.ensures.value (outcomes env c.in-When.part.value) boxed c.in_ok-condition-in-When.ensures.within
-      (subst (λ (one : GroundEffect). HasOutcomes task (outcomes env c.in-When.part.value) one) (sym c.in_ok-new-in-When.ensures.ok)
-        (subst (λ (some : List (List Literal)). HasOutcomes task some c.in_ok-part-in-When.part) same c.in_ok-part-in-When.ensures.effect)))
+    (subst (λ (one : GroundEffect). HasOutcomes task (outcomes env c.in-When.part.value) one) (sym c.in_ok-new-in-When.ensures.ok)
+    (subst (λ (some : List (List Literal)). HasOutcomes task some c.in_ok-part-in-When.part) same c.in_ok-part-in-When.ensures.effect)))
 
 pub ground_instances-returns-clause-effects : goal.ground_instances-returns-clause-effects
 ground_instances-returns-clause-effects t c =

@@ -1,4 +1,4 @@
-use Rattle.std.proofs.Common.{◌≡◌, ◌++◌, List, true, length, map, drop, vec_len}
+use Rattle.std.proofs.Common.{◌≡◌, ◌++◌, List, true, length, map, drop}
 use Rattle.std.specs.List.{list_all}
 use Rattle.fond_ast.specs.Ranges.{objects_of}
 use Rattle.fond_meaning.specs.Conditions.{tuples}

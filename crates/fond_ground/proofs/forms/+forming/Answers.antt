@@ -1,9 +1,8 @@
-use Rattle.std.proofs.Common.{◌≡◌, ◌∙◌, ◌++◌, ◌+◌, ℕ, [], List, Bool, true, Option, not, length, map, take, drop, sym, ap, arith}
+use Rattle.std.proofs.Common.{◌≡◌, ◌∙◌, ◌++◌, ◌+◌, ℕ, [], List, true, not, length, map, take, drop, sym, ap, arith}
 use Rattle.std.specs.List.{fold}
 use Rattle.std.proofs.lemmas.Grind.{common_steps}
 use Rattle.std.proofs.Math.Seq.{take-append_seam}
-use Rattle.fond_ast.specs.Ranges.{RangeList, objects_of}
-use Rattle.fond_ast.specs.declared.form.LCond.{LCond}
+use Rattle.fond_ast.specs.Ranges.{objects_of}
 use Rattle.fond_join.specs.Values.{condition_value}
 use Rattle.fond_meaning.specs.Conditions.{ground_atom, tuples}
 use Rattle.fond_task.specs.declared.form.Kleene.{Kleene}
@@ -17,35 +16,35 @@ use Rattle.fond_ground.proofs.forms.+forming.Goals as goal
 pub signed_form-returns-in-Holds-clause-value : goal.signed_form-returns-in-Holds-clause-value
 signed_form-returns-in-Holds-clause-value t c =
     same_form c.literal_form.result _ _ (λ cube.
-        let known = atom_value c.args.table.now.facts.task.now cube in
-        ap (λ env. signed c.args.sign (known (ground_atom env c.in-Holds.atom))) c.deref.ensures.value
-        ∙ ap (signed c.args.sign) (sym (at-Holds known c.args.env.now.items c.in-Holds.atom) ∙ ap (condition_value known c.args.env.now.items) (sym c.in-Holds.is)))
+    let known = atom_value c.args.table.now.facts.task.now cube in
+    ap (λ env. signed c.args.sign (known (ground_atom env c.in-Holds.atom))) c.deref.ensures.value
+    ∙ ap (signed c.args.sign) (sym (at-Holds known c.args.env.now.items c.in-Holds.atom) ∙ ap (condition_value known c.args.env.now.items) (sym c.in-Holds.is)))
     c.literal_form.ensures.value
 
 pub signed_form-returns-in-And-clause-value : goal.signed_form-returns-in-And-clause-value
 signed_form-returns-in-And-clause-value t c =
     same_form c.members_form.result _ _ (λ cube.
-        let known = atom_value c.args.table.now.facts.task.now cube in
-        let f = signed_at known c.args.env.now.items c.args.sign in
-        ap (λ members. fold (joined c.args.sign) (neutral c.args.sign) (map f members)) c.deref-in-And.ensures.value
-        ∙ signed-And known c.args.env.now.items c.args.sign c.in-And.members ∙ ap f (sym c.in-And.is))
+    let known = atom_value c.args.table.now.facts.task.now cube in
+    let f = signed_at known c.args.env.now.items c.args.sign in
+    ap (λ members. fold (joined c.args.sign) (neutral c.args.sign) (map f members)) c.deref-in-And.ensures.value
+    ∙ signed-And known c.args.env.now.items c.args.sign c.in-And.members ∙ ap f (sym c.in-And.is))
     c.members_form.ensures.value
 
 pub signed_form-returns-in-Or-clause-value : goal.signed_form-returns-in-Or-clause-value
 signed_form-returns-in-Or-clause-value t c =
     same_form c.members_form-in-Or.result _ _ (λ cube.
-        let known = atom_value c.args.table.now.facts.task.now cube in
-        let f = signed_at known c.args.env.now.items c.args.sign in
-        ap (λ members. fold (joined (not c.args.sign)) (neutral (not c.args.sign)) (map f members)) c.deref-in-Or.ensures.value
-        ∙ signed-Or known c.args.env.now.items c.args.sign c.in-Or.members ∙ ap f (sym c.in-Or.is))
+    let known = atom_value c.args.table.now.facts.task.now cube in
+    let f = signed_at known c.args.env.now.items c.args.sign in
+    ap (λ members. fold (joined (not c.args.sign)) (neutral (not c.args.sign)) (map f members)) c.deref-in-Or.ensures.value
+    ∙ signed-Or known c.args.env.now.items c.args.sign c.in-Or.members ∙ ap f (sym c.in-Or.is))
     c.members_form-in-Or.ensures.value
 
 pub signed_form-returns-in-Not-clause-value : goal.signed_form-returns-in-Not-clause-value
 signed_form-returns-in-Not-clause-value t c =
     same_form c.signed_form.result _ _ (λ cube.
-        let known = atom_value c.args.table.now.facts.task.now cube in
-        ap (λ part. signed (not c.args.sign) (condition_value known c.args.env.now.items part)) c.deref-in-Not.ensures
-        ∙ signed-Not known c.args.env.now.items c.args.sign c.in-Not.part ∙ ap (signed_at known c.args.env.now.items c.args.sign) (sym c.in-Not.is))
+    let known = atom_value c.args.table.now.facts.task.now cube in
+    ap (λ part. signed (not c.args.sign) (condition_value known c.args.env.now.items part)) c.deref-in-Not.ensures
+    ∙ signed-Not known c.args.env.now.items c.args.sign c.in-Not.part ∙ ap (signed_at known c.args.env.now.items c.args.sign) (sym c.in-Not.is))
     c.signed_form.ensures.value
 
 pub signed_form-returns-in_ok-second-in-Imply-clause-within : goal.signed_form-returns-in_ok-second-in-Imply-clause-within
@@ -55,33 +54,33 @@ signed_form-returns-in_ok-second-in-Imply-clause-within t c =
 pub signed_form-returns-in_ok-second-in-Imply-clause-value : goal.signed_form-returns-in_ok-second-in-Imply-clause-value
 signed_form-returns-in_ok-second-in-Imply-clause-value t c =
     same_form c.junction_of.result _ _ (λ cube.
-        let known = atom_value c.args.table.now.facts.task.now cube in
-        let env = c.args.env.now.items in
-        let one : value cube c.in_ok-first-in-Imply.first ≡ signed (not c.args.sign) (condition_value known env c.in-Imply.part.value) =
-        c.in_ok-first-in-Imply.ensures.value cube ∙ ap (λ part. signed (not c.args.sign) (condition_value known env part)) c.deref-in-Imply.ensures in
-        let two : value cube c.in_ok-second-in-Imply.second ≡ signed c.args.sign (condition_value known env c.in-Imply.other.value) =
-        c.in_ok-second-in-Imply.ensures.value cube ∙ (λ i. signed c.args.sign (condition_value known (c.in_ok-first-in-Imply.ensures.env i) (c.deref-in-Imply-2.ensures i))) in
-        (λ i. joined (not c.args.sign) (joined (not c.args.sign) (neutral (not c.args.sign)) (one i)) (two i))
-        ∙ signed-Imply known env c.args.sign c.in-Imply.part c.in-Imply.other ∙ ap (signed_at known env c.args.sign) (sym c.in-Imply.is))
+    let known = atom_value c.args.table.now.facts.task.now cube in
+    let env = c.args.env.now.items in
+    let one : value cube c.in_ok-first-in-Imply.first ≡ signed (not c.args.sign) (condition_value known env c.in-Imply.part.value) =
+    c.in_ok-first-in-Imply.ensures.value cube ∙ ap (λ part. signed (not c.args.sign) (condition_value known env part)) c.deref-in-Imply.ensures in
+    let two : value cube c.in_ok-second-in-Imply.second ≡ signed c.args.sign (condition_value known env c.in-Imply.other.value) =
+    c.in_ok-second-in-Imply.ensures.value cube ∙ (λ i. signed c.args.sign (condition_value known (c.in_ok-first-in-Imply.ensures.env i) (c.deref-in-Imply-2.ensures i))) in
+    (λ i. joined (not c.args.sign) (joined (not c.args.sign) (neutral (not c.args.sign)) (one i)) (two i))
+    ∙ signed-Imply known env c.args.sign c.in-Imply.part c.in-Imply.other ∙ ap (signed_at known env c.args.sign) (sym c.in-Imply.is))
     c.junction_of.ensures.value
 
 pub signed_form-returns-in-Forall-clause-value : goal.signed_form-returns-in-Forall-clause-value
 signed_form-returns-in-Forall-clause-value t c =
     same_form c.instances_form.result _ _ (λ cube.
-        let known = atom_value c.args.table.now.facts.task.now cube in
-        let env = c.args.env.now.items in
-        (λ i. fold (joined c.args.sign) (neutral c.args.sign) (map (λ objects. signed c.args.sign (condition_value known (env ++ objects) (c.deref-in-Forall.ensures i))) (tuples (objects_of (c.as_slice.ensures i)))))
-        ∙ signed-Forall known env c.args.sign c.in-Forall.ranges c.in-Forall.part ∙ ap (signed_at known env c.args.sign) (sym c.in-Forall.is))
+    let known = atom_value c.args.table.now.facts.task.now cube in
+    let env = c.args.env.now.items in
+    (λ i. fold (joined c.args.sign) (neutral c.args.sign) (map (λ objects. signed c.args.sign (condition_value known (env ++ objects) (c.deref-in-Forall.ensures i))) (tuples (objects_of (c.as_slice.ensures i)))))
+    ∙ signed-Forall known env c.args.sign c.in-Forall.ranges c.in-Forall.part ∙ ap (signed_at known env c.args.sign) (sym c.in-Forall.is))
     c.instances_form.ensures.value
 
 pub signed_form-returns-in-Exists-clause-value : goal.signed_form-returns-in-Exists-clause-value
 signed_form-returns-in-Exists-clause-value t c =
     same_form c.instances_form-in-Exists.result _ _ (λ cube.
-        let known = atom_value c.args.table.now.facts.task.now cube in
-        let env = c.args.env.now.items in
-        (λ i. fold (joined (not c.args.sign)) (neutral (not c.args.sign))
-            (map (λ objects. signed c.args.sign (condition_value known (env ++ objects) (c.deref-in-Exists.ensures i))) (tuples (objects_of (c.as_slice-in-Exists.ensures i)))))
-        ∙ signed-Exists known env c.args.sign c.in-Exists.ranges c.in-Exists.part ∙ ap (signed_at known env c.args.sign) (sym c.in-Exists.is))
+    let known = atom_value c.args.table.now.facts.task.now cube in
+    let env = c.args.env.now.items in
+    (λ i. fold (joined (not c.args.sign)) (neutral (not c.args.sign))
+    (map (λ objects. signed c.args.sign (condition_value known (env ++ objects) (c.deref-in-Exists.ensures i))) (tuples (objects_of (c.as_slice-in-Exists.ensures i)))))
+    ∙ signed-Exists known env c.args.sign c.in-Exists.ranges c.in-Exists.part ∙ ap (signed_at known env c.args.sign) (sym c.in-Exists.is))
     c.instances_form-in-Exists.ensures.value
 
 pub members_form-loop-member-init : goal.members_form-loop-member-init
@@ -157,7 +156,7 @@ instances_form-loop-alloc-preserved t c =
     let before = c.loop-alloc.invariant in
     let taken = c.in_ok-put_next.ensures in
     let form = c.in_ok-signed_form.field-0 in
-    let back : c.truncate.new.self.items ≡ c.args.env.now.items = 
+    let back : c.truncate.new.self.items ≡ c.args.env.now.items =
     c.truncate.ensures.items ∙ ap (take c.len-around.result) (c.in_ok-signed_form.ensures.env ∙ taken.put)
     ∙ ap (λ n. take n (c.loop-alloc.env.items ++ taken.objects)) before.around ∙ take-append_seam c.loop-alloc.env.items taken.objects ∙ before.env in
     record {

@@ -1,4 +1,4 @@
-use Rattle.std.proofs.Common.{◌≡◌, ◌++◌, ℕ, ◌+◌, ◌*◌, ◌^◌, List, Bool, true, Option, length, map, drop}
+use Rattle.std.proofs.Common.{◌≡◌, ◌++◌, List, Bool, true, Option, length, map, drop}
 use Rattle.std.specs.List.{fold, list_all}
 use Rattle.fond_ast.specs.Ranges.{objects_of}
 use Rattle.fond_join.specs.Values.{condition_value}

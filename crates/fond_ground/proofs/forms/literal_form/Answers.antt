@@ -1,4 +1,4 @@
-use Rattle.std.proofs.Common.{◌≡◌, ◌∙◌, sym, ap}
+use Rattle.std.proofs.Common.{◌∙◌, ap}
 use Rattle.std.specs.FinSet as set
 use Rattle.fond_meaning.specs.Conditions.{ground_atom}
 use Rattle.fond_meaning.specs.Solutions.{initial}

@@ -1,4 +1,4 @@
-use Rattle.std.proofs.Common.{◌≡◌, ◌∙◌, ◌+◌, ◌++◌, ◌∷◌, [], Bool, List, length, map, take, sym, ap, arith}
+use Rattle.std.proofs.Common.{◌≡◌, ◌∙◌, ◌+◌, ◌++◌, ◌∷◌, [], Bool, length, map, take, sym, ap, arith}
 use Rattle.std.specs.FinSet as set
 use Rattle.std.proofs.lemmas.List.{length-set, map-append, take_more_set}
 use Rattle.fond_text.specs.declared.atom.Atom.{Atom}

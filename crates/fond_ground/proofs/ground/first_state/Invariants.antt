@@ -1,4 +1,4 @@
-use Rattle.std.proofs.Common.{◌≡◌, ◌++◌, length, map, take, drop}
+use Rattle.std.proofs.Common.{◌≡◌, length, map, take}
 use Rattle.std.specs.FinSet as set
 use Rattle.fond_meaning.specs.Solutions.{initial}
 use Rattle.fond_ground.proofs.ground.first_state.Given as goal

@@ -1,4 +1,4 @@
-use Rattle.std.proofs.Common.{◌≡◌, ◌∙◌, ◌<◌, ◌≤◌, [], true, List, length, map, sym, ap, subst, arith}
+use Rattle.std.proofs.Common.{◌≡◌, ◌∙◌, ◌≤◌, [], true, length, map, sym, ap, subst, arith}
 use Rattle.std.specs.FinSet as set
 use Rattle.std.specs.List.{AllZip, list_all}
 use Rattle.std.proofs.lemmas.List.{length-map}
@@ -7,8 +7,7 @@ use Rattle.fond_meaning.specs.Solutions.{initial}
 use Rattle.fond_task.specs.Within.{is_act_within, is_form_within}
 use Rattle.fond_task.specs.Distinct.{are_distinct_atoms}
 use Rattle.fond_text.specs.Lists.{are_distinct_texts, Somewhere}
-use Rattle.fond_text.specs.declared.atom.Atom.{Atom}
-use Rattle.fond_text.specs.declared.code.TheConstants.{MOST_ACTIONS, MOST_ATOMS, TOO_MANY_ACTIONS, TOO_MANY_ATOMS}
+use Rattle.fond_text.specs.declared.code.TheConstants.{MOST_ACTIONS, TOO_MANY_ACTIONS, TOO_MANY_ATOMS}
 use Rattle.fond_text.specs.declared.fault.Fault.{Fault}
 use Rattle.fond_ground.specs.Atoms.{fluent_atoms}
 use Rattle.fond_ground.specs.Faults.{at_domain, HasManyActions, HasManyAtoms, IsGroundFault}
@@ -33,7 +32,7 @@ returns-in_err-lists-clause-refused c =
     let same : c.in_ok-table.table.facts.task.now ≡ task = c.in_ok-table.ensures in
     handed_on _ _ _ c.from_residual-in_err-lists.ensures.1
     (refuses_map (λ (fault : Fault). (fault ≡ at_domain c.in_ok-table.table.facts.task.now.place TOO_MANY_ACTIONS) × HasManyActions c.in_ok-table.table.facts.task.now) (IsGroundFault task)
-      (λ fault h. refused_actions task c.in_ok-atoms.ensures.atoms.1 fault (subst (λ (t : LiftedTask). (fault ≡ at_domain t.place TOO_MANY_ACTIONS) × HasManyActions t) same h)) _ c.in_err-lists.ensures.many)
+    (λ fault h. refused_actions task c.in_ok-atoms.ensures.atoms.1 fault (subst (λ (t : LiftedTask). (fault ≡ at_domain t.place TOO_MANY_ACTIONS) × HasManyActions t) same h)) _ c.in_err-lists.ensures.many)
 
 pub returns-in_err-acts-clause-refused : goal.returns-in_err-acts-clause-refused
 returns-in_err-acts-clause-refused c =
@@ -42,7 +41,7 @@ returns-in_err-acts-clause-refused c =
     let fewer = subst (λ (t : LiftedTask). length (kept_actions t) ≤ MOST_ACTIONS) same c.in_ok-lists.ensures.lists.1 in
     handed_on _ _ _ c.from_residual-in_err-acts.ensures.1
     (refuses_map (λ (fault : Fault). Somewhere (IsFirstMany c.in_ok-table.table.facts.task.now fault) c.in_ok-table.table.facts.task.now.schemas) (IsGroundFault task)
-      (λ fault h. refused_outcomes task c.in_ok-atoms.ensures.atoms.1 fewer fault (subst (λ (t : LiftedTask). Somewhere (IsFirstMany t fault) t.schemas) same h)) _ c.in_err-acts.ensures.many)
+    (λ fault h. refused_outcomes task c.in_ok-atoms.ensures.atoms.1 fewer fault (subst (λ (t : LiftedTask). Somewhere (IsFirstMany t fault) t.schemas) same h)) _ c.in_err-acts.ensures.many)
 
 pub returns-clause-clean : goal.returns-clause-clean
 returns-clause-clean c =

@@ -1,4 +1,4 @@
-use Rattle.std.proofs.Common.{◌≡◌, ◌++◌, map, drop}
+use Rattle.std.proofs.Common.{◌≡◌, ◌++◌, drop}
 use Rattle.fond_ground.proofs.ground.object_names.Given as goal
 
 abbrev pub invariant-loop-i : goal.invariant-loop-i

@@ -1,4 +1,4 @@
-use Rattle.std.proofs.Common.{◌≡◌, ◌∙◌, ap}
+use Rattle.std.proofs.Common.{◌∙◌, ap}
 use Rattle.fond_task.specs.Values.{value}
 use Rattle.fond_ground.specs.Signs.{joined, junction_value}
 use Rattle.fond_ground.proofs.junction.junction_of.Goals as goal
