@@ -1,5 +1,5 @@
 -- The ground task of a task.
-use Rattle.std.specs.Prelude.{◌≡◌, ℕ, Bool, List, [], Option, Some, map, slice_get}
+use Rattle.std.specs.Prelude.{◌≡◌, Bool, List, [], Option, Some, map, slice_get}
 use Rattle.std.specs.List.{AllZip, enumerate_from, flat_map}
 use Rattle.std.specs.FinSet as set
 use Rattle.fond_text.specs.declared.atom.GroundAction.{GroundAction}

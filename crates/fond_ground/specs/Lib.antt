@@ -3,3 +3,7 @@ pub mod Values
 pub mod Grounds
 pub mod Faults
 pub mod Texts
+pub mod Places
+pub mod Signs
+pub mod Effects
+pub mod Limits

@@ -2,4 +2,11 @@
 //! that is too large is refused. That both are the same game is left to the crate above.
 #![tactic(auto)]
 
+mod acts;
+mod atoms;
+mod effects;
+mod forms;
 pub mod ground;
+mod junction;
+mod table;
+mod tuples;

@@ -1,3 +1,5 @@
 pub mod Values
 pub mod Kept
 pub mod Tables
+pub mod Partial
+pub mod Search

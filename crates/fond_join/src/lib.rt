@@ -4,3 +4,5 @@
 
 pub mod facts;
 pub mod matching;
+mod search;
+mod value;

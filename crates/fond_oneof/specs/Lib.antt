@@ -1,3 +1,4 @@
 pub mod Outcomes
 pub mod Counts
 pub mod Within
+pub mod Shown

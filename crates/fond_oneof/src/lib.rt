@@ -3,5 +3,8 @@
 //! above.
 #![tactic(auto)]
 
+mod count;
 pub mod effect;
+mod form;
+mod list;
 pub mod outcome;

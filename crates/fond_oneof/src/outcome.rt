@@ -8,9 +8,13 @@ ghost use Rattle.fond_text.specs.declared.code.TheConstants.{MOST_OUTCOMES};
 ghost use Rattle.std.specs.List.{list_all};
 ghost use Rattle.std.specs.Prelude.{ℕ, ◌<◌, ◌≤◌, IsTrue, length, IfOk, IfErr};
 
+use crate::count::count;
 use crate::effect::GroundEffect;
+use crate::list::list;
 use fond_task::task::Outcomes;
+use fond_text::code::MOST_OUTCOMES;
 use fond_text::fault::NoMemory;
+use fond_text::list::List;
 use std::alloc::Global;
 
 /// Why the outcomes of an effect are not listed: there are too many of them, and this is their number, or 1,000,000 if
@@ -41,5 +45,9 @@ pub fn outcomes(alloc: Global, effect: &GroundEffect) -> Result<Outcomes, OneofF
     ensures within { (atoms : ℕ) → IsTrue (is_effect_over atoms effect.now) → IfOk result (λ all. IsTrue (list_all (list_all (is_entry_within atoms)) all)) }
     ensures many { IfErr result (OneofFails (IsTooMany effect.now)) }
 {
-    Err(OneofFault::NoMemory)
+    let number = count(effect);
+    if number > MOST_OUTCOMES as u64 {
+        return Err(OneofFault::TooMany(number));
+    }
+    Ok(List::of(list(alloc, effect)?))
 }

@@ -1,5 +1,4 @@
-use Rattle.std.proofs.Common.{[], length, replicate, ap, ◌∙◌, arith}
-use Rattle.std.proofs.lemmas.Grind.{common_steps}
+use Rattle.std.proofs.Common.{ap, ◌∙◌}
 use Rattle.fond_join.specs.Tables.{is_entered}
 use Rattle.fond_join.proofs.Tables.{none_entered}
 use Rattle.fond_join.proofs.facts.no_entries.Goals as goal
