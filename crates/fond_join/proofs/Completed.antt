@@ -90,7 +90,7 @@ restored (known ∷ env) zero object none = ap (λ k. k ∷ env) (sym none)
 restored (known ∷ env) (suc parameter) object none = ap (λ rest. known ∷ rest) (restored env parameter object none)
 
 module _ (task : LiftedTask) (schema : LSchema) where
-  no_told : (value other : Kleene) → Tells false value other → not (is_no value) ≡ false → not (is_no other) ≡ false
+  pub no_told : (value other : Kleene) → Tells false value other → not (is_no value) ≡ false → not (is_no other) ≡ false
   no_told value other (inl e) h = subst (λ v. not (is_no v) ≡ false) e h
   no_told value other (inr e) h = absurd (true≢false (subst (λ v. not (is_no v) ≡ false) e.0 h))
 

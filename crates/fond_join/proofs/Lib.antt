@@ -3,6 +3,7 @@ pub mod Declared
 pub mod Found
 pub mod Items
 pub mod Joined
+pub mod PairedOff
 pub mod Sound
 pub mod Tables
 pub mod Weights

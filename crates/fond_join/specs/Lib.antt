@@ -3,3 +3,4 @@ pub mod Kept
 pub mod Tables
 pub mod Partial
 pub mod Search
+pub mod Barren

@@ -2,6 +2,7 @@
 //! unknown. They are found by a search that puts in one object after the other.
 #![tactic(auto)]
 
+mod barren;
 pub mod facts;
 pub mod matching;
 mod search;

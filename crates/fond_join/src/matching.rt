@@ -1,10 +1,12 @@
-//! The kept argument lists of a schema.
+//! The kept argument lists of a schema. Parameters are given objects in the order of their declarations, so that the lists
+//! are found in order. Before that, each pair of parameters is looked at alone: if it leaves nothing, there is no search.
 
 ghost use Rattle.fond_ast.specs.declared.task.LSchema.{LSchema};
 ghost use Rattle.fond_join.specs.Kept.{kept_args};
 ghost use Rattle.std.specs.List.{range_with_len};
 ghost use Rattle.std.specs.Prelude.{◌≡◌, ◌<◌, ◌≤◌, Some, None, length, replicate, slice_get, IfOk, MatchOption};
 
+use crate::barren::has_barren_pair;
 use crate::facts::Facts;
 use crate::search::search;
 use crate::value::Scope;
@@ -38,7 +40,9 @@ fn no_objects(alloc: Global, count: usize) -> Result<Scope, NoMemory>
     })
 }
 
-/// The argument lists of the kept ground actions of a schema, in order, or none if there are more than `most`.
+/// The argument lists of the kept ground actions of a schema, in order, or none if there are more than `most`. Takes the
+/// time of one value of the precondition for each partial list that is reached and each object that is tried after it, and
+/// memory for no more than `most` lists.
 pub fn matches_within(
     alloc: Global,
     facts: &Facts,
@@ -54,6 +58,9 @@ pub fn matches_within(
     let count = schema.ranges.len();
     let order = declared_order(alloc, count)?;
     let mut scope = no_objects(alloc, count)?;
+    if has_barren_pair(facts, schema, &mut scope)? {
+        return Ok(Some(List::new(alloc)));
+    }
     let mut found = List::new(alloc);
     if search(alloc, facts, schema, &order, &mut scope, most, &mut found)? {
         Ok(Some(found))

@@ -18,7 +18,11 @@ use fond_text::list::List;
 use std::alloc::Global;
 
 /// Whether a condition may be true, whatever the objects are that are not known.
-fn is_possible(facts: &Facts, scope: &mut Scope, condition: &LCond) -> Result<bool, NoMemory>
+pub(crate) fn is_possible(
+    facts: &Facts,
+    scope: &mut Scope,
+    condition: &LCond,
+) -> Result<bool, NoMemory>
     ensures value { IfOk result (λ possible. possible ≡ not (is_no (partial_value facts.now.task.now scope.old.env.items condition.now))) }
     ensures same { OnOk result (scope.new.env.items ≡ scope.old.env.items) }
 {
