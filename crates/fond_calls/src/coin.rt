@@ -1,10 +1,9 @@
 //! A coin that is flipped, while it is round, until it shows heads.
 
+use fond_ast::task::LiftedTask;
 use fond_front::task::read_task;
 use fond_front::texts::TaskTexts;
 use fond_ground::ground::ground;
-use fond_plain::plain::plain;
-use fond_plain::task::PlainTask;
 use fond_task::task::Task;
 use fond_text::bytes::Bytes;
 use fond_text::fault::FrontError;
@@ -15,19 +14,18 @@ const DOMAIN: &[u8] =
 
 const PROBLEM: &[u8] = b"(define (problem c) (:domain coin) (:init (round)) (:goal (heads)))";
 
-/// The plain task of the coin.
-pub fn coin(alloc: Global) -> Result<PlainTask, FrontError> {
+/// The task of the coin.
+pub fn coin(alloc: Global) -> Result<LiftedTask, FrontError> {
     let texts = TaskTexts {
         domain: Bytes::copy(alloc, DOMAIN)?,
         problem: Bytes::copy(alloc, PROBLEM)?,
         side: Bytes::new(alloc),
     };
-    let task = read_task(alloc, &texts)?;
-    plain(alloc, &task)
+    read_task(alloc, &texts)
 }
 
 /// The ground task of the coin: the atom `(heads)` and the action `(flip)`.
 pub fn ground_coin(alloc: Global) -> Result<Task, FrontError> {
-    let plain = coin(alloc)?;
-    Ok(ground(alloc, &plain)?)
+    let task = coin(alloc)?;
+    ground(alloc, &task)
 }

@@ -1,7 +1,12 @@
+use fond_bridge::laws::{
+    ground_tasks_agree, ground_tasks_play, outcomes_lead_alike, stands_is_injective, texts_agree,
+    traces_agree,
+};
 use fond_game::laws::{layers_force, ranks_exclude_traps, refusals_hold};
-use fond_meaning::laws::{states_are_their_atoms, truth_is_local, tuples_lie_in_ranges};
-use fond_oneof::laws::{effects_have_outcomes, outcomes_are_choices, outcomes_are_fluent};
-use fond_plain::laws::{choices_are_given, successors_are_distinct, successors_come_next};
+use fond_meaning::laws::{
+    outcomes_come_next, states_are_their_atoms, successors_are_outcomes, truth_is_local,
+    truth_is_tested, tuples_lie_in_ranges,
+};
 use fond_reader::laws::{clean_domains_are_read, clean_problems_are_read};
 use fond_rules::laws::{earlier_rules_decide, selected_rule_is_policy};
 use fond_task::laws::{full_cubes_are_exact, images_are_sound, values_are_sound};
@@ -18,13 +23,13 @@ fn laws_of_files_can_be_called() {
 }
 
 #[test]
-fn laws_of_effects_can_be_called() {
-    choices_are_given();
-    successors_come_next();
-    successors_are_distinct();
-    outcomes_are_choices();
-    outcomes_are_fluent();
-    effects_have_outcomes();
+fn laws_of_grounding_can_be_called() {
+    ground_tasks_play();
+    ground_tasks_agree();
+    outcomes_lead_alike();
+    texts_agree();
+    stands_is_injective();
+    traces_agree();
 }
 
 #[test]
@@ -41,6 +46,9 @@ fn laws_of_meaning_can_be_called() {
     truth_is_local();
     states_are_their_atoms();
     tuples_lie_in_ranges();
+    truth_is_tested();
+    outcomes_come_next();
+    successors_are_outcomes();
 }
 
 #[test]

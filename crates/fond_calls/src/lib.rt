@@ -11,13 +11,13 @@ mod exec_tests;
 #[cfg(test)]
 mod grammar_tests;
 #[cfg(test)]
+mod ground_tests;
+#[cfg(test)]
 mod kinds_tests;
 #[cfg(test)]
 mod law_tests;
 #[cfg(test)]
 mod layers_tests;
-#[cfg(test)]
-mod lifted_tests;
 #[cfg(test)]
 mod lookup_tests;
 #[cfg(test)]

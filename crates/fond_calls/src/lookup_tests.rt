@@ -1,4 +1,5 @@
 use fond_lookup::text_index::TextIndex;
+use fond_lookup::tuple_index::TupleIndex;
 use std::test::Fail;
 
 #[test]
@@ -20,5 +21,15 @@ fn a_text_keeps_its_first_number(rt: HostRuntime) -> Result<(), Fail> {
     ] {
         assert_eq!(rt; index.find(text), number);
     }
+    Ok(())
+}
+
+#[test]
+fn a_list_keeps_its_first_number(rt: HostRuntime) -> Result<(), Fail> {
+    let mut index = TupleIndex::new(rt.alloc());
+    index.insert(Vec::from_slice(rt.alloc(), &[1, 2])?, 7)?;
+    index.insert(Vec::from_slice(rt.alloc(), &[1, 2])?, 8)?;
+    assert_eq!(rt; index.find(&[1, 2]), Some(7));
+    assert_eq!(rt; index.find(&[1]), None);
     Ok(())
 }

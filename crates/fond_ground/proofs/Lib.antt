@@ -1,5 +1,13 @@
-pub mod Forms
-pub mod Atoms
-pub mod Acts
+pub mod Indexed
+pub mod Odometer
 pub mod Signs
 pub mod Withins
+pub mod Literals
+pub mod Counts
+pub mod Grounded
+pub mod Zips
+pub mod Kept
+pub mod Actions
+pub mod Numbered
+pub mod Distincts
+pub mod Refusals

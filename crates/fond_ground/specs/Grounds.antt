@@ -1,43 +1,50 @@
--- The ground task of a task without objects.
-use Rattle.std.specs.Prelude.{◌≡◌, ℕ, Bool, true, false, not, List, [], ◌∷◌, None, map, filter, length, replicate}
-use Rattle.std.specs.List.{enumerate_from, AllZip}
-use Rattle.fond_task.specs.declared.form.Kleene.{Kleene}
-use Rattle.fond_task.specs.declared.form.Kleene.TheVariants.{No, Unknown, Yes}
+-- The ground task of a task.
+use Rattle.std.specs.Prelude.{◌≡◌, Bool, List, [], Option, Some, map, slice_get}
+use Rattle.std.specs.List.{AllZip, enumerate_from, flat_map}
+use Rattle.std.specs.FinSet as set
+use Rattle.fond_text.specs.declared.atom.GroundAction.{GroundAction}
+use Rattle.fond_ast.specs.declared.task.LSchema.{LSchema}
+use Rattle.fond_ast.specs.declared.task.LiftedTask.{LiftedTask}
+use Rattle.fond_meaning.specs.Outcomes.{Literal, outcomes}
+use Rattle.fond_meaning.specs.Solutions.{initial}
+use Rattle.fond_join.specs.Kept.{kept_args}
+use Rattle.fond_join.specs.Values.{condition_value}
 use Rattle.fond_task.specs.declared.task.Act.{Act}
+use Rattle.fond_task.specs.declared.task.Entry.{Entry}
 use Rattle.fond_task.specs.declared.task.Task.{Task}
-use Rattle.fond_plain.specs.declared.task.PlainSchema.{PlainSchema}
-use Rattle.fond_plain.specs.declared.task.PlainTask.{PlainTask}
-use Rattle.fond_ground.specs.Numbers.{fluent_numbers, fluent_atoms, is_initial}
-use Rattle.fond_ground.specs.Values.{condition_value, StandsFor}
-use Rattle.fond_oneof.specs.Outcomes.{outcome_lists}
-use Rattle.fond_ground.specs.Outcomes.{AreOutcomesOf}
+use Rattle.fond_task.specs.Values.{least, value}
+use Rattle.fond_ground.specs.Atoms.{atom_number, fluent_atoms}
+use Rattle.fond_ground.specs.Texts.{labels_of}
+use Rattle.fond_ground.specs.Values.{StandsFor, atom_value}
 
--- whether a value is No
-abbrev pub is_no : Kleene → Bool
-is_no No = true
-is_no value = false
+-- the kept ground actions: those of the schemas, schema by schema
+abbrev pub kept_actions : LiftedTask → List GroundAction
+kept_actions task = flat_map (λ item. map (λ objects. record { schema = item.0; objects = objects }) (kept_args task item.1)) (enumerate_from 0 task.schemas)
 
--- a schema gives an action unless its precondition is surely false with all fluent atoms unknown
-abbrev pub is_kept : PlainTask → PlainSchema → Bool
-is_kept task schema = not (is_no (condition_value task (replicate (length (fluent_numbers task)) None) schema.pre))
+-- an entry stands for a literal of an outcome: it has the number of its atom, and its sign, and on every cube its condition
+-- has the least of the values of the conditions around the literal
+pub record IsEntryOf (task : LiftedTask) (literal : Literal) (entry : Entry) : Type 0 where
+  pub numbered : atom_number task literal.atom ≡ Some entry.atom
+  pub signed : entry.add ≡ literal.add
+  pub valued : (cube : List (Option Bool)) → value cube entry.cond ≡ least (map (λ guard. condition_value (atom_value task cube) guard.env guard.condition) literal.guards)
 
--- a ground action stands for the schema of this number: it has its name, precondition, outcomes, and fairness
-pub record IsActOf (task : PlainTask) (number : ℕ) (schema : PlainSchema) (act : Act) : Type 0 where
-  pub named : act.ground ≡ record { schema = number; objects = [] }
-  pub pre : StandsFor task schema.pre act.pre
+-- the outcomes of an action stand for those of an effect: outcome by outcome, and entry by entry
+abbrev pub AreOutcomesOf : LiftedTask → List (List Literal) → List (List Entry) → Type 0
+AreOutcomesOf task = AllZip (AllZip (IsEntryOf task))
+
+-- an action of the ground task stands for a ground action: it has its name, precondition, fairness and outcomes
+pub record IsActOf (task : LiftedTask) (action : GroundAction) (act : Act) : Type 0 where
+  pub schema : LSchema
+  pub numbered : slice_get task.schemas action.schema ≡ Some schema
+  pub named : act.ground ≡ action
+  pub pre : StandsFor task action.objects schema.pre act.pre
   pub unfair : act.unfair ≡ schema.unfair
-  pub outcomes : AreOutcomesOf task (outcome_lists schema.effect) act.outcomes
+  pub outcomes : AreOutcomesOf task (outcomes action.objects schema.effect) act.outcomes
 
--- ground actions stand for numbered schemas, place by place
-abbrev pub AreActsOf : PlainTask → List (ℕ × PlainSchema) → List Act → Type 0
-AreActsOf task = AllZip (λ item. IsActOf task item.0 item.1)
-
--- a ground task stands for a task: it has its fluent atoms, kept actions, initial state, goal and names
-pub record IsGroundOf (task : PlainTask) (ground : Task) : Type 0 where
+-- a ground task stands for a task: it has its fluent atoms, its kept actions in order, its initial state, goal and names
+pub record IsGroundOf (task : LiftedTask) (ground : Task) : Type 0 where
   pub atoms : ground.atoms ≡ fluent_atoms task
-  pub acts : AreActsOf task (filter (λ item. is_kept task item.1) (enumerate_from 0 task.schemas)) ground.acts
-  pub init : ground.init ≡ map (is_initial task) (fluent_numbers task)
-  pub goal : StandsFor task task.goal ground.goal
-  pub predicates : ground.labels.predicates ≡ map (λ predicate. predicate.name) task.predicates
-  pub schemas : ground.labels.schemas ≡ map (λ schema. schema.name) task.schemas
-  pub objects : ground.labels.objects ≡ []
+  pub acts : AllZip (IsActOf task) (kept_actions task) ground.acts
+  pub init : ground.init ≡ map (set.contains (initial task)) (fluent_atoms task)
+  pub goal : StandsFor task [] task.goal ground.goal
+  pub labels : ground.labels ≡ labels_of task

@@ -1,6 +1,9 @@
-pub mod Numbers
+pub mod Atoms
 pub mod Values
-pub mod Outcomes
 pub mod Grounds
-pub mod Tables
+pub mod Faults
+pub mod Texts
+pub mod Places
 pub mod Signs
+pub mod Effects
+pub mod Limits

@@ -1,40 +1,26 @@
--- The three-valued value of a condition on a cube over the fluent atoms.
-use Rattle.std.specs.Prelude.{◌≡◌, ℕ, Bool, true, List, Option, Some, None, if◌then◌else◌}
+-- The values of conditions on cubes over the fluent atoms, and the ground conditions that stand for them.
+use Rattle.std.specs.Prelude.{◌≡◌, ℕ, Bool, true, List, Option, Some, None}
+use Rattle.fond_text.specs.declared.atom.Atom.{Atom}
+use Rattle.fond_ast.specs.declared.form.LCond.{LCond}
+use Rattle.fond_ast.specs.declared.task.LiftedTask.{LiftedTask}
+use Rattle.fond_join.specs.Kept.{static_value}
+use Rattle.fond_join.specs.Values.{condition_value}
 use Rattle.fond_state.specs.Cubes.{literal_at}
 use Rattle.fond_task.specs.declared.form.Form.{Form}
 use Rattle.fond_task.specs.declared.form.Kleene.{Kleene}
-use Rattle.fond_task.specs.declared.form.Kleene.TheVariants.{No, Unknown, Yes}
-use Rattle.fond_task.specs.Values.{greater, least, greatest, literal_value, value}
-use Rattle.fond_plain.specs.declared.form.PlainCond.{PlainCond}
-use Rattle.fond_plain.specs.declared.form.PlainCond.TheOpen.{PlainCond-F, Truth, Holds, And, Or, Not, Imply}
-use Rattle.fond_plain.specs.declared.form.PlainCond.TheFolds.{fold-PlainCond}
-use Rattle.fond_plain.specs.declared.task.PlainTask.{PlainTask}
-use Rattle.fond_ground.specs.Numbers.{atom_number, is_initial}
+use Rattle.fond_task.specs.Values.{literal_value, value}
+use Rattle.fond_ground.specs.Atoms.{atom_number}
 
--- the value of an atom on a cube: a fluent atom has the value that the cube gives it, a static atom its initial value
-abbrev pub known_value : Option ℕ → Bool → List (Option Bool) → Kleene
-known_value None initial cube = if initial then Yes else No
-known_value (Some number) initial cube = literal_value (literal_at cube number) true
+-- the value of the fluent atom of this number on a cube, or a value if there is no number
+abbrev pub value_or : List (Option Bool) → Kleene → Option ℕ → Kleene
+value_or cube static None = static
+value_or cube static (Some number) = literal_value (literal_at cube number) true
 
--- the opposite of a value
-abbrev pub opposite : Kleene → Kleene
-opposite No = Yes
-opposite Unknown = Unknown
-opposite Yes = No
+-- the value of an atom on a cube: a fluent atom has the value that the cube gives it, a static atom its own
+abbrev pub atom_value : LiftedTask → List (Option Bool) → Atom → Kleene
+atom_value task cube atom = value_or cube (static_value task atom) (atom_number task atom)
 
-abbrev pub condition_value_step : PlainTask → List (Option Bool) → PlainCond-F Kleene → Kleene
-condition_value_step task cube Truth = Yes
-condition_value_step task cube (Holds atom) = known_value (atom_number task atom.predicate) (is_initial task atom.predicate) cube
-condition_value_step task cube (And parts) = least parts.items
-condition_value_step task cube (Or parts) = greatest parts.items
-condition_value_step task cube (Not part) = opposite part.value
-condition_value_step task cube (Imply part other) = greater (opposite part.value) other.value
-
--- the value of a condition on a cube: a conjunction has the least value of its parts, a disjunction the greatest, a
--- negation the opposite of its part, and an implication the greater of the opposite of its first part and its second
-abbrev pub condition_value : PlainTask → List (Option Bool) → PlainCond → Kleene
-condition_value task cube = fold-PlainCond Kleene (condition_value_step task cube)
-
--- a ground condition stands for a condition if both have the same value on every cube
-abbrev pub StandsFor : PlainTask → PlainCond → Form → Type 0
-StandsFor task condition form = (cube : List (Option Bool)) → value cube form ≡ condition_value task cube condition
+-- a ground condition stands for a condition, where these are the objects of the variables around it, if both have the same
+-- value on every cube
+abbrev pub StandsFor : LiftedTask → List ℕ → LCond → Form → Type 0
+StandsFor task env condition form = (cube : List (Option Bool)) → value cube form ≡ condition_value (atom_value task cube) env condition

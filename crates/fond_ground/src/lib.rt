@@ -1,8 +1,12 @@
-//! From a task to its ground task: fluent atoms, kept actions with their outcomes, the initial state and the goal. So
-//! far only tasks without objects are grounded.
+//! From a task to its ground task: fluent atoms, kept actions with their outcomes, the initial state and the goal. A task
+//! that is too large is refused. That both are the same game is left to the crate above.
 #![tactic(auto)]
 
-mod act;
+mod acts;
+mod atoms;
+mod effects;
+mod forms;
 pub mod ground;
+mod junction;
 mod table;
-mod value;
+mod tuples;

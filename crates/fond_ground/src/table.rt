@@ -1,146 +1,95 @@
-//! The atom of each predicate: its number in the ground task and its initial truth value.
+//! The numbers of the fluent atoms and the initial atoms, each found by a hash of the atom's numbers.
 
-ghost use Rattle.fond_plain.specs.Within.{is_fluent};
-ghost use Rattle.fond_ground.specs.Numbers.{fluent_atoms as all_atoms, fluent_numbers, atom_number, is_initial as is_true_first};
-ghost use Rattle.fond_ground.specs.Tables.{numbered as numbered_by, counted as counted_by};
-ghost use Rattle.fond_plain.specs.Successors.{atom_of_number};
-ghost use Rattle.std.specs.Prelude.{◌≡◌, ◌+◌, ◌<◌, ◌^◌, ◌++◌, ◌∷◌, [], ℕ, false, None, map, length, slice_index_or, if◌then◌else◌, IfOk, IfSome, IfNone, OnOk};
+ghost use Rattle.fond_ast.specs.declared.form.LAtom.{LAtom};
+ghost use Rattle.fond_ground.specs.Atoms.{atom_number, fluent_atoms, is_same_atom};
+ghost use Rattle.fond_join.specs.Kept.{static_value};
+ghost use Rattle.fond_lookup.specs.Texts.{number_beside};
+ghost use Rattle.fond_meaning.specs.Conditions.{ground_atom, object_of};
+ghost use Rattle.fond_task.specs.Distinct.{atom_numbers};
+ghost use Rattle.fond_text.specs.declared.atom.Atom.{Atom};
+ghost use Rattle.std.specs.Prelude.{◌≡◌, ◌<◌, ◌^◌, length, position, IfOk, IfSome};
 
-use fond_plain::task::PlainTask;
-use fond_state::state::State;
-use fond_text::atom::{Atom, Atoms, Objects};
+use fond_ast::form::{LAtom, LTerm};
+use fond_ast::task::LiftedTask;
+use fond_join::facts::Facts;
+use fond_lookup::tuple_index::TupleIndex;
+use fond_text::atom::{Atom, Atoms};
 use fond_text::fault::NoMemory;
 use std::alloc::Global;
 
-/// A task with the number and the initial value of each predicate's atom. An atom has a number if its predicate is
-/// fluent.
+/// A task with its initial atoms, and with the number of each fluent atom by the numbers of its predicate and objects.
 #[derive(Drop)]
 pub(crate) struct Table<'a> {
-    pub(crate) task: &'a PlainTask,
-    numbers: Vec<Option<u32>>,
-    values: Vec<bool>,
-    ghost numbered: { (predicate : ℕ) → slice_index_or numbers.items predicate None ≡ atom_number task.now predicate },
-    ghost initial: { (predicate : ℕ) → slice_index_or values.items predicate false ≡ is_true_first task.now predicate },
+    pub(crate) facts: Facts<'a>,
+    numbers: TupleIndex,
+    ghost numbered: { (atom : Atom) → number_beside numbers (atom_numbers atom) ≡ atom_number facts.task.now atom },
 }
 
-impl<'a> Table<'a> {
-    /// The table of a task. Takes time and memory proportional to its predicates and initial atoms.
-    pub(crate) fn of(alloc: Global, task: &'a PlainTask) -> Result<Table<'a>, NoMemory>
-        ensures { IfOk result (λ table. table.task.now ≡ task.now) }
-    {
-        let numbers = atom_numbers(alloc, task)?;
-        let values = initial_values(alloc, task)?;
-        Ok(Table {
-            task,
-            numbers,
-            values,
-        })
-    }
-
-    /// The number of a predicate's atom, if the predicate is fluent.
-    pub(crate) fn number(&self, predicate: u32) -> Option<u32>
-        ensures number { result ≡ atom_number self.now.task.now predicate }
-        ensures within { IfSome result (λ number. number < length (fluent_numbers self.now.task.now)) }
-        ensures fluent { IfNone result (is_fluent self.now.task.now.predicates predicate ≡ false) }
-    {
-        number_at(&self.numbers, predicate)
-    }
-
-    /// Whether a predicate's atom is true initially.
-    pub(crate) fn is_initial(&self, predicate: u32) -> bool
-        ensures { result ≡ is_true_first self.now.task.now predicate }
-    {
-        self.values
-            .get(predicate as usize)
-            .copied()
-            .unwrap_or(false)
-    }
-}
-
-/// The number at a place, if there is one.
-fn number_at(numbers: &[Option<u32>], at: u32) -> Option<u32>
-    ensures { result ≡ slice_index_or numbers.now at None }
+/// The numbers of an atom: that of its predicate, and those of its objects.
+fn numbers_of(alloc: Global, atom: &Atom) -> Result<Vec<u32>, NoMemory>
+    ensures { IfOk result (λ numbers. numbers.items ≡ atom_numbers atom.now) }
 {
-    match numbers.get(at as usize) {
-        Some(number) => *number,
-        None => None,
-    }
+    let mut numbers = Vec::with_capacity(alloc, atom.objects.len().saturating_add(1))?;
+    numbers.push(atom.predicate)?;
+    numbers.extend_from_slice(atom.objects.as_slice())?;
+    Ok(numbers)
 }
 
-/// The number of the next atom, if its predicate is fluent.
-fn numbered(fluent: bool, count: u32) -> Option<u32>
-    ensures { result ≡ numbered_by fluent count }
+/// The atoms by their numbers, each with its index.
+#[tactic(auto, using(fond_lookup::proofs::Firsts::has_more))]
+fn indexed(alloc: Global, atoms: &Atoms) -> Result<TupleIndex, NoMemory>
+    requires { length atoms.now < 2 ^ 32 }
+    ensures { IfOk result (λ numbers. (atom : Atom) → number_beside numbers (atom_numbers atom) ≡ position (is_same_atom atom) atoms.now) }
 {
-    if fluent { Some(count) } else { None }
-}
-
-/// The number of atoms after a predicate.
-fn counted(fluent: bool, count: u32) -> u32
-    requires { count + 1 < 2 ^ 32 }
-    ensures { result ≡ counted_by fluent count }
-{
-    if fluent { count + 1 } else { count }
-}
-
-/// The number of the atom of each fluent predicate.
-fn atom_numbers(alloc: Global, task: &PlainTask) -> Result<Vec<Option<u32>>, NoMemory>
-    ensures { IfOk result (λ v. (predicate : ℕ) → slice_index_or v.items predicate None ≡ atom_number task.now predicate) }
-{
-    let mut numbers = Vec::with_capacity(alloc, task.predicates.len())?;
-    let mut count = 0;
-    for i in 0..task.predicates.len() {
-        let fluent = task.predicates.get(i).fluent;
-        numbers.push(numbered(fluent, count))?;
-        count = counted(fluent, count);
+    let mut numbers = TupleIndex::new(alloc);
+    for i in 0..atoms.len() {
+        numbers.insert(numbers_of(alloc, atoms.get(i))?, i as u32)?;
     }
     Ok(numbers)
 }
 
-/// Appends the atom of a predicate if the predicate is fluent.
-fn put_atom(alloc: Global, atoms: &mut Atoms, predicate: u32, fluent: bool) -> Result<(), NoMemory>
-    ensures { OnOk result (atoms.new ≡ atoms.old ++ (if fluent then atom_of_number predicate ∷ [] else [])) }
+/// The object of a term, where these are the objects of the variables around it.
+pub(crate) fn object(term: LTerm, env: &[u32]) -> u32
+    ensures { result ≡ object_of env.now term }
 {
-    if !fluent {
-        return Ok(());
+    match term {
+        LTerm::Object(number) => number,
+        LTerm::Variable(number) => env.get(number as usize).copied().unwrap_or(0),
     }
-    atoms.push(Atom {
-        predicate,
-        objects: Objects::new(alloc),
-    })
 }
 
-/// The atoms of the fluent predicates, in order.
-pub(crate) fn fluent_atoms(alloc: Global, task: &PlainTask) -> Result<Atoms, NoMemory>
-    ensures named { IfOk result (λ atoms. atoms ≡ all_atoms task.now) }
-    ensures few { IfOk result (λ atoms. length atoms < 2 ^ 32) }
+/// The numbers of the ground atom of an atom.
+pub(crate) fn ground_numbers(alloc: Global, atom: &LAtom, env: &[u32]) -> Result<Vec<u32>, NoMemory>
+    ensures { IfOk result (λ numbers. numbers.items ≡ atom_numbers (ground_atom env.now atom.now)) }
 {
-    let mut atoms = Atoms::new(alloc);
-    for i in 0..task.predicates.len() {
-        put_atom(alloc, &mut atoms, i as u32, task.predicates.get(i).fluent)?;
+    let mut numbers = Vec::with_capacity(alloc, atom.terms.len().saturating_add(1))?;
+    numbers.push(atom.predicate)?;
+    for term in atom.terms.as_slice() {
+        numbers.push(object(*term, env))?;
     }
-    Ok(atoms)
+    Ok(numbers)
 }
 
-/// Whether the atom of each predicate is true initially.
-fn initial_values(alloc: Global, task: &PlainTask) -> Result<Vec<bool>, NoMemory>
-    ensures { IfOk result (λ v. (predicate : ℕ) → slice_index_or v.items predicate false ≡ is_true_first task.now predicate) }
-{
-    let mut values = vec![in alloc; false; task.predicates.len()]?;
-    for i in 0..task.init.len() {
-        let number = task.init.get(i).predicate;
-        values[number as usize] = true;
+impl<'a> Table<'a> {
+    /// The table of a task and its fluent atoms. Takes time and memory in the size of the fluent and the initial atoms.
+    pub(crate) fn of(
+        alloc: Global,
+        task: &'a LiftedTask,
+        atoms: &Atoms,
+    ) -> Result<Table<'a>, NoMemory>
+        requires few { length atoms.now < 2 ^ 32 }
+        requires all { atoms.now ≡ fluent_atoms task.now }
+        ensures { IfOk result (λ table. table.facts.task.now ≡ task.now) }
+    {
+        let facts = Facts::of(alloc, task)?;
+        let numbers = indexed(alloc, atoms)?;
+        Ok(Table { facts, numbers })
     }
-    Ok(values)
-}
 
-/// The initial state: the initial values of these atoms, in order.
-pub(crate) fn first_state(alloc: Global, table: &Table, atoms: &Atoms) -> Result<State, NoMemory>
-    requires { length atoms.now < 2 ^ 32 }
-    ensures { IfOk result (λ state. state ≡ map (λ atom. is_true_first table.now.task.now atom.predicate) atoms.now) }
-{
-    let mut state = State::new(alloc, atoms.len() as u32)?;
-    for i in 0..atoms.len() {
-        state.set(i as u32, table.is_initial(atoms.get(i).predicate));
+    /// The number of the atom with these numbers, if it is fluent.
+    pub(crate) fn number(&self, numbers: &[u32]) -> Option<u32>
+        ensures number { (atom : Atom) → numbers.now ≡ atom_numbers atom → result ≡ atom_number self.now.facts.task.now atom }
+    {
+        self.numbers.find(numbers)
     }
-    Ok(state)
 }

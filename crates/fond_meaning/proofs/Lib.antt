@@ -1,6 +1,12 @@
 pub mod Atoms
 pub mod Bools
+pub mod Changes
+pub mod Choosing
+pub mod Come
+pub mod Given
 pub mod Local
 pub mod Members
 pub mod Occurs
+pub mod Once
+pub mod Tested
 pub mod Tuples

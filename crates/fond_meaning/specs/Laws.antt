@@ -1,17 +1,24 @@
 -- The laws of the meaning of tasks.
-use Rattle.std.specs.Prelude.{◌≡◌, ◌↔◌, ◌==◌, ◌||◌, ℕ, Bool, false, List, Contains, IsTrue, length, map, slice_index_or}
+use Rattle.std.specs.Prelude.{◌≡◌, ◌↔◌, ◌==◌, ◌||◌, ℕ, Bool, false, List, Some, Contains, IsTrue, length, map, slice_get, slice_index_or}
 use Rattle.std.specs.List.{list_any}
 use Rattle.std.specs.FinSet as set
-use Rattle.fond_text.specs.Lists.{each_passes}
+use Rattle.fond_text.specs.Lists.{AreDistinct, each_passes}
 use Rattle.fond_text.specs.declared.atom.Atom.{Atom}
+use Rattle.fond_text.specs.declared.atom.GroundAction.{GroundAction}
 use Rattle.fond_ast.specs.Ranges.{is_among}
 use Rattle.fond_ast.specs.declared.form.LTerm.{LTerm}
 use Rattle.fond_ast.specs.declared.form.LTerm.TheVariants.{Object, Variable}
 use Rattle.fond_ast.specs.declared.form.LCond.{LCond}
 use Rattle.fond_ast.specs.declared.form.LCond.TheOpen.{LCond-F, Truth, Holds as HoldsAtom, Equal, And, Or, Not, Imply, Forall, Exists}
 use Rattle.fond_ast.specs.declared.form.LCond.TheFolds.{fold-LCond}
+use Rattle.fond_ast.specs.declared.form.LEffect.{LEffect}
+use Rattle.fond_ast.specs.declared.task.LSchema.{LSchema}
+use Rattle.fond_ast.specs.declared.task.LiftedTask.{LiftedTask}
 use Rattle.fond_meaning.specs.States.{State}
 use Rattle.fond_meaning.specs.Conditions.{tuples, Holds}
+use Rattle.fond_meaning.specs.Truths.{holds}
+use Rattle.fond_meaning.specs.Outcomes.{outcomes, state_after, successors}
+use Rattle.fond_meaning.specs.Solutions.{IsApplicable, IsNext}
 
 -- whether a term is the variable of this number
 abbrev pub is_variable : ℕ → LTerm → Bool
@@ -68,3 +75,15 @@ StatesAreTheirAtoms = (state other : State) → ((atom : Atom) → set.contains 
 -- the lists of one object of each range are those whose objects lie in the ranges, place by place
 abbrev pub TuplesLieInRanges : Type 0
 TuplesLieInRanges = (ranges : List (List ℕ)) (objects : List ℕ) → Contains (tuples ranges) objects ↔ IsTrue (each_passes (map is_among ranges) objects)
+
+-- a condition holds if and only if the test says so
+abbrev pub TruthIsTested : Type 0
+TruthIsTested = (state : State) (env : List ℕ) (condition : LCond) → Holds state env condition ↔ IsTrue (holds state env condition)
+
+-- if an action is applicable in a state, the states to which the outcomes of its effect lead are those that may come next
+abbrev pub OutcomesComeNext : Type 0
+OutcomesComeNext = (task : LiftedTask) (state : State) (action : GroundAction) (schema : LSchema) → slice_get task.schemas action.schema ≡ Some schema → IsApplicable task state action → (next : State) → IsNext task state action next ↔ Contains (map (state_after state) (outcomes action.objects schema.effect)) next
+
+-- the successors of a state are the states to which the outcomes of an effect lead, and none occurs twice
+abbrev pub SuccessorsAreOutcomes : Type 0
+SuccessorsAreOutcomes = (state : State) (env : List ℕ) (effect : LEffect) → AreDistinct (successors state env effect) × ((next : State) → Contains (successors state env effect) next ↔ Contains (map (state_after state) (outcomes env effect)) next)

@@ -1,5 +1,7 @@
 pub mod States
 pub mod Conditions
 pub mod Effects
+pub mod Truths
+pub mod Outcomes
 pub mod Solutions
 pub mod Laws

@@ -1,5 +1,5 @@
+pub mod Counted
+pub mod Ended
+pub mod Forms
 pub mod Lists
-pub mod Changes
-pub mod Choices
-pub mod Fluents
-pub mod Nonempty
+pub mod Meanings

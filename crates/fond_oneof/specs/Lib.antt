@@ -1,5 +1,4 @@
 pub mod Outcomes
-pub mod Changes
-pub mod Fluents
-pub mod Nonempty
-pub mod Laws
+pub mod Counts
+pub mod Within
+pub mod Shown

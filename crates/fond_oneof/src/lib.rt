@@ -1,7 +1,10 @@
-//! The outcomes of effects. An effect has a list of outcomes, each a list of literals; this crate lists them in order.
-//! Its law says that they are the choices that the effect has by the meaning of tasks. The conditions of literals and
-//! the entries of ground actions are left to the crates above.
+//! The outcomes of ground effects. An effect built of literals, conjunctions, choices and conditions has a list of
+//! outcomes, each a list of entries; this crate counts and lists them. How effects come from tasks is left to the crates
+//! above.
 #![tactic(auto)]
 
-pub mod laws;
+mod count;
+pub mod effect;
+mod form;
+mod list;
 pub mod outcome;

@@ -1,118 +1,53 @@
-//! The outcomes of an effect, each as a list of literals.
+//! Counting and listing the outcomes of a ground effect.
 
-ghost use Rattle.fond_oneof.specs.Outcomes.{outcome_lists, pairs};
-ghost use Rattle.std.specs.Prelude.{◌≡◌, [], ◌∷◌, ◌++◌, map, IfOk, OnOk};
+ghost use Rattle.fond_oneof.specs.Counts.{IsTooMany, OneofFails};
+ghost use Rattle.fond_oneof.specs.Outcomes.{outcome_lists, AreOutcomesOf};
+ghost use Rattle.fond_oneof.specs.Within.{has_members, is_effect_over};
+ghost use Rattle.fond_task.specs.Within.{is_entry_within};
+ghost use Rattle.fond_text.specs.declared.code.TheConstants.{MOST_OUTCOMES};
+ghost use Rattle.std.specs.List.{list_all};
+ghost use Rattle.std.specs.Prelude.{ℕ, ◌<◌, ◌≤◌, IsTrue, length, IfOk, IfErr};
 
-use fond_plain::form::{PlainAtom, PlainEffect};
+use crate::count::count;
+use crate::effect::GroundEffect;
+use crate::list::list;
+use fond_task::task::Outcomes;
+use fond_text::code::MOST_OUTCOMES;
 use fond_text::fault::NoMemory;
 use fond_text::list::List;
 use std::alloc::Global;
 
-/// A literal: the atom of a predicate, to be added or deleted.
-#[derive(Clone, Copy)]
-pub struct Literal {
-    pub predicate: u32,
-    pub add: bool,
+/// Why the outcomes of an effect are not listed: there are too many of them, and this is their number, or 1,000,000 if
+/// there are more; or memory ran out.
+#[derive(Debug, Drop)]
+pub enum OneofFault {
+    TooMany(u64),
+    NoMemory,
 }
 
-/// The literals of one outcome, in the order of the text.
-pub type Outcome = List<Literal>;
+impl From<NoMemory> for OneofFault {
+    ghost use Rattle.fond_oneof.specs.declared.outcome.OneofFault.TheVariants.{NoMemory};
+    ghost use Rattle.std.specs.Prelude.{◌≡◌};
 
-/// The list of one outcome.
-fn alone(alloc: Global, outcome: Outcome) -> Result<Vec<Outcome>, NoMemory>
-    ensures { IfOk result (λ v. v.items ≡ outcome ∷ []) }
-{
-    let mut all = Vec::new(alloc);
-    all.push(outcome)?;
-    Ok(all)
-}
+    ghost from_gives = { λ _ e. e ≡ NoMemory };
 
-/// The list of the one outcome of a literal.
-fn alone_literal(alloc: Global, atom: PlainAtom, add: bool) -> Result<Vec<Outcome>, NoMemory>
-    ensures { IfOk result (λ v. v.items ≡ (record { predicate = atom.predicate; add = add } ∷ []) ∷ []) }
-{
-    let mut outcome = Outcome::new(alloc);
-    outcome.push(Literal {
-        predicate: atom.predicate,
-        add,
-    })?;
-    alone(alloc, outcome)
-}
-
-/// A new outcome: the literals of the first one, then those of the second.
-fn with(alloc: Global, first: &Outcome, second: &Outcome) -> Result<Outcome, NoMemory>
-    ensures { IfOk result (λ o. o ≡ first.now ++ second.now) }
-{
-    let mut both = Outcome::copy(alloc, first.as_slice())?;
-    both.extend(second.as_slice())?;
-    Ok(both)
-}
-
-/// Appends the literals of `more` to each outcome, in place.
-fn extended(mut all: Vec<Outcome>, more: &Outcome) -> Result<Vec<Outcome>, NoMemory>
-    ensures { IfOk result (λ v. v.items ≡ map (λ o. o ++ more.now) all.items) }
-{
-    for outcome in all.iter_mut() {
-        outcome.extend(more.as_slice())?;
+    fn from(_: NoMemory) -> OneofFault {
+        OneofFault::NoMemory
     }
-    Ok(all)
 }
 
-/// Appends to `all` the outcome joined with each of `more`.
-fn put_joined(
-    alloc: Global,
-    all: &mut Vec<Outcome>,
-    outcome: &Outcome,
-    more: &[Outcome],
-) -> Result<(), NoMemory>
-    ensures { OnOk result (all.new.items ≡ all.old.items ++ map (λ o. outcome.now ++ o) more.now) }
+/// The outcomes of an effect, in order: the last part of a conjunction varies fastest, and a choice lists those of its
+/// members.
+pub fn outcomes(alloc: Global, effect: &GroundEffect) -> Result<Outcomes, OneofFault>
+    ensures listed { IfOk result (AreOutcomesOf (outcome_lists effect.now)) }
+    ensures few { IfOk result (λ all. length all ≤ MOST_OUTCOMES) }
+    ensures some { IsTrue (has_members effect.now) → IfOk result (λ all. 0 < length all) }
+    ensures within { (atoms : ℕ) → IsTrue (is_effect_over atoms effect.now) → IfOk result (λ all. IsTrue (list_all (list_all (is_entry_within atoms)) all)) }
+    ensures many { IfErr result (OneofFails (IsTooMany effect.now)) }
 {
-    for other in more {
-        all.push(with(alloc, outcome, other)?)?;
+    let number = count(effect);
+    if number > MOST_OUTCOMES as u64 {
+        return Err(OneofFault::TooMany(number));
     }
-    Ok(())
-}
-
-/// Each outcome of the first list joined with each of the second, which varies faster. A single second outcome is
-/// joined in place, so that a conjunction of literals takes time proportional to its length.
-fn joined(alloc: Global, first: Vec<Outcome>, second: &[Outcome]) -> Result<Vec<Outcome>, NoMemory>
-    ensures { IfOk result (λ v. v.items ≡ pairs first.items second.now) }
-{
-    if second.len() == 1 {
-        return extended(first, &second[0]);
-    }
-    let mut all = Vec::new(alloc);
-    for outcome in &first {
-        put_joined(alloc, &mut all, outcome, second)?;
-    }
-    Ok(all)
-}
-
-/// The outcomes of an effect, in order: the last member of a conjunction varies fastest, and a choice lists those of
-/// its members. Takes memory proportional to the sum of their lengths, and time proportional to that sum for each level
-/// of nesting.
-pub fn outcomes(alloc: Global, effect: &PlainEffect) -> Result<Vec<Outcome>, NoMemory>
-    ensures { IfOk result (λ v. v.items ≡ outcome_lists effect.now) }
-{
-    match effect {
-        PlainEffect::Nothing => alone(alloc, Outcome::new(alloc)),
-        PlainEffect::Add(atom) => alone_literal(alloc, *atom, true),
-        PlainEffect::Delete(atom) => alone_literal(alloc, *atom, false),
-        PlainEffect::And(parts) => {
-            let mut all = alone(alloc, Outcome::new(alloc))?;
-            for part in parts {
-                let second = outcomes(alloc, part)?;
-                all = joined(alloc, all, &second)?;
-            }
-            Ok(all)
-        }
-        PlainEffect::OneOf(parts) => {
-            let mut all = Vec::new(alloc);
-            for part in parts {
-                let mut more = outcomes(alloc, part)?;
-                all.append(&mut more)?;
-            }
-            Ok(all)
-        }
-    }
+    Ok(List::of(list(alloc, effect)?))
 }

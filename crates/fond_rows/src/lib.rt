@@ -10,6 +10,8 @@ mod atom_tests;
 #[cfg(test)]
 mod domain_tests;
 #[cfg(test)]
+mod ground_tests;
+#[cfg(test)]
 mod name_tests;
 #[cfg(test)]
 mod order_tests;

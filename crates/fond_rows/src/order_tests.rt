@@ -60,7 +60,7 @@ const SIDES: [(&str, [&str; 3], &str); 6] = [
 ];
 
 /// The texts of three files, each with the line of their first fault of names.
-const FIRST: [(&str, [&str; 3], &str); 17] = [
+const FIRST: [(&str, [&str; 2], &str); 17] = [
     (
         "a late fault of the domain comes before an early one of the problem",
         [
@@ -197,22 +197,13 @@ const FIRST: [(&str, [&str; 3], &str); 17] = [
         "refused domain 1 88 F17\n",
     ),
     (
-        "faults of names come before the refusal of a task that is not plain",
+        "the faults of names are those of the whole language",
         [
             "(define (domain x) (:predicates (p)) (:action a :precondition (forall (?x) (p)) :effect (when (p) (p))))",
             "(define (problem y) (:domain x) (:goal (p)) (:init (q)))",
             "",
         ],
         "refused problem 1 53 F15\n",
-    ),
-    (
-        "a task that is not plain, and has no fault, is refused at its domain",
-        [
-            "; lamps\n  (define (domain x) (:types t) (:predicates (p ?x - t)) (:action a :parameters (?y - t) :effect (p ?y)))",
-            "(define (problem y) (:domain x) (:objects o - t) (:goal (p o)))",
-            "A a",
-        ],
-        "refused domain 2 3 F24\n",
     ),
 ];
 

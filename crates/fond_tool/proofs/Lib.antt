@@ -1,8 +1,5 @@
-mod ActionTrees
 mod Ends
 mod Fitting
-mod Found
 mod Lists
 mod Rejections
 mod Runs
-mod Successors

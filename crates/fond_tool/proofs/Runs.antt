@@ -1,35 +1,72 @@
--- What `run` replies where it does not end with a trace.
-use Rattle.std.proofs.Common.{◌≡◌, ℕ, Bool, List, subst, sym}
+-- What `run` replies where it does not end with a refusal of its files.
+use Rattle.std.proofs.Common.{◌≡◌, ℕ, ◌∙◌, ◌++◌, Bool, true, false, List, [], length, refl, sym, ap, subst, true≢false}
+use Rattle.std.specs.Prelude.{if◌then◌else◌}
+use Rattle.fond_ast.specs.declared.task.LiftedTask.{LiftedTask}
+use Rattle.fond_bridge.specs.Games.{IsState}
+use Rattle.fond_bridge.specs.Stands.{stands}
+use Rattle.fond_bridge.proofs.Between.{ground-tasks-play, texts-agree, traces-agree}
+use Rattle.fond_bridge.proofs.Places.{same_tests}
 use Rattle.fond_cert.specs.declared.error.CertError.{CertError}
 use Rattle.fond_cert.specs.declared.error.CertError.TheVariants as cert_error
 use Rattle.fond_cert.specs.Refusals.{CertRefuses}
 use Rattle.fond_cert.specs.Faults.{IsPolicyFault}
 use Rattle.fond_cert.specs.Texts.{IsPolicyText}
-use Rattle.fond_exec.specs.Traces.{Trace}
+use Rattle.fond_exec.specs.Traces as steps
 use Rattle.fond_front.specs.declared.texts.TaskTexts.{TaskTexts}
 use Rattle.fond_game.specs.declared.rule.Rule.{Rule}
+use Rattle.fond_ground.specs.Grounds.{IsGroundOf}
+use Rattle.fond_ground.specs.Texts.{state_text}
+use Rattle.fond_meaning.specs.Truths.{holds}
+use Rattle.fond_meaning.proofs.Tested.{truth-is-tested}
 use Rattle.fond_exec.specs.declared.script.ScriptError.{ScriptError}
 use Rattle.fond_exec.specs.declared.script.ScriptError.TheVariants as script_error
 use Rattle.fond_exec.specs.Scripts.{IsScript, IsScriptFault, ScriptRefuses}
 use Rattle.fond_task.specs.declared.task.Task.{Task}
+use Rattle.fond_task.specs.Texts as ground_texts
+use Rattle.fond_task.specs.Truth.{is_true}
+use Rattle.fond_task.proofs.Indices.{length-by_index}
+use Rattle.fond_tool.specs.declared.status.Status.TheVariants.{Done, Stopped}
+use Rattle.fond_tool.specs.GroundRuns.{ground_reply}
 use Rattle.fond_tool.specs.Rejections.{Rejects, of_cert, of_script}
 use Rattle.fond_tool.specs.Replies.{Reply, trace_reply}
-use Rattle.fond_tool.specs.Runs.{IsGroundTaskOf, RunReply}
+use Rattle.fond_tool.specs.Runs.{DescribeGround, RunReply}
 
-module _ (texts : TaskTexts) (cert script : List ℕ) (task : Task) (of : IsGroundTaskOf texts task) where
+-- the last state of a trace has a truth value for each atom
+last_long : (game : Task) (rules : List Rule) (values : List Bool) (numbers lines : List ℕ) (last : List Bool) → IsState game values → steps.Trace game rules values numbers lines last → IsState game last
+last_long game rules values numbers lines last state (steps.goal at left is) = state
+last_long game rules values numbers lines last state (steps.ended at open_) = state
+last_long game rules values numbers lines last state (steps.stuck at outcome left open_ none) = state
+last_long game rules values numbers lines last state (steps.past at outcome left number act open_ chosen over) = state
+last_long game rules values numbers lines last state (steps.took at outcome left rule number next text end taken later) =
+    last_long game rules next left text end (ap length taken.given ∙ length-by_index _ at ∙ state) later
+
+-- the reply by the ground task is that by the task
+reply_alike : (task : LiftedTask) (game : Task) (lines : List ℕ) (last : List Bool) → IsGroundOf task game → IsState game last → ground_reply game lines last ≡ trace_reply task lines (stands task last)
+reply_alike task game lines last is state = λ i. record {
+  text = lines ++ texts-agree task game last is state i;
+  status = if same i then Done else Stopped;
+}
+  where
+    same : is_true last game.goal ≡ holds (stands task last) [] task.goal
+    same = same_tests _ _
+    (λ told. (truth-is-tested (stands task last) [] task.goal).0 (((ground-tasks-play task game is).goal last state).0 told))
+    (λ told. ((ground-tasks-play task game is).goal last state).1 ((truth-is-tested (stands task last) [] task.goal).1 told))
+
+module _ (texts : TaskTexts) (cert script : List ℕ) (task : LiftedTask) (game : Task) (of : DescribeGround texts task game) where
   -- a certificate with a fault is rejected with it
-  pub cert_rejected : (error : CertError) → CertRefuses (IsPolicyFault task cert) error → Rejects (RunReply texts cert script) (of_cert error)
-  cert_rejected (cert_error.Refused code byte) fault = RunReply.bad_cert task code byte of fault
+  pub cert_rejected : (error : CertError) → CertRefuses (IsPolicyFault game cert) error → Rejects (RunReply texts cert script) (of_cert error)
+  cert_rejected (cert_error.Refused code byte) fault = RunReply.bad_cert task game code byte of fault
   cert_rejected cert_error.NoMemory fault = tt
 
-  module _ (rules : List Rule) (reach : ℕ) (read : IsPolicyText task rules reach cert) where
+  module _ (rules : List Rule) (reach : ℕ) (read : IsPolicyText game rules reach cert) where
     -- a script with a fault is rejected with it
     pub script_rejected : (error : ScriptError) → ScriptRefuses (IsScriptFault script) error → Rejects (RunReply texts cert script) (of_script error)
-    script_rejected (script_error.Refused byte) fault = RunReply.bad_script task rules reach byte of read fault
+    script_rejected (script_error.Refused byte) fault = RunReply.bad_script task game rules reach byte of read fault
     script_rejected script_error.NoMemory fault = tt
 
     -- the trace over the numbers of the script is the reply
     pub traced : (numbers : List ℕ) (reply : Reply) → IsScript script numbers →
-        (lines : List ℕ) × (last : List Bool) × Trace task rules task.init numbers lines last × (reply ≡ trace_reply task lines last) → RunReply texts cert script reply
+        (lines : List ℕ) × (last : List Bool) × steps.Trace game rules game.init numbers lines last × (reply ≡ ground_reply game lines last) → RunReply texts cert script reply
     traced numbers reply spelled h =
-        subst (RunReply texts cert script) (sym h.3) (RunReply.ran task rules reach numbers h.0 h.1 of read spelled h.2)
+        subst (RunReply texts cert script) (sym (h.3 ∙ reply_alike task game h.0 h.1 of.1 (last_long game rules game.init numbers h.0 h.1 game.init_long h.2)))
+        (RunReply.ran task game rules reach numbers h.0 (stands task h.1) of read spelled (traces-agree task game rules numbers h.0 h.1 of.1 h.2))

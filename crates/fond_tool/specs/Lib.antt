@@ -1,11 +1,11 @@
-pub mod Actions
 pub mod Commands
 pub mod Ends
 pub mod Fetches
+pub mod GroundRuns
 pub mod Numbers
-pub mod Plain
 pub mod Rejections
 pub mod Replies
 pub mod Runs
 pub mod Successors
+pub mod Tasks
 pub mod Words

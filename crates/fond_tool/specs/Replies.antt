@@ -1,12 +1,13 @@
 -- Replies: a text that is to be written, and the status to end with once it is.
-use Rattle.std.specs.Prelude.{ℕ, List, ◌++◌, Bool, codes, if◌then◌else◌}
+use Rattle.std.specs.Prelude.{ℕ, List, [], ◌++◌, codes, if◌then◌else◌}
 use Rattle.std.specs.Fmt.{decimal}
 use Rattle.fond_text.specs.declared.fault.Fault.{Fault}
 use Rattle.fond_text.specs.declared.place.FileKind.{FileKind}
 use Rattle.fond_text.specs.declared.place.FileKind.TheVariants.{Domain, Problem, Side}
-use Rattle.fond_task.specs.declared.task.Task.{Task}
-use Rattle.fond_task.specs.Texts.{state_text}
-use Rattle.fond_task.specs.Truth.{is_true}
+use Rattle.fond_ast.specs.declared.task.LiftedTask.{LiftedTask}
+use Rattle.fond_meaning.specs.States.{State}
+use Rattle.fond_meaning.specs.Truths.{holds}
+use Rattle.fond_ground.specs.Texts.{state_text}
 use Rattle.fond_tool.specs.declared.status.Status.{Status}
 use Rattle.fond_tool.specs.declared.status.Status.TheVariants.{Done, Refused, Rejected, Stopped}
 
@@ -45,9 +46,9 @@ abbrev pub script_reply : ℕ → Reply
 script_reply byte = line_reply (codes "rejected S1 at " ++ decimal byte) Rejected
 
 -- the status at the end of a run: done in a state that is a goal, and otherwise stopped
-abbrev pub end_status : Task → List Bool → Status
-end_status task last = if is_true last task.goal then Done else Stopped
+abbrev pub end_status : LiftedTask → State → Status
+end_status task last = if holds last [] task.goal then Done else Stopped
 
 -- the lines of a trace and the state in which it ends
-abbrev pub trace_reply : Task → List ℕ → List Bool → Reply
+abbrev pub trace_reply : LiftedTask → List ℕ → State → Reply
 trace_reply task lines last = record { text = lines ++ state_text task last; status = end_status task last }

@@ -5,7 +5,7 @@ use Rattle.fond_tool.specs.declared.words.Command.{Command}
 use Rattle.fond_tool.specs.declared.words.Command.TheVariants.{Succ, Run}
 use Rattle.fond_tool.specs.declared.words.WordKind.{WordKind}
 use Rattle.fond_tool.specs.declared.words.WordKind.TheVariants.{File, Action}
-use Rattle.fond_tool.specs.Actions.{IsAction}
+use Rattle.fond_succ.specs.Actions.{IsAction}
 
 -- the word of a command
 abbrev pub word_of : Command → List ℕ

@@ -3,14 +3,13 @@
 //! replies mean is left to the layers below.
 #![tactic(auto)]
 
-mod action;
 mod answer;
 mod commands;
 mod fetch;
-mod plain_task;
 mod rejection;
 mod run;
 pub mod status;
 mod succ;
+mod task_files;
 pub mod tool;
 mod words;

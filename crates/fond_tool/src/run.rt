@@ -3,19 +3,18 @@
 ghost use Rattle.fond_exec.specs.Traces.{Trace};
 ghost use Rattle.fond_rules.specs.Belongs.{BelongTo};
 ghost use Rattle.fond_tool.specs.Rejections.{Rejects};
-ghost use Rattle.fond_tool.specs.Replies.{trace_reply};
+ghost use Rattle.fond_tool.specs.GroundRuns.{ground_reply};
 ghost use Rattle.fond_tool.specs.Runs.{RunReply};
 ghost use Rattle.std.specs.Prelude.{◌≡◌, ℕ, Bool, List, IfOk, IfErr};
 
 use crate::answer::Answer;
-use crate::plain_task::read_plain;
+use crate::task_files::read_files;
 use crate::rejection::Rejection;
 use crate::status::Status;
 use fond_cert::policy::read_policy;
 use fond_exec::script::read_script;
 use fond_exec::trace::trace;
 use fond_front::texts::TaskTexts;
-use fond_ground::ground::ground;
 use fond_rules::rules::Rules;
 use fond_task::task::Task;
 use fond_text::fault::NoMemory;
@@ -29,7 +28,7 @@ fn trace_answer(
     numbers: &[u32],
 ) -> Result<Answer, NoMemory>
     requires { BelongTo task.now rules.now }
-    ensures { IfOk result (λ answer. (lines : List ℕ) × (last : List Bool) × Trace task.now rules.now task.now.init numbers.now lines last × (answer ≡ trace_reply task.now lines last)) }
+    ensures { IfOk result (λ answer. (lines : List ℕ) × (last : List Bool) × Trace task.now rules.now task.now.init numbers.now lines last × (answer ≡ ground_reply task.now lines last)) }
 {
     let mut text = Vec::new(alloc);
     let is_goal = trace(alloc, task, rules, numbers, &mut text)?;
@@ -51,9 +50,8 @@ pub fn run(
     ensures replied { IfOk result (RunReply texts.now cert.now script.now) }
     ensures rejected { IfErr result (Rejects (RunReply texts.now cert.now script.now)) }
 {
-    let lifted = read_plain(alloc, texts)?;
-    let task = ground(alloc, &lifted)?;
-    let policy = read_policy(alloc, &task, cert)?;
+    let files = read_files(alloc, texts)?;
+    let policy = read_policy(alloc, &files.game, cert)?;
     let numbers = read_script(alloc, script)?;
-    Ok(trace_answer(alloc, &task, &policy.rules, &numbers)?)
+    Ok(trace_answer(alloc, &files.game, &policy.rules, &numbers)?)
 }

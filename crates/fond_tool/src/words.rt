@@ -5,7 +5,7 @@ ghost use Rattle.fond_tool.specs.Words.{word_of, kinds_of, file_count, IsOfKind,
 ghost use Rattle.std.specs.List.{AllZip};
 ghost use Rattle.std.specs.Prelude.{◌≡◌, ◌≢◌, Decides, IfOk, MatchOption};
 
-use crate::action::read_action;
+use fond_succ::action::read_action;
 use fond_text::fault::NoMemory;
 use fond_text::word::Word;
 use std::alloc::Global;

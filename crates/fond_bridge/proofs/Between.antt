@@ -1,0 +1,31 @@
+-- The laws between a task and its ground task.
+use Rattle.std.proofs.Common.{ap, sym, ◌∙◌, subst}
+use Rattle.fond_bridge.specs.Laws.{GroundTasksPlay, GroundTasksAgree, OutcomesLeadAlike, TextsAgree, StandsIsInjective, TracesAgree}
+use Rattle.fond_bridge.specs.Stands.{restrict, stands}
+use Rattle.fond_bridge.specs.Traces.{Trace}
+use Rattle.fond_meaning.specs.Outcomes.{outcomes}
+use Rattle.fond_bridge.proofs.Agrees.{agrees, restricted}
+use Rattle.fond_bridge.proofs.Outcomes.{all_lead_alike}
+use Rattle.fond_bridge.proofs.Plays.{distinct, long, plays}
+use Rattle.fond_bridge.proofs.Texts.{texts_alike}
+use Rattle.fond_bridge.proofs.Traces.{trace_alike}
+
+pub ground-tasks-play : GroundTasksPlay
+ground-tasks-play task game is = plays task game is
+
+pub ground-tasks-agree : GroundTasksAgree
+ground-tasks-agree task game is = agrees task game is
+
+pub outcomes-lead-alike : OutcomesLeadAlike
+outcomes-lead-alike task game action act one values is state =
+    all_lead_alike task (distinct task game is) values (long task game is values state) (outcomes action.objects one.schema.effect) act.outcomes one.outcomes
+
+pub texts-agree : TextsAgree
+texts-agree task game values is state = texts_alike task game is values
+
+pub stands-is-injective : StandsIsInjective
+stands-is-injective task game values other is state also same = sym (restricted task game is values state) ∙ ap (restrict task) same ∙ restricted task game is other also
+
+pub traces-agree : TracesAgree
+traces-agree task game rules numbers lines last is trace =
+    subst (λ first. Trace task game rules first numbers lines (stands task last)) (plays task game is).first (trace_alike task game is rules game.init numbers lines last game.init_long trace)

@@ -1,0 +1,109 @@
+-- A trace of a ground task is one of its task, with the same lines.
+use Rattle.std.proofs.Common.{◌≡◌, ℕ, ◌≤◌, List, [], ◌∷◌, ◌++◌, Bool, not, ◌&&◌, ◌||◌, Some, length, refl, sym, ap, ◌∙◌, subst}
+use Rattle.std.specs.Prelude.{slice_get, codes, option_and_then}
+use Rattle.std.specs.Fmt.{decimal}
+use Rattle.std.specs.List.{AllZip}
+use Rattle.std.specs.Option.{option_map_or}
+use Rattle.std.proofs.lemmas.Option.{same_Some}
+use Rattle.std.proofs.lemmas.Slice.Zip.{AllZip-long}
+use Rattle.fond_ast.specs.declared.task.LiftedTask.{LiftedTask}
+use Rattle.fond_meaning.specs.Outcomes.{Literal, outcomes, state_after}
+use Rattle.fond_meaning.specs.Solutions as lifted
+use Rattle.fond_task.specs.declared.task.Act.{Act}
+use Rattle.fond_task.specs.declared.task.Entry.{Entry}
+use Rattle.fond_task.specs.declared.task.Labels.{Labels}
+use Rattle.fond_task.specs.declared.task.Task.{Task}
+use Rattle.fond_task.specs.Steps.{adds, deletes, next_state}
+use Rattle.fond_task.specs.Texts.{action_text}
+use Rattle.fond_task.proofs.Indices.{length-by_index}
+use Rattle.fond_game.specs.declared.rule.Rule.{Rule}
+use Rattle.fond_game.specs.Policies as ground
+use Rattle.fond_game.specs.Policies.{selected}
+use Rattle.fond_rules.specs.Select.{selected_rule}
+use Rattle.fond_exec.specs.Steps.{IsChosen, IsStuck}
+use Rattle.fond_exec.specs.Traces as steps
+use Rattle.fond_exec.specs.Traces.{goal_line, outcome_line}
+use Rattle.fond_ground.specs.Grounds.{IsActOf, IsEntryOf, IsGroundOf}
+use Rattle.fond_bridge.specs.Stands.{stands}
+use Rattle.fond_bridge.specs.Games.{IsState, action_of}
+use Rattle.fond_bridge.specs.Solutions.{rules_policy}
+use Rattle.fond_bridge.specs.Traces.{Choose, ChooseNone, Trace, goal, ended, stuck, past, took, step_line}
+use Rattle.fond_bridge.proofs.Agrees.{names_action, restricted}
+use Rattle.fond_bridge.proofs.Lists.{zip-right}
+use Rattle.fond_bridge.proofs.Maps.{and_then}
+use Rattle.fond_bridge.proofs.Outcomes.{leads_alike}
+use Rattle.fond_bridge.proofs.Plays.{distinct, long, named, plays}
+
+module _ (task : LiftedTask) (game : Task) (is : IsGroundOf task game) (rules : List Rule) where
+  -- an act stands for the action that it names
+  act_is : (number : ℕ) (act : Act) → slice_get game.acts number ≡ Some act → IsActOf task act.ground act
+  act_is number act at =
+      let one = named task game is number act.ground (names_action task game is number act at) in
+      subst (IsActOf task act.ground) (same_Some one.act act (sym one.numbered ∙ at)) one.is
+
+  abbrev choices_of : (number : ℕ) (act : Act) → slice_get game.acts number ≡ Some act → List (List Literal)
+  choices_of number act at = outcomes act.ground.objects (act_is number act at).schema.effect
+
+  -- an action has as many choices as its act has outcomes
+  choices_long : (number : ℕ) (act : Act) (at : slice_get game.acts number ≡ Some act) → length (choices_of number act at) ≡ length act.outcomes
+  choices_long number act at = sym (AllZip-long (AllZip (IsEntryOf task)) (choices_of number act at) act.outcomes (act_is number act at).outcomes)
+
+  module _ (values : List Bool) (state : IsState game values) where
+    policy_is : rules_policy task game rules (stands task values) ≡ option_and_then (action_of game) (selected rules values)
+    policy_is = ap (λ one. option_and_then (action_of game) (selected rules one)) (restricted task game is values state)
+
+    chooses : (number : ℕ) (act : Act) (chosen : IsChosen game rules values number act) → Choose task game rules (stands task values) act.ground (choices_of number act chosen.numbered)
+    chooses number act chosen =
+        let name = names_action task game is number act chosen.numbered in
+        let one = act_is number act chosen.numbered in
+        record {
+          chosen = policy_is ∙ ap (option_and_then (action_of game)) chosen.selects ∙ name;
+          applicable = ((plays task game is).applicable values number act.ground state name).0 (record { act = act; numbered = chosen.numbered; holds = chosen.holds });
+          schema = one.schema;
+          numbered = one.numbered;
+          choices_are = refl;
+        }
+
+    chooses_none : IsStuck game rules values → ChooseNone task game rules (stands task values)
+    chooses_none none action chosen applies =
+        let from = and_then (action_of game) (selected rules values) action (sym policy_is ∙ chosen) in
+        none from.0 from.1 (((plays task game is).applicable values from.0 action state from.2).1 applies)
+
+    open_alike : ¬ ground.IsGoal game values → ¬ lifted.IsGoal task (stands task values)
+    open_alike open_ is_goal = open_ (((plays task game is).goal values state).1 is_goal)
+
+    -- each outcome of an act has a choice of the action that leads to the same state
+    choice_at : (number : ℕ) (act : Act) (at : slice_get game.acts number ≡ Some act) (outcome : ℕ) (entries : List Entry) → slice_get act.outcomes outcome ≡ Some entries
+        → (literals : List Literal) × (slice_get (choices_of number act at) outcome ≡ Some literals) × (stands task (next_state values entries) ≡ state_after (stands task values) literals)
+    choice_at number act at outcome entries picked =
+        let one = zip-right (AllZip (IsEntryOf task)) (choices_of number act at) act.outcomes (act_is number act at).outcomes outcome entries picked in
+        (one.0, one.1, leads_alike task (distinct task game is) values (long task game is values state) one.0 entries one.2)
+
+    next_long : (entries : List Entry) → IsState game (next_state values entries)
+    next_long entries = length-by_index (λ atom value. adds values entries atom || (value && not (deletes values entries atom))) values ∙ state
+
+  -- a step is written alike in both games
+  lines_alike : (rule number outcome : ℕ) (act : Act) → slice_get game.acts number ≡ Some act → steps.step_line game rule number outcome ≡ step_line task rule act.ground outcome
+  lines_alike rule number outcome act at =
+      ap (λ text. codes "rule " ++ decimal rule ++ codes " " ++ text ++ codes " outcome " ++ decimal outcome ++ codes "\n")
+      (ap (λ o. option_map_or (λ (one : Act). action_text game.labels one.ground) o []) at ∙ ap (λ (labels : Labels). action_text labels act.ground) is.labels)
+
+  -- a trace from a state is one from the state for which it stands
+  pub trace_alike : (values : List Bool) (numbers lines : List ℕ) (last : List Bool) → IsState game values → steps.Trace game rules values numbers lines last → Trace task game rules (stands task values) numbers lines (stands task last)
+  trace_alike values numbers lines last state (steps.goal one outcomes is_goal) = goal (stands task one) outcomes (((plays task game is).goal one state).0 is_goal)
+  trace_alike values numbers lines last state (steps.ended one open_) = ended (stands task one) (open_alike one state open_)
+  trace_alike values numbers lines last state (steps.stuck one outcome left open_ none) = stuck (stands task one) outcome left (open_alike one state open_) (chooses_none one state none)
+  trace_alike values numbers lines last state (steps.past one outcome left number act open_ chosen beyond) =
+      let same = choices_long number act chosen.numbered in
+      subst (λ count. Trace task game rules (stands task one) (outcome ∷ left) (outcome_line outcome count) (stands task one)) same
+      (past (stands task one) outcome left act.ground (choices_of number act chosen.numbered) (open_alike one state open_) (chooses one state number act chosen) (subst (λ count. count ≤ outcome) (sym same) beyond))
+  trace_alike values numbers lines last state (steps.took one outcome left rule number next text end taken trace) =
+      let at = taken.chosen.numbered in
+      let choice = choice_at one state number taken.act at outcome taken.entries taken.picked in
+      let later : IsState game next = ap length taken.given ∙ next_long one state taken.entries in
+      let rest : Trace task game rules (stands task next) left text (stands task end) = trace_alike next left text end later trace in
+      let there : stands task next ≡ state_after (stands task one) choice.0 = ap (stands task) taken.given ∙ choice.2 in
+      subst (λ line. Trace task game rules (stands task one) (outcome ∷ left) (line ++ text) (stands task end)) (sym (lines_alike rule number outcome taken.act at))
+      (took (stands task one) outcome left rule taken.act.ground (choices_of number taken.act at) choice.0 text (stands task end) (open_alike one state taken.open_)
+      (ap (selected_rule rules) (restricted task game is one state) ∙ taken.selects) (chooses one state number taken.act taken.chosen) choice.1
+      (subst (λ after. Trace task game rules after left text (stands task end)) there rest))

@@ -1,0 +1,5 @@
+pub mod Stands
+pub mod Games
+pub mod Solutions
+pub mod Traces
+pub mod Laws

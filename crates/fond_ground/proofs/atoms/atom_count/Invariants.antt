@@ -1,0 +1,11 @@
+use Rattle.std.proofs.Common.{◌≡◌, ◌≤◌, ◌+◌, ◌-◌, ◌^◌, [], length, drop}
+use Rattle.std.specs.List.{enumerate_from, flat_map}
+use Rattle.std.specs.Prelude.{min, if◌then◌else◌}
+use Rattle.fond_ground.specs.Atoms.{atoms_over, fluent_atoms}
+use Rattle.fond_ground.proofs.atoms.atom_count.Given as goal
+
+abbrev pub invariant-loop-i : goal.invariant-loop-i
+invariant-loop-i l = record {
+  fits : l.count ≤ 2 ^ 64 - 1;
+  counted : min (l.count + length (flat_map (λ item. if item.1.fluent then atoms_over item.0 item.1.ranges else []) (enumerate_from l.i (drop l.i l.task.predicates)))) (2 ^ 64 - 1) ≡ min (length (fluent_atoms l.task)) (2 ^ 64 - 1);
+}

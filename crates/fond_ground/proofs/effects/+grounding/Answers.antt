@@ -1,0 +1,105 @@
+use Rattle.std.proofs.Common.{◌≡◌, ◌∙◌, ◌++◌, not, ℕ, [], List, true, length, map, drop, sym, ap, subst, arith}
+use Rattle.std.specs.Prelude.{◌==◌, is_some}
+use Rattle.std.specs.List.{list_all, flat_map}
+use Rattle.std.proofs.lemmas.Grind.{common_steps}
+use Rattle.std.proofs.lemmas.List.{append-nil, length-map}
+use Rattle.fond_text.specs.Lists.{concatenations}
+use Rattle.fond_ast.specs.Ranges.{objects_of}
+use Rattle.fond_ast.specs.declared.form.LEffect.{LEffect}
+use Rattle.fond_meaning.specs.Conditions.{ground_atom, tuples}
+use Rattle.fond_meaning.specs.Outcomes.{Literal, outcomes}
+use Rattle.fond_meaning.proofs.Bools.{and-parts}
+use Rattle.fond_oneof.specs.declared.effect.GroundEffect as made
+use Rattle.fond_oneof.specs.declared.effect.GroundEffect.{GroundEffect}
+use Rattle.fond_ground.specs.Atoms.{atom_number}
+use Rattle.fond_ground.specs.Effects.{is_numbered, HasOutcomes, HaveOutcomes}
+use Rattle.fond_ground.proofs.Grounded.{numbered-Add, numbered-Delete, numbered-OneOf, outcomes-And, outcomes-OneOf, outcomes-Forall, outcomes-When, has-And, has-OneOf, has-When, has-always}
+use Rattle.fond_ground.proofs.effects.+grounding.Goals as goal
+
+pub ground_effect-ground_literal-requires : goal.ground_effect-ground_literal-requires
+ground_effect-ground_literal-requires t c =
+    let task = c.args.table.now.facts.task.now in
+    let env = c.args.env.now.items in
+    ap (λ objects. is_some (atom_number task (ground_atom objects c.in-Add.atom))) c.deref.ensures.value ∙ sym (numbered-Add task env c.in-Add.atom) ∙ ap (is_numbered task env) (sym c.in-Add.is) ∙ c.requires.numbered
+
+pub ground_effect-ground_literal-requires-in-Delete : goal.ground_effect-ground_literal-requires-in-Delete
+ground_effect-ground_literal-requires-in-Delete t c =
+    let task = c.args.table.now.facts.task.now in
+    let env = c.args.env.now.items in
+    ap (λ objects. is_some (atom_number task (ground_atom objects c.in-Delete.atom))) c.deref-in-Delete.ensures.value
+    ∙ sym (numbered-Delete task env c.in-Delete.atom) ∙ ap (is_numbered task env) (sym c.in-Delete.is) ∙ c.requires.numbered
+
+pub ground_effect-returns-in_ok-parts-in-And-clause-effect : goal.ground_effect-returns-in_ok-parts-in-And-clause-effect
+ground_effect-returns-in_ok-parts-in-And-clause-effect t c =
+    let task = c.args.table.now.facts.task.now in
+    let env = c.args.env.now.items in
+    let parts = c.in_ok-parts-in-And.parts in
+    let lists = map (outcomes env) c.deref-in-And.result.now in
+    subst (λ (some : List (List Literal)). HasOutcomes task some (made.And parts))
+    (ap (λ members. concatenations (map (outcomes env) members)) c.deref-in-And.ensures.value ∙ sym (ap (outcomes env) c.in-And.is ∙ outcomes-And task env c.in-And.members))
+    (has-And task lists parts c.in_ok-parts-in-And.ensures.effects)
+
+pub ground_effect-returns-in_ok-parts-in-OneOf-clause-effect : goal.ground_effect-returns-in_ok-parts-in-OneOf-clause-effect
+ground_effect-returns-in_ok-parts-in-OneOf-clause-effect t c =
+    let task = c.args.table.now.facts.task.now in
+    let env = c.args.env.now.items in
+    let parts = c.in_ok-parts-in-OneOf.parts in
+    let members = c.deref-in-OneOf.result.now in
+    let lists = map (outcomes env) members in
+    let whole = sym (numbered-OneOf task env c.in-OneOf.members) ∙ ap (is_numbered task env) (sym c.in-OneOf.is) ∙ c.requires.numbered in
+    let some : not (length lists == 0) ≡ true =
+    ap (λ n. not (n == 0)) (length-map members (outcomes env) ∙ ap length c.deref-in-OneOf.ensures.value)
+    ∙ (and-parts (not (length c.in-OneOf.members.items == 0)) (list_all (is_numbered task env) c.in-OneOf.members.items) whole).0 in
+    subst (λ (some : List (List Literal)). HasOutcomes task some (made.OneOf parts))
+    (ap (λ some. flat_map (λ part. part) (map (outcomes env) some)) c.deref-in-OneOf.ensures.value ∙ sym (ap (outcomes env) c.in-OneOf.is ∙ outcomes-OneOf task env c.in-OneOf.members))
+    (has-OneOf task lists parts some c.in_ok-parts-in-OneOf.ensures.effects)
+
+pub ground_effect-returns-in_ok-parts-in-Forall-clause-effect : goal.ground_effect-returns-in_ok-parts-in-Forall-clause-effect
+ground_effect-returns-in_ok-parts-in-Forall-clause-effect t c =
+    let task = c.args.table.now.facts.task.now in
+    let env = c.args.env.now.items in
+    let parts = c.in_ok-parts-in-Forall.parts in
+    let lists = map (λ objects. outcomes (env ++ objects) c.deref-in-Forall.result.now) (tuples (objects_of c.as_slice.result.now)) in
+    subst (λ (some : List (List Literal)). HasOutcomes task some (made.And parts))
+    ((λ i. concatenations (map (λ objects. outcomes (env ++ objects) (c.deref-in-Forall.ensures i)) (tuples (objects_of (c.as_slice.ensures i)))))
+    ∙ sym (ap (outcomes env) c.in-Forall.is ∙ outcomes-Forall task env c.in-Forall.ranges c.in-Forall.part))
+    (has-And task lists parts c.in_ok-parts-in-Forall.ensures.effects)
+
+pub ground_effect-returns-then-is_always-clause-effect : goal.ground_effect-returns-then-is_always-clause-effect
+ground_effect-returns-then-is_always-clause-effect t c =
+    let task = c.args.table.now.facts.task.now in
+    let env = c.args.env.now.items in
+    let form = c.in_ok-condition-in-When.condition in
+    let part = c.in_ok-part-in-When.part in
+    let same : outcomes c.form_of.new.env.items c.deref-in-When.result.now ≡ outcomes env c.in-When.part.value = λ i. outcomes (c.in_ok-condition-in-When.ensures.env i) (c.deref-in-When.ensures i) in
+    subst (λ (some : List (List Literal)). HasOutcomes task some part) (sym (ap (outcomes env) c.in-When.is ∙ outcomes-When task env c.in-When.condition c.in-When.part))
+    (has-always task env c.in-When.condition form c.in_ok-condition-in-When.ensures.value (outcomes env c.in-When.part.value) part (c.is_always.ensures c.if-is_always.true)
+    (subst (λ (some : List (List Literal)). HasOutcomes task some part) same c.in_ok-part-in-When.ensures.effect))
+
+pub ground_effect-returns-in_ok-new-in-When-clause-effect : goal.ground_effect-returns-in_ok-new-in-When-clause-effect
+ground_effect-returns-in_ok-new-in-When-clause-effect t c =
+    let task = c.args.table.now.facts.task.now in
+    let env = c.args.env.now.items in
+    let form = c.in_ok-condition-in-When.condition in
+    let boxed = c.in_ok-new-in-When.field-0 in
+    let same : outcomes c.form_of.new.env.items c.deref-in-When.result.now ≡ outcomes env c.in-When.part.value = λ i. outcomes (c.in_ok-condition-in-When.ensures.env i) (c.deref-in-When.ensures i) in
+    subst (λ (some : List (List Literal)). HasOutcomes task some (made.When form boxed)) (sym (ap (outcomes env) c.in-When.is ∙ outcomes-When task env c.in-When.condition c.in-When.part))
+    (has-When task env c.in-When.condition form c.in_ok-condition-in-When.ensures.value (outcomes env c.in-When.part.value) boxed c.in_ok-condition-in-When.ensures.within
+    (subst (λ (one : GroundEffect). HasOutcomes task (outcomes env c.in-When.part.value) one) (sym c.in_ok-new-in-When.ensures.ok)
+    (subst (λ (some : List (List Literal)). HasOutcomes task some c.in_ok-part-in-When.part) same c.in_ok-part-in-When.ensures.effect)))
+
+pub ground_instances-returns-clause-effects : goal.ground_instances-returns-clause-effects
+ground_instances-returns-clause-effects t c =
+    let task = c.args.table.now.facts.task.now in
+    let f : List ℕ → List (List Literal) = λ objects. outcomes (c.args.env.now.items ++ objects) c.args.part.now in
+    let none : c.loop-alloc.tuples ≡ [] = c.loop-alloc-test.ensures.done (λ i. true) in
+    subst (HaveOutcomes task (map f (tuples (objects_of c.args.ranges.now)))) (append-nil c.loop-alloc.effects.items)
+    (c.loop-alloc.invariant.effects [] (subst (λ (left : List (List ℕ)). HaveOutcomes task (map f left) []) (sym none) tt))
+
+pub ground_members-returns-clause-effects : goal.ground_members-returns-clause-effects
+ground_members-returns-clause-effects t c =
+    let task = c.args.table.now.facts.task.now in
+    let f : LEffect → List (List Literal) = outcomes c.args.env.now.items in
+    let none : drop c.loop-member.member-index c.args.members.now ≡ [] = grind (arith, common_steps) in
+    subst (HaveOutcomes task (map f c.args.members.now)) (append-nil c.loop-member.effects.items)
+    (c.loop-member.invariant.effects [] (subst (λ (left : List LEffect). HaveOutcomes task (map f left) []) (sym none) tt))

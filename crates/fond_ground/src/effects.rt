@@ -1,0 +1,128 @@
+//! Ground effects. A quantified effect is the conjunction over the lists of objects of its ranges, and the conditions of
+//! conditional effects are ground conditions.
+
+ghost use Rattle.fond_ast.specs.Ranges.{objects_of};
+ghost use Rattle.fond_ground.specs.Atoms.{atom_number};
+ghost use Rattle.fond_ground.specs.Effects.{is_numbered, numbered_by, HasOutcomes, HaveOutcomes};
+ghost use Rattle.fond_meaning.specs.Conditions.{ground_atom, tuples};
+ghost use Rattle.fond_meaning.specs.Outcomes.{alone, outcomes};
+ghost use Rattle.fond_task.specs.Values.{value};
+ghost use Rattle.fond_task.specs.declared.form.Kleene.TheVariants.{Yes};
+ghost use Rattle.std.specs.List.{list_all};
+ghost use Rattle.std.specs.Prelude.{◌≡◌, ◌++◌, List, Option, Bool, is_some, map, true, IfOk, OnOk};
+
+use crate::forms::form_of;
+use crate::table::{Table, ground_numbers};
+use crate::tuples::Tuples;
+use fond_ast::form::{LAtom, LEffect, Range};
+use fond_oneof::effect::{GroundEffect, GroundEffects};
+use fond_task::form::Form;
+use fond_text::fault::NoMemory;
+use std::alloc::Global;
+
+/// A literal, whose atom is fluent.
+fn ground_literal(
+    alloc: Global,
+    table: &Table,
+    atom: &LAtom,
+    env: &[u32],
+    add: bool,
+) -> Result<GroundEffect, NoMemory>
+    requires { is_some (atom_number table.now.facts.task.now (ground_atom env.now atom.now)) ≡ true }
+    ensures { IfOk result (HasOutcomes table.now.facts.task.now (alone (ground_atom env.now atom.now) add)) }
+{
+    match table.number(&ground_numbers(alloc, atom, env)?) {
+        Some(number) => Ok(GroundEffect::Literal(number, add)),
+        None => unreachable!(),
+    }
+}
+
+/// Whether a condition is the constant that is always true.
+fn is_always(condition: &Form) -> bool
+    ensures { result ≡ true → (cube : List (Option Bool)) → value cube condition.now ≡ Yes }
+{
+    matches!(condition, Form::Truth(true))
+}
+
+/// The ground effect of an effect, where these are the objects of the variables around it. Takes time and memory in the
+/// size of the effect written out over all lists of objects.
+#[cycle(grounding)]
+pub(crate) fn ground_effect(
+    alloc: Global,
+    table: &Table,
+    effect: &LEffect,
+    env: &mut Vec<u32>,
+) -> Result<GroundEffect, NoMemory>
+    requires numbered { is_numbered table.now.facts.task.now env.old.items effect.now ≡ true }
+    ensures effect { IfOk result (HasOutcomes table.now.facts.task.now (outcomes env.old.items effect.now)) }
+    ensures env { OnOk result (env.new.items ≡ env.old.items) }
+{
+    match effect {
+        LEffect::Nothing => Ok(GroundEffect::And(Vec::new(alloc))),
+        LEffect::Add(atom) => ground_literal(alloc, table, atom, env, true),
+        LEffect::Delete(atom) => ground_literal(alloc, table, atom, env, false),
+        LEffect::And(members) => {
+            let parts = ground_members(alloc, table, members, env)?;
+            Ok(GroundEffect::And(parts))
+        }
+        LEffect::OneOf(members) => {
+            let parts = ground_members(alloc, table, members, env)?;
+            Ok(GroundEffect::OneOf(parts))
+        }
+        LEffect::Forall(ranges, part) => {
+            let parts = ground_instances(alloc, table, ranges.as_slice(), part, env)?;
+            Ok(GroundEffect::And(parts))
+        }
+        LEffect::When(condition, part) => {
+            let condition = form_of(alloc, table, condition, env)?;
+            let part = ground_effect(alloc, table, part, env)?;
+            if is_always(&condition) {
+                return Ok(part);
+            }
+            Ok(GroundEffect::When(condition, Box::new(alloc, part)?))
+        }
+    }
+}
+
+/// The ground effects of effects, in order.
+#[cycle(grounding)]
+fn ground_members(
+    alloc: Global,
+    table: &Table,
+    members: &[LEffect],
+    env: &mut Vec<u32>,
+) -> Result<GroundEffects, NoMemory>
+    requires numbered { list_all (λ member. member env.old.items) (map (numbered_by table.now.facts.task.now) members.now) ≡ true }
+    ensures effects { IfOk result (λ effects. HaveOutcomes table.now.facts.task.now (map (outcomes env.old.items) members.now) effects.items) }
+    ensures env { OnOk result (env.new.items ≡ env.old.items) }
+{
+    let mut effects = Vec::with_capacity(alloc, members.len())?;
+    for member in members {
+        effects.push(ground_effect(alloc, table, member, env)?)?;
+    }
+    Ok(effects)
+}
+
+/// The ground effects of an effect for each list of objects of some ranges, in order.
+#[cycle(grounding)]
+fn ground_instances(
+    alloc: Global,
+    table: &Table,
+    ranges: &[Range],
+    part: &LEffect,
+    env: &mut Vec<u32>,
+) -> Result<GroundEffects, NoMemory>
+    requires numbered { list_all (λ objects. is_numbered table.now.facts.task.now (env.old.items ++ objects) part.now) (tuples (objects_of ranges.now)) ≡ true }
+    ensures effects { IfOk result (λ effects. HaveOutcomes table.now.facts.task.now (map (λ objects. outcomes (env.old.items ++ objects) part.now) (tuples (objects_of ranges.now))) effects.items) }
+    ensures env { OnOk result (env.new.items ≡ env.old.items) }
+{
+    let around = env.len();
+    let mut effects = Vec::new(alloc);
+    let mut tuples = Tuples::of(alloc, ranges)?;
+    while !tuples.is_done() {
+        tuples.put_next(env)?;
+        effects.push(ground_effect(alloc, table, part, env)?)?;
+        env.truncate(around);
+    }
+    Ok(effects)
+}

@@ -1,0 +1,109 @@
+-- What a search leaves out, and what it keeps.
+use Rattle.std.proofs.Common.{◌≡◌, ◌<◌, inl, inr, ℕ, zero, suc, ◌+◌, Bool, true, false, not, List, [], ◌∷◌, ◌++◌, Option, Some, None, map, length, refl, sym, ap, subst, ◌∙◌, true≢false, drop, get_or, set}
+use Rattle.std.specs.Prelude.{filter, is_some, slice_get, if◌then◌else◌, IsTrue}
+use Rattle.std.specs.List.{flat_map, list_all}
+use Rattle.std.specs.declared.alloc.Global.{Global}
+use Rattle.std.specs.declared.rc.Rc.{Rc}
+use Rattle.std.proofs.lemmas.List.{map-append, append_assoc}
+use Rattle.fond_ast.specs.Ranges.{RangeList, objects_of}
+use Rattle.fond_ast.specs.declared.task.LSchema.{LSchema}
+use Rattle.fond_ast.specs.declared.task.LiftedTask.{LiftedTask}
+use Rattle.fond_task.specs.declared.form.Kleene.{Kleene}
+use Rattle.fond_join.specs.Kept.{is_kept, is_no, open_value}
+use Rattle.fond_join.specs.Partial.{partial_value}
+use Rattle.fond_join.specs.Search.{arguments, completions, IsOrder, kept_completions}
+use Rattle.fond_join.specs.Values.{condition_value}
+use Rattle.fond_join.proofs.Items.{drop_item}
+use Rattle.fond_join.proofs.Sound.{Agree, Tells, TellsObject, told}
+
+pub filter-append : {X : Type 0} (p : X → Bool) (xs ys : List X) → filter p (xs ++ ys) ≡ filter p xs ++ filter p ys
+filter-append p [] ys = refl
+filter-append p (x ∷ xs) ys = by (p x) (filter-append p xs ys)
+  where
+    by : (b : Bool) → filter p (xs ++ ys) ≡ filter p xs ++ filter p ys → (if b then x ∷ filter p (xs ++ ys) else filter p (xs ++ ys)) ≡ (if b then x ∷ filter p xs else filter p xs) ++ filter p ys
+    by true rest = ap (λ zs. x ∷ zs) rest
+    by false rest = rest
+
+own : (full : Bool) (env : List (Option ℕ)) → (full ≡ true → IsTrue (list_all (λ object. is_some object) env)) → Agree full env (arguments env)
+own full [] all = tt
+own full (None ∷ env) all = (by full all, own full env (λ e. absurd (true≢false (sym (all e)))))
+  where
+    by : (b : Bool) → (b ≡ true → false ≡ true) → b ≡ false
+    by true h = absurd (true≢false (sym (h refl)))
+    by false h = refl
+own full (Some object ∷ env) all = (refl, own full env all)
+
+-- objects that agree with parameters agree with them if one that has no object is given one
+forget : (env : List (Option ℕ)) (parameter object : ℕ) (objects : List ℕ) → get_or env parameter (Some 0) ≡ None → Agree false (set env parameter (Some object)) objects → Agree false env objects
+forget [] parameter object objects none h = h
+forget (known ∷ env) zero object [] none h = absurd h
+forget (known ∷ env) zero object (first ∷ objects) none h = (subst (λ k. TellsObject false k first) (sym none) refl, h.1)
+forget (known ∷ env) (suc parameter) object [] none h = absurd h
+forget (known ∷ env) (suc parameter) object (first ∷ objects) none h = (h.0, forget env parameter object objects none h.1)
+
+module _ (ranges : List (List ℕ)) (p : List ℕ → Bool) where
+  -- the completions that pass a test
+  abbrev pub passing : List (Option ℕ) → List ℕ → List (List ℕ)
+  passing env order = filter p (map arguments (completions ranges env order))
+
+  -- the completions that pass, for each of some objects of a parameter
+  abbrev pub passing_from : List (Option ℕ) → ℕ → List ℕ → List ℕ → List (List ℕ)
+  passing_from env parameter order objects = filter p (map arguments (flat_map (λ object. completions ranges (set env parameter (Some object)) order) objects))
+
+  pub passing_first : (env : List (Option ℕ)) (parameter : ℕ) (order : List ℕ) (object : ℕ) (objects : List ℕ) →
+      passing_from env parameter order (object ∷ objects) ≡ passing (set env parameter (Some object)) order ++ passing_from env parameter order objects
+  passing_first env parameter order object objects =
+      ap (filter p) (map-append arguments (completions ranges (set env parameter (Some object)) order) _) ∙ filter-append p (map arguments (completions ranges (set env parameter (Some object)) order)) _
+
+  none_from : (env : List (Option ℕ)) (parameter : ℕ) (order : List ℕ) → ((object : ℕ) → passing (set env parameter (Some object)) order ≡ []) → (objects : List ℕ) → passing_from env parameter order objects ≡ []
+  none_from env parameter order each [] = refl
+  none_from env parameter order each (object ∷ objects) =
+      passing_first env parameter order object objects ∙ (λ i. each object i ++ none_from env parameter order each objects i)
+
+  -- no completion passes if none that agrees with the parameters does
+  none_passes : (env : List (Option ℕ)) (order : List ℕ) → IsOrder env order → ((objects : List ℕ) → Agree false env objects → p objects ≡ false) → passing env order ≡ []
+  none_passes env [] is never = ap (λ b. if b then arguments env ∷ [] else []) (never (arguments env) (own false env (λ e. absurd (true≢false (sym e)))))
+  none_passes env (parameter ∷ order) is never =
+      none_from env parameter order
+      (λ object. none_passes (set env parameter (Some object)) order (is.1 object) (λ objects agree. never objects (forget env parameter object objects is.0 agree)))
+      (get_or ranges parameter [])
+
+  -- the completions with the next object are found
+  pub next_found : (env : List (Option ℕ)) (parameter : ℕ) (order objects : List ℕ) (i object : ℕ) (before after whole : List (List ℕ)) → i < length objects → object ≡ get_or objects i object →
+      after ≡ before ++ passing (set env parameter (Some object)) order → before ++ passing_from env parameter order (drop i objects) ≡ whole → after ++ passing_from env parameter order (drop (i + 1) objects) ≡ whole
+  next_found env parameter order objects i object before after whole within is found left =
+      ap (λ all. all ++ passing_from env parameter order (drop (i + 1) objects)) found
+      ∙ append_assoc before (passing (set env parameter (Some object)) order) (passing_from env parameter order (drop (i + 1) objects))
+      ∙ ap (λ all. before ++ all) (sym (ap (passing_from env parameter order) (drop_item objects i object within is) ∙ passing_first env parameter order object (drop (i + 1) objects)))
+      ∙ left
+
+-- the objects of a range
+pub range_at : (ranges : RangeList) (parameter : ℕ) (range : Rc (List ℕ) Global) → slice_get ranges parameter ≡ Some range → range.value ≡ get_or (objects_of ranges) parameter []
+range_at [] parameter range is = cc
+range_at (first ∷ ranges) zero range is = let same : first ≡ range = cc in ap (λ r. r.value) (sym same)
+range_at (first ∷ ranges) (suc parameter) range is = range_at ranges parameter range is
+
+-- a parameter that had no object has none again
+pub restored : (env : List (Option ℕ)) (parameter : ℕ) (object : Option ℕ) → get_or env parameter (Some 0) ≡ None → set (set env parameter object) parameter None ≡ env
+restored [] parameter object none = refl
+restored (known ∷ env) zero object none = ap (λ k. k ∷ env) (sym none)
+restored (known ∷ env) (suc parameter) object none = ap (λ rest. known ∷ rest) (restored env parameter object none)
+
+module _ (task : LiftedTask) (schema : LSchema) where
+  pub no_told : (value other : Kleene) → Tells false value other → not (is_no value) ≡ false → not (is_no other) ≡ false
+  no_told value other (inl e) h = subst (λ v. not (is_no v) ≡ false) e h
+  no_told value other (inr e) h = absurd (true≢false (subst (λ v. not (is_no v) ≡ false) e.0 h))
+
+  -- no completion is kept if the precondition is surely false
+  pub none_kept : (env : List (Option ℕ)) (order : List ℕ) → IsOrder env order → not (is_no (partial_value task env schema.pre)) ≡ false → kept_completions task schema env order ≡ []
+  none_kept env order is h = none_passes (objects_of schema.ranges) (is_kept task schema) env order is (λ objects agree.
+      no_told (partial_value task env schema.pre) (condition_value (open_value task) objects schema.pre) (told task false schema.pre env objects agree) h)
+
+  yes_told : (value other : Kleene) → Tells true value other → not (is_no value) ≡ true → not (is_no other) ≡ true
+  yes_told value other (inl e) h = subst (λ v. not (is_no v) ≡ true) e h
+  yes_told value other (inr e) h = absurd (true≢false e.1)
+
+  -- the parameters' objects are kept if each has one and the precondition may be true
+  pub one_kept : (env : List (Option ℕ)) → IsTrue (list_all (λ object. is_some object) env) → not (is_no (partial_value task env schema.pre)) ≡ true → kept_completions task schema env [] ≡ arguments env ∷ []
+  one_kept env all h = ap (λ b. if b then arguments env ∷ [] else [])
+      (yes_told (partial_value task env schema.pre) (condition_value (open_value task) (arguments env) schema.pre) (told task true schema.pre env (arguments env) (own true env (λ e. all))) h)

@@ -1,0 +1,68 @@
+use Rattle.std.proofs.Common.{◌≡◌, ◌-◌, [], ◌∷◌, ◌++◌, Some, None, Option, List, ℕ, IfOk, true, length, not, take, drop, get_or, set, refl, sym, ap, subst, ◌∙◌, arith}
+use Rattle.std.proofs.lemmas.Grind.{common_steps}
+use Rattle.std.proofs.lemmas.List.{append-nil, get_or_default}
+use Rattle.std.specs.Bool.{OnTrue}
+use Rattle.fond_ast.specs.Ranges.{objects_of}
+use Rattle.fond_join.specs.Kept.{is_kept, is_no}
+use Rattle.fond_join.specs.Partial.{partial_value}
+use Rattle.fond_join.specs.Search.{arguments, IsOrder, kept_completions, Searched}
+use Rattle.fond_join.proofs.Completed.{next_found, none_kept, one_kept, passing_from, range_at, restored}
+use Rattle.fond_join.proofs.Items.{first_item}
+use Rattle.fond_join.proofs.search.+search.Goals as goal
+
+pub returns-then-not-branch-clause-found : goal.returns-then-not-branch-clause-found
+returns-then-not-branch-clause-found t c =
+    let none = none_kept c.args.facts.now.task.now c.args.schema.now c.args.scope.now.env.items c.args.order.now c.requires.order (sym c.in_ok-is_possible.ensures.value ∙ c.if-not-branch.true) in
+    (sym (ap (λ all. c.args.found.now ++ all) none ∙ append-nil c.args.found.now), c.requires.room)
+
+pub loop-object-init : goal.loop-object-init
+loop-object-init t c =
+    let order = c.args.order.now in
+    let env = c.is_possible.new.scope.env.items in
+    let parameter = get_or order 0 0 in
+    let rest = take (length order - 1) (drop 1 order) in
+    let whole = first_item order parameter c.in-len1-up.len_at_least (get_or_default order 0 0 parameter c.in-len1-up.len_at_least) in
+    let ranges = objects_of c.args.schema.now.ranges in
+    let objects = c.as_slice-object-items.ensures ∙ c.deref.ensures ∙ range_at c.args.schema.now.ranges parameter c.get.result.now c.get.ensures in
+    record {
+      same = refl;
+      room = c.requires.room;
+      left = ap (λ all. c.args.found.now ++ passing_from ranges (is_kept c.args.facts.now.task.now c.args.schema.now) env parameter rest all) objects
+          ∙ ap (λ list. c.args.found.now ++ kept_completions c.args.facts.now.task.now c.args.schema.now env list) (sym whole);
+    }
+
+pub loop-object-preserved : goal.loop-object-preserved
+loop-object-preserved t c =
+    let order = c.args.order.now in
+    let env = c.is_possible.new.scope.env.items in
+    let parameter = get_or order 0 0 in
+    let rest = take (length order - 1) (drop 1 order) in
+    let objects = c.as_slice-object-items.result.now in
+    let i = c.loop-object.object-index in
+    let object = get_or objects i 0 in
+    let ranges = objects_of c.args.schema.now.ranges in
+    let kept = is_kept c.args.facts.now.task.now c.args.schema.now in
+    let whole = first_item order parameter c.in-len1-up.len_at_least (get_or_default order 0 0 parameter c.in-len1-up.len_at_least) in
+    let own = c.in_ok-is_possible.ensures.same in
+    let is = subst (IsOrder c.args.scope.now.env.items) whole c.requires.order in
+    let none = ap (λ around. get_or around parameter (Some 0)) own ∙ is.0 in
+    let inner = λ (around : List (Option ℕ)). kept_completions c.args.facts.now.task.now c.args.schema.now (set around parameter (Some object)) rest in
+    let went = subst (Searched c.args.most c.loop-object.found (inner c.loop-object.scope.env.items) c.search.new.found) c.if-not-branch-2.false c.in_ok-search-in-len1-up.ensures.found in
+    let stays = subst (λ complete. OnTrue complete (c.search.new.scope.env.items ≡ set c.loop-object.scope.env.items parameter (Some object))) c.if-not-branch-2.false c.in_ok-search-in-len1-up.ensures.same in
+    record {
+      same = ap (λ around. set around parameter None) (stays ∙ ap (λ around. set around parameter (Some object)) c.loop-object.invariant.same) ∙ restored env parameter (Some object) none;
+      room = went.1;
+      left = next_found ranges kept env parameter rest objects i object c.loop-object.found c.search.new.found _ c.loop-object-test.true (get_or_default objects i 0 object c.loop-object-test.true)
+          (went.0 ∙ ap (λ around. c.loop-object.found ++ inner around) c.loop-object.invariant.same) c.loop-object.invariant.left;
+    }
+
+pub returns-in-empty-clause-found : goal.returns-in-empty-clause-found
+returns-in-empty-clause-found t c =
+    let task = c.args.facts.now.task.now in
+    let env = c.args.scope.now.env.items in
+    let none : c.args.order.now ≡ [] = grind (arith, common_steps) in
+    let all = subst (IsOrder env) none c.requires.order in
+    let possible : not (is_no (partial_value task env c.args.schema.now.pre)) ≡ true = sym c.in_ok-is_possible.ensures.value ∙ c.if-not-branch.false in
+    let one = ap (kept_completions task c.args.schema.now env) none ∙ one_kept task c.args.schema.now env all possible in
+    subst (λ lists. IfOk c.keep.result (Searched c.args.most c.args.found.now lists c.keep.new.found))
+    (ap (λ around. arguments around ∷ []) c.in_ok-is_possible.ensures.same ∙ sym one) c.keep.ensures

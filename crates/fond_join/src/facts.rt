@@ -1,0 +1,76 @@
+//! The initial atoms of a task, found by a hash.
+
+ghost use Rattle.fond_join.specs.Tables.{is_entered, IsEnteredBeside};
+ghost use Rattle.fond_meaning.specs.Solutions.{initial};
+ghost use Rattle.std.specs.FinSet as set;
+ghost use Rattle.std.specs.Prelude.{◌≡◌, ◌<◌, ℕ, List, false, vec_len, IfOk, OnOk};
+
+use fond_ast::task::LiftedTask;
+use fond_lookup::tuple_index::TupleIndex;
+use fond_text::atom::Atom;
+use fond_text::fault::NoMemory;
+use std::alloc::Global;
+
+/// A task with an index of its initial atoms: for each predicate the lists of objects of its initial atoms.
+#[derive(Drop)]
+pub struct Facts<'a> {
+    pub task: &'a LiftedTask,
+    tables: Vec<TupleIndex>,
+    ghost entered: { (predicate : ℕ) (objects : List ℕ)
+        → is_entered tables.items predicate objects ≡ set.contains (initial task.now) (record { predicate = predicate; objects = objects }) },
+}
+
+/// An empty table for each of some predicates.
+fn no_entries(alloc: Global, predicates: usize) -> Result<Vec<TupleIndex>, NoMemory>
+    ensures long { IfOk result (λ tables. vec_len tables ≡ predicates) }
+    ensures empty { IfOk result (λ tables. (predicate : ℕ) (objects : List ℕ) → is_entered tables.items predicate objects ≡ false) }
+{
+    let mut tables = Vec::new(alloc);
+    for _ in 0..predicates {
+        tables.push(TupleIndex::new(alloc))?;
+    }
+    Ok(tables)
+}
+
+/// Enters an atom.
+fn enter(alloc: Global, tables: &mut Vec<TupleIndex>, atom: &Atom) -> Result<(), NoMemory>
+    requires { atom.now.predicate < vec_len tables.old }
+    ensures long { vec_len tables.new ≡ vec_len tables.old }
+    ensures entered { OnOk result (IsEnteredBeside tables.old.items atom.now tables.new.items) }
+{
+    let objects = Vec::from_slice(alloc, atom.objects.as_slice())?;
+    tables[atom.predicate as usize].insert(objects, 0)?;
+    Ok(())
+}
+
+/// The tables of the initial atoms of a task.
+fn tables_of(alloc: Global, task: &LiftedTask) -> Result<Vec<TupleIndex>, NoMemory>
+    ensures { IfOk result (λ tables. (predicate : ℕ) (objects : List ℕ)
+        → is_entered tables.items predicate objects ≡ set.contains (initial task.now) (record { predicate = predicate; objects = objects })) }
+{
+    let mut tables = no_entries(alloc, task.predicates.len())?;
+    for atom in task.init.as_slice() {
+        enter(alloc, &mut tables, atom)?;
+    }
+    Ok(tables)
+}
+
+impl<'a> Facts<'a> {
+    /// The index of a task. Takes time and memory in the size of the initial atoms.
+    pub fn of(alloc: Global, task: &'a LiftedTask) -> Result<Facts<'a>, NoMemory>
+        ensures { IfOk result (λ facts. facts.task.now ≡ task.now) }
+    {
+        let tables = tables_of(alloc, task)?;
+        Ok(Facts { task, tables })
+    }
+
+    /// Whether the atom of a predicate and objects is initial. Takes time in the number of the objects, and no memory.
+    pub fn contains(&self, predicate: u32, objects: &[u32]) -> bool
+        ensures { result ≡ set.contains (initial self.now.task.now) (record { predicate = predicate; objects = objects.now }) }
+    {
+        match self.tables.get(predicate as usize) {
+            None => false,
+            Some(table) => table.find(objects).is_some(),
+        }
+    }
+}

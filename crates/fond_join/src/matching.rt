@@ -1,0 +1,83 @@
+//! The kept argument lists of a schema. Parameters are given objects in the order of their declarations, so that the lists
+//! are found in order. Before that, each pair of parameters is looked at alone: if it leaves nothing, there is no search.
+
+ghost use Rattle.fond_ast.specs.declared.task.LSchema.{LSchema};
+ghost use Rattle.fond_join.specs.Kept.{kept_args};
+ghost use Rattle.std.specs.List.{range_with_len};
+ghost use Rattle.std.specs.Prelude.{◌≡◌, ◌<◌, ◌≤◌, Some, None, length, replicate, slice_get, IfOk, MatchOption};
+
+use crate::barren::has_barren_pair;
+use crate::facts::Facts;
+use crate::search::search;
+use crate::value::Scope;
+use fond_ast::task::LiftedTask;
+use fond_text::atom::Objects;
+use fond_text::fault::NoMemory;
+use fond_text::list::List;
+use std::alloc::Global;
+
+/// Lists of arguments, in order.
+pub type ArgsList = List<Objects>;
+
+/// The numbers of some parameters, in the order of their declarations.
+fn declared_order(alloc: Global, count: usize) -> Result<Vec<usize>, NoMemory>
+    ensures { IfOk result (λ order. order.items ≡ range_with_len 0 count) }
+{
+    let mut order = Vec::new(alloc);
+    for parameter in 0..count {
+        order.push(parameter)?;
+    }
+    Ok(order)
+}
+
+/// Parameters without objects.
+fn no_objects(alloc: Global, count: usize) -> Result<Scope, NoMemory>
+    ensures { IfOk result (λ scope. scope.env.items ≡ replicate count None) }
+{
+    Ok(Scope {
+        env: vec![in alloc; None; count]?,
+        key: Vec::new(alloc),
+    })
+}
+
+/// The argument lists of the kept ground actions of a schema, in order, or none if there are more than `most`. Takes the
+/// time of one value of the precondition for each partial list that is reached and each object that is tried after it, and
+/// memory for no more than `most` lists.
+pub fn matches_within(
+    alloc: Global,
+    facts: &Facts,
+    schema: u32,
+    most: usize,
+) -> Result<Option<ArgsList>, NoMemory>
+    requires { schema < length facts.now.task.now.schemas }
+    ensures { (s : LSchema) → slice_get facts.now.task.now.schemas schema ≡ Some s → IfOk result (λ found. MatchOption found
+        (most < length (kept_args facts.now.task.now s))
+        (λ all. (all ≡ kept_args facts.now.task.now s) × (length all ≤ most))) }
+{
+    let schema = facts.task.schemas.get(schema as usize);
+    let count = schema.ranges.len();
+    let order = declared_order(alloc, count)?;
+    let mut scope = no_objects(alloc, count)?;
+    if has_barren_pair(facts, schema, &mut scope)? {
+        return Ok(Some(List::new(alloc)));
+    }
+    let mut found = List::new(alloc);
+    if search(alloc, facts, schema, &order, &mut scope, most, &mut found)? {
+        Ok(Some(found))
+    } else {
+        Ok(None)
+    }
+}
+
+/// The argument lists of the kept ground actions of a schema, in order. More of them than memory may hold are reported as
+/// memory that ran out.
+pub fn matches(alloc: Global, task: &LiftedTask, schema: u32) -> Result<ArgsList, NoMemory>
+    requires { schema < length task.now.schemas }
+    ensures { (s : LSchema) → slice_get task.now.schemas schema ≡ Some s → IfOk result (λ all. all ≡ kept_args task.now s) }
+{
+    let facts = Facts::of(alloc, task)?;
+    match matches_within(alloc, &facts, schema, usize::MAX)? {
+        None => Err(NoMemory),
+        Some(all) => Ok(all),
+    }
+}

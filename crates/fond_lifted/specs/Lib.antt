@@ -1,3 +1,0 @@
-pub mod Values
-pub mod Lists
-pub mod Texts

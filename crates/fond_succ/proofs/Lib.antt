@@ -1,0 +1,7 @@
+mod Added
+mod Alike
+mod ActionTrees
+mod Found
+mod Named
+mod Names
+mod Places
