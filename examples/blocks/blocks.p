@@ -1,0 +1,5 @@
+(define (problem four-blocks)
+(:domain blocks)
+(:objects a b c d - block)
+(:init (on a ground) (on b a) (on c ground) (on d c))
+(:goal (and (on a b) (on b c) (on c d))))

@@ -1,0 +1,5 @@
+(define (problem book-a-trip)
+(:domain dialogue)
+(:objects from to day class - slot low some much - level)
+(:init (less none low) (less low some) (less some much) (patience much) (needs day to) (needs class day))
+(:goal (or (served) (handed-over))))

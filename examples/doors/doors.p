@@ -1,0 +1,6 @@
+(define (problem five-rooms)
+(:domain doors)
+(:objects r1 r2 r3 r4 r5 - room d1 d2 d3 d4 d5 - door)
+(:init (robot-at r1) (joins d1 r1 r2) (joins d2 r2 r3) (joins d3 r3 r4) (joins d4 r4 r5) (joins d5 r1 r4)
+ (open d1) (open d3) (jammed d5))
+(:goal (robot-at r5)))

@@ -1,0 +1,25 @@
+(define (domain elevators)
+(:requirements :adl :non-deterministic)
+(:types floor elevator coin)
+(:predicates (above ?f ?g - floor) (serves ?e - elevator ?f - floor) (at ?e - elevator ?f - floor)
+ (on-floor ?f - floor) (inside ?e - elevator) (lies ?c - coin ?f - floor) (have ?c - coin))
+(:action ride
+ :parameters (?e - elevator ?f ?g - floor)
+ :precondition (and (at ?e ?f) (serves ?e ?g) (or (above ?f ?g) (above ?g ?f)))
+ :effect (and (not (at ?e ?f)) (at ?e ?g)))
+(:action step-in
+ :parameters (?e - elevator ?f - floor)
+ :precondition (and (on-floor ?f) (at ?e ?f))
+ :effect (oneof (and (not (on-floor ?f)) (inside ?e))
+  (forall (?g - floor) (when (and (above ?g ?f) (serves ?e ?g)) (and (not (at ?e ?f)) (at ?e ?g))))))
+(:action step-out
+ :parameters (?e - elevator ?f - floor)
+ :precondition (and (inside ?e) (at ?e ?f))
+ :effect (and (not (inside ?e)) (on-floor ?f)))
+(:action grab
+ :parameters (?c - coin ?f - floor)
+ :precondition (and (on-floor ?f) (lies ?c ?f))
+ :effect (and (not (lies ?c ?f))
+  (oneof (have ?c)
+   (forall (?g - floor)
+    (when (or (above ?f ?g) (and (= ?f ?g) (not (exists (?h - floor) (above ?f ?h))))) (lies ?c ?g)))))))

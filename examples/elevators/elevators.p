@@ -1,0 +1,7 @@
+(define (problem two-coins)
+(:domain elevators)
+(:objects f0 f1 f2 f3 - floor left right - elevator penny dime - coin)
+(:init (above f1 f0) (above f2 f1) (above f3 f2)
+ (serves left f0) (serves left f1) (serves left f2) (serves right f1) (serves right f2) (serves right f3)
+ (at left f2) (at right f1) (on-floor f2) (lies penny f3) (lies dime f1))
+(:goal (forall (?c - coin) (have ?c))))

@@ -1,0 +1,5 @@
+(define (problem five-operations)
+(:domain faults)
+(:objects mix heat press cool pack - operation kit1 kit2 - kit)
+(:init (before mix press) (before heat press) (before press pack) (before cool pack))
+(:goal (forall (?o - operation) (done ?o))))

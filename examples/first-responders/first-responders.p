@@ -1,0 +1,8 @@
+(define (problem two-fires)
+(:domain first-responders)
+(:objects square mill harbor - location engine1 - engine ambulance1 - ambulance ann bob - victim)
+(:init (road square mill) (road square harbor) (hydrant square) (hospital harbor)
+ (unit-at engine1 square) (unit-at ambulance1 harbor) (water engine1)
+ (fire mill) (fire square) (victim-at ann mill) (dying ann) (victim-at bob square) (hurt bob))
+(:goal (and (forall (?l - location) (not (fire ?l)))
+ (forall (?v - victim) (not (or (hurt ?v) (dying ?v)))))))

@@ -1,0 +1,15 @@
+(define (domain forest)
+(:requirements :adl :non-deterministic)
+(:types column row)
+(:predicates (at ?x - column ?y - row) (east ?x ?z - column) (north ?y ?w - row) (beside ?y ?w - row)
+ (ravine ?x - column ?y - row) (trees ?x - column ?y - row))
+(:action walk
+ :parameters (?x - column ?y ?w - row)
+ :precondition (and (at ?x ?y) (or (north ?y ?w) (north ?w ?y))
+  (not (or (ravine ?x ?y) (ravine ?x ?w) (trees ?x ?w))))
+ :effect (and (not (at ?x ?y)) (at ?x ?w)))
+(:action push
+ :parameters (?x ?z - column ?y ?u ?v - row)
+ :precondition (and (at ?x ?y) (east ?x ?z) (beside ?y ?u) (beside ?y ?v) (not (= ?u ?v))
+  (not (ravine ?x ?y)))
+ :effect (and (not (at ?x ?y)) (oneof (at ?z ?y) (at ?z ?u) (at ?z ?v)))))

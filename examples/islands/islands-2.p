@@ -1,0 +1,6 @@
+(define (problem hungry-monkeys)
+(:domain islands)
+(:objects camp grove beach pier cove - place kiki momo - monkey banana - fruit)
+(:init (path camp grove) (path camp beach) (path pier cove) (strait beach pier) (bridge beach pier)
+ (person-at camp) (on-bridge kiki) (on-bridge momo) (fruit-at banana grove))
+(:goal (person-at cove)))

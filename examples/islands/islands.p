@@ -1,0 +1,7 @@
+(define (problem monkeys)
+(:domain islands)
+(:objects camp grove beach pier cove - place kiki momo - monkey banana mango fig - fruit)
+(:init (path camp grove) (path camp beach) (path pier cove) (strait beach pier) (bridge beach pier)
+ (person-at camp) (on-bridge kiki) (on-bridge momo)
+ (fruit-at banana grove) (fruit-at mango grove) (fruit-at fig camp))
+(:goal (person-at cove)))

@@ -1,0 +1,7 @@
+(define (problem two-nuggets)
+(:domain miner)
+(:objects hut - camp adit shaft gallery - mine n1 n2 n3 - nugget oak pine - beam)
+(:init (miner-at hut) (path hut adit) (path hut shaft) (path shaft gallery)
+ (vein n1 adit) (vein n2 shaft) (vein n3 gallery) (beam-at oak hut) (beam-at pine shaft))
+(:goal (and (miner-at hut) (not (buried))
+ (exists (?m ?n - nugget) (and (not (= ?m ?n)) (have ?m) (have ?n))))))

@@ -1,0 +1,7 @@
+(define (problem one-spare-too-few)
+(:domain spiky-tire)
+(:objects town farm ford hill pass city - location t1 - tire)
+(:init (car-at town) (road town farm) (road farm town) (spiky town ford) (spiky farm ford)
+ (spiky ford city) (road ford hill) (spiky hill pass) (road pass city)
+ (tire-at t1 farm))
+(:goal (and (car-at city) (not (flat)))))

@@ -1,0 +1,7 @@
+(define (problem two-travelers)
+(:domain zeno)
+(:objects kos delos samos - city jet - plane cab - taxi ann bob - person half - level)
+(:init (at jet delos) (at cab kos) (at ann delos) (at bob kos) (booked ann jet) (road kos delos)
+ (fuel jet half) (next empty half) (next half full) (pump delos)
+ (alternate kos delos) (alternate samos delos) (alternate delos kos))
+(:goal (and (at ann samos) (at bob samos))))
