@@ -80,7 +80,7 @@ some-object ((object ∷ range) ∷ ranges) zero lt some = omega arith
 some-object ([] ∷ ranges) (suc at) lt some = absurd (cc)
 some-object ((object ∷ range) ∷ ranges) (suc at) lt some = some-object ranges at (omega arith) some
 
--- at the end of a range nothing comes after, if nothing does in the ranges behind
+-- nothing comes after the end of a range if nothing comes after in the later ranges
 pub at-end : (ranges : List (List ℕ)) (places : List ℕ) (at : ℕ) → length places ≡ length ranges → at < length ranges → length (get_or ranges at []) ≤ get_or places at 0 + 1
     → tuples_after (drop (suc at) ranges) (drop (suc at) places) ≡ [] → tuples_after (drop at ranges) (drop at places) ≡ []
 at-end [] places at long lt end none = absurd (omega arith)

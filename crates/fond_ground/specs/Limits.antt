@@ -18,6 +18,7 @@ has_few effect objects = nat_le (length (outcomes objects effect)) MOST_OUTCOMES
 abbrev pub has_few_outcomes : LiftedTask → LSchema → Bool
 has_few_outcomes task schema = list_all (has_few schema.effect) (kept_args task schema)
 
--- a fault is that of a schema, of which some kept action has more than 256 outcomes, and each schema before has none
+-- a fault is that of a schema of which some kept action has more than 256 outcomes, while no kept action of an earlier schema
+-- has
 abbrev pub IsFirstMany : LiftedTask → Fault → List LSchema → LSchema → Type 0
 IsFirstMany task fault before schema = (list_all (has_few_outcomes task) before ≡ true) × (has_few_outcomes task schema ≡ false) × (fault ≡ at_domain schema.place TOO_MANY_OUTCOMES)

@@ -1,4 +1,5 @@
-//! The actions of the ground task.
+//! The actions of the ground task. The kept lists of objects of all schemas are found before any action is grounded, since
+//! too many actions are reported before too many outcomes are.
 
 ghost use Rattle.fond_ast.specs.declared.task.LSchema.{LSchema};
 ghost use Rattle.fond_ground.specs.Atoms.{fluent_atoms};
