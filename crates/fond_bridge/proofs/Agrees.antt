@@ -17,12 +17,10 @@ use Rattle.fond_task.specs.declared.task.Act.{Act}
 use Rattle.fond_task.specs.declared.task.Task.{Task}
 use Rattle.fond_task.specs.Distinct.{action_numbers}
 use Rattle.fond_game.specs.Policies as ground
-use Rattle.fond_game.specs.Policies.{selected}
-use Rattle.fond_game.specs.declared.rule.Rule.{Rule}
 use Rattle.fond_ground.specs.Grounds.{IsGroundOf}
 use Rattle.fond_bridge.specs.Stands.{restrict, stands}
 use Rattle.fond_bridge.specs.Games.{IsState, PlaysGameOf, action_of}
-use Rattle.fond_bridge.specs.Solutions.{Agree, rules_policy}
+use Rattle.fond_bridge.specs.Solutions.{Agree, lifted_policy}
 use Rattle.fond_bridge.proofs.Lists.{Member-at}
 use Rattle.fond_bridge.proofs.Places.{same_tests, has_position, item-at, one_place}
 use Rattle.fond_bridge.proofs.Kept.{mapped}
@@ -113,7 +111,7 @@ module _ (task : LiftedTask) (game : Task) (is : IsGroundOf task game) where
     first_fits = is_fits game.init game.init_long;
     first = play.first;
     goal = λ values fits. play.goal values (fits_is values fits);
-    has_action = λ values number applies. (applies.act.ground, names_action number applies.act applies.numbered);
+    has_action = λ values number applies. play.numbered values number applies;
     next_applies = λ values number after next. record { act = next.act; numbered = next.numbered; holds = next.holds };
     comes_applies = λ state action after next. record { schema = next.schema; numbered = next.numbered; fits = next.fits; holds = next.holds };
     kept = λ values action fits applies. play.kept values action (fits_is values fits) applies;
@@ -123,13 +121,13 @@ module _ (task : LiftedTask) (game : Task) (is : IsGroundOf task game) where
     unfair = λ number action at. play.unfair number action at;
   }
 
-  -- the policy of a rule list chooses alike in both games
-  rules_correspond : (rules : List Rule) → Correspond (naming task game) (selected rules) (rules_policy task game rules)
-  rules_correspond rules values number action fits at =
-      let same : rules_policy task game rules (stands task values) ≡ option_and_then (action_of game) (selected rules values) = ap (λ one. option_and_then (action_of game) (selected rules one)) (restricted values (fits_is values fits)) in (
+  -- a policy of the ground task chooses alike in both games
+  policies_correspond : (choose : ground.Policy) → Correspond (naming task game) choose (lifted_policy task game choose)
+  policies_correspond choose values number action fits at =
+      let same : lifted_policy task game choose (stands task values) ≡ option_and_then (action_of game) (choose values) = ap (λ one. option_and_then (action_of game) (choose one)) (restricted values (fits_is values fits)) in (
         λ chosen. same ∙ ap (option_and_then (action_of game)) chosen ∙ at,
         λ taken.
-            let from = and_then (action_of game) (selected rules values) action (sym same ∙ taken) in
+            let from = and_then (action_of game) (choose values) action (sym same ∙ taken) in
             from.1 ∙ ap Some (one_number from.0 number action from.2 at),
       )
 
@@ -140,19 +138,19 @@ module _ (task : LiftedTask) (game : Task) (is : IsGroundOf task game) where
       let above = lifted.game task in
       let below = ground.game game in
       record {
-        solution = λ rules. (
-          solution_down names above below bridge (selected rules) (rules_policy task game rules) (rules_correspond rules),
-          solution_up names above below bridge (selected rules) (rules_policy task game rules) (rules_correspond rules),
+        solution = λ choose. (
+          solution_down names above below bridge choose (lifted_policy task game choose) (policies_correspond choose),
+          solution_up names above below bridge choose (lifted_policy task game choose) (policies_correspond choose),
         );
-        reached = λ rules state. (
+        reached = λ choose state. (
           λ reached.
-              let here = reach_up names above below bridge (selected rules) (rules_policy task game rules) (rules_correspond rules) state reached in
+              let here = reach_up names above below bridge choose (lifted_policy task game choose) (policies_correspond choose) state reached in
               (here.state, here.walked, here.stands),
-          λ one. subst (lifted.Reach task (rules_policy task game rules)) (sym one.2) (reach_down names above below bridge (selected rules) (rules_policy task game rules) (rules_correspond rules) one.0 one.1).1,
+          λ one. subst (lifted.Reach task (lifted_policy task game choose)) (sym one.2) (reach_down names above below bridge choose (lifted_policy task game choose) (policies_correspond choose) one.0 one.1).1,
         );
-        count = λ rules count. (
-          count_down names above below bridge (selected rules) (rules_policy task game rules) (rules_correspond rules) count,
-          count_up names above below bridge (selected rules) (rules_policy task game rules) (rules_correspond rules) count,
+        count = λ choose count. (
+          count_down names above below bridge choose (lifted_policy task game choose) (policies_correspond choose) count,
+          count_up names above below bridge choose (lifted_policy task game choose) (policies_correspond choose) count,
         );
         solvable = (solvable_down names above below bridge is_same_state same_state_is, solvable_up names above below bridge);
         more = λ bound. (more_down names above below bridge bound, more_up names above below bridge bound);

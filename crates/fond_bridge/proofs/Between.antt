@@ -1,6 +1,6 @@
 -- The laws between a task and its ground task.
 use Rattle.std.proofs.Common.{ap, sym, ◌∙◌, subst}
-use Rattle.fond_bridge.specs.Laws.{GroundTasksPlay, GroundTasksAgree, OutcomesLeadAlike, TextsAgree, StandsIsInjective, TracesAgree}
+use Rattle.fond_bridge.specs.Laws.{GroundTasksPlay, GroundTasksAgree, OutcomesLeadAlike, TextsAgree, StandsIsInjective, TracesStand}
 use Rattle.fond_bridge.specs.Stands.{restrict, stands}
 use Rattle.fond_bridge.specs.Traces.{Trace}
 use Rattle.fond_meaning.specs.Outcomes.{outcomes}
@@ -26,6 +26,6 @@ texts-agree task game values is state = texts_alike task game is values
 pub stands-is-injective : StandsIsInjective
 stands-is-injective task game values other is state also same = sym (restricted task game is values state) ∙ ap (restrict task) same ∙ restricted task game is other also
 
-pub traces-agree : TracesAgree
-traces-agree task game rules numbers lines last is trace =
+pub traces-stand : TracesStand
+traces-stand task game rules numbers lines last is trace =
     subst (λ first. Trace task game rules first numbers lines (stands task last)) (plays task game is).first (trace_alike task game is rules game.init numbers lines last game.init_long trace)

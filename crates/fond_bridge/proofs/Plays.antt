@@ -144,6 +144,7 @@ module _ (task : LiftedTask) (game : Task) (is : IsGroundOf task game) where
     first = ap (stands task) is.init ∙ stands_initial task distinct;
     goal = goal_alike;
     applicable = λ values number action state at. (let one = named number action at in (applies_down values state number action one, applies_up values state number action one));
+    numbered = λ values number applies. (applies.act.ground, ap (option_map (λ (act : Act). act.ground)) applies.numbered);
     kept = λ values action state applies. kept_alike values state action applies;
     leads = λ values number action next state at leads. leads_down values state number action (named number action at) next leads;
     comes = λ values number action next state at comes. comes_up values state number action (named number action at) next comes;

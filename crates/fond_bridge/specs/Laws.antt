@@ -21,7 +21,8 @@ use Rattle.fond_bridge.specs.Traces.{Trace}
 abbrev pub GroundTasksPlay : Type 0
 GroundTasksPlay = (task : LiftedTask) (game : Task) → IsGroundOf task game → PlaysGameOf task game
 
--- the ground task of a task agrees with it on solutions, reached states and their number
+-- the ground task of a task agrees with it on solutions, reached states and their number, solvability, and how many states can be
+-- reached at all
 abbrev pub GroundTasksAgree : Type 0
 GroundTasksAgree = (task : LiftedTask) (game : Task) → IsGroundOf task game → Agree task game
 
@@ -38,7 +39,7 @@ TextsAgree = (task : LiftedTask) (game : Task) (values : List Bool) → IsGround
 abbrev pub StandsIsInjective : Type 0
 StandsIsInjective = (task : LiftedTask) (game : Task) (values other : List Bool) → IsGroundOf task game → IsState game values → IsState game other → stands task values ≡ stands task other → values ≡ other
 
--- a trace of the ground task is one of the task, with the same lines
-abbrev pub TracesAgree : Type 0
-TracesAgree = (task : LiftedTask) (game : Task) (rules : List Rule) (numbers lines : List ℕ) (last : List Bool) → IsGroundOf task game
+-- a trace of the ground task stands for one of the task, with the same lines
+abbrev pub TracesStand : Type 0
+TracesStand = (task : LiftedTask) (game : Task) (rules : List Rule) (numbers lines : List ℕ) (last : List Bool) → IsGroundOf task game
     → ground.Trace game rules game.init numbers lines last → Trace task game rules (initial task) numbers lines (stands task last)

@@ -12,17 +12,22 @@ use Rattle.fond_task.specs.declared.task.Task.{Task}
 use Rattle.fond_bridge.specs.Stands.{restrict, stands}
 use Rattle.fond_bridge.specs.Games.{action_of}
 
--- the policy of a rule list in the states of a task: it chooses the action of the first rule whose literals all hold
-abbrev pub rules_policy : LiftedTask → Task → List Rule → lifted.Policy
-rules_policy task game rules state = option_and_then (action_of game) (selected rules (restrict task state))
+-- a policy of the ground task in the states of the task: it chooses the action of the number that is chosen for the truth
+-- values of the fluent atoms, and none if there is no such action
+abbrev pub lifted_policy : LiftedTask → Task → ground.Policy → lifted.Policy
+lifted_policy task game choose state = option_and_then (action_of game) (choose (restrict task state))
 
--- a ground task and its task agree. The rules of a list are a solution of the one if and only if they are one of the other,
--- reach the states for which reached ones stand, and as many; one is solvable if and only if the other is; and in both or
--- none more than a number of states can be reached
+-- the policy of a rule list in the states of the task: it chooses the action of the first rule whose literals all hold
+abbrev pub rules_policy : LiftedTask → Task → List Rule → lifted.Policy
+rules_policy task game rules = lifted_policy task game (selected rules)
+
+-- a ground task and its task agree. A policy of the ground task is a solution of the one if and only if it is one of the other,
+-- it reaches the states for which reached ones stand, and as many; one is solvable if and only if the other is; and in both
+-- or none more than a number of states can be reached
 pub record Agree (task : LiftedTask) (game : Task) : Type 0 where
-  pub solution : (rules : List Rule) → ground_solutions.IsSolution game (selected rules) ↔ lifted.IsSolution task (rules_policy task game rules)
-  pub reached : (rules : List Rule) (state : State)
-      → lifted.Reach task (rules_policy task game rules) state ↔ ((values : List Bool) × ground.Reach game (selected rules) values × (state ≡ stands task values))
-  pub count : (rules : List Rule) (count : ℕ) → games.ReachesCount (ground.game game) (selected rules) count ↔ games.ReachesCount (lifted.game task) (rules_policy task game rules) count
+  pub solution : (choose : ground.Policy) → ground_solutions.IsSolution game choose ↔ lifted.IsSolution task (lifted_policy task game choose)
+  pub reached : (choose : ground.Policy) (state : State)
+      → lifted.Reach task (lifted_policy task game choose) state ↔ ((values : List Bool) × ground.Reach game choose values × (state ≡ stands task values))
+  pub count : (choose : ground.Policy) (count : ℕ) → games.ReachesCount (ground.game game) choose count ↔ games.ReachesCount (lifted.game task) (lifted_policy task game choose) count
   pub solvable : ground_solutions.IsSolvable game ↔ lifted.IsSolvable task
   pub more : (bound : ℕ) → games.More (ground.game game) bound ↔ lifted.More task bound

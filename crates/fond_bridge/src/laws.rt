@@ -1,6 +1,6 @@
 //! The laws between a task and its ground task, each as the contract of a function that does nothing.
 
-ghost use Rattle.fond_bridge.specs.Laws.{GroundTasksAgree, GroundTasksPlay, OutcomesLeadAlike, StandsIsInjective, TextsAgree, TracesAgree};
+ghost use Rattle.fond_bridge.specs.Laws.{GroundTasksAgree, GroundTasksPlay, OutcomesLeadAlike, StandsIsInjective, TextsAgree, TracesStand};
 
 /// The ground task of a task plays its game.
 pub fn ground_tasks_play()
@@ -27,7 +27,7 @@ pub fn stands_is_injective()
     ensures { StandsIsInjective }
 {}
 
-/// A trace of the ground task is one of the task, with the same lines.
-pub fn traces_agree()
-    ensures { TracesAgree }
+/// A trace of the ground task stands for one of the task, with the same lines.
+pub fn traces_stand()
+    ensures { TracesStand }
 {}

@@ -1,6 +1,6 @@
 use fond_bridge::laws::{
     ground_tasks_agree, ground_tasks_play, outcomes_lead_alike, stands_is_injective, texts_agree,
-    traces_agree,
+    traces_stand,
 };
 use fond_game::laws::{layers_force, ranks_exclude_traps, refusals_hold};
 use fond_meaning::laws::{
@@ -29,7 +29,7 @@ fn laws_of_grounding_can_be_called() {
     outcomes_lead_alike();
     texts_agree();
     stands_is_injective();
-    traces_agree();
+    traces_stand();
 }
 
 #[test]

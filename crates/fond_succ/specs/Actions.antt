@@ -48,7 +48,7 @@ pub record AreNamesOf (task : LiftedTask) (names : List (List ℕ)) (action : Gr
   pub fits : IsTuple schema.ranges action.objects
   pub named : names ≡ schema.name ∷ map (name_at task.objects) action.objects
 
--- a word names a ground action of a task: its names are those of the action
+-- a word that is an action names a ground action of a task: its names are those of the action
 abbrev pub NamesAction : LiftedTask → List ℕ → GroundAction → Type 0
 NamesAction task word action = AreNamesOf task (names_in word) action
 

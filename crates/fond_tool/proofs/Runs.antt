@@ -4,7 +4,7 @@ use Rattle.std.specs.Prelude.{if◌then◌else◌}
 use Rattle.fond_ast.specs.declared.task.LiftedTask.{LiftedTask}
 use Rattle.fond_bridge.specs.Games.{IsState}
 use Rattle.fond_bridge.specs.Stands.{stands}
-use Rattle.fond_bridge.proofs.Between.{ground-tasks-play, texts-agree, traces-agree}
+use Rattle.fond_bridge.proofs.Between.{ground-tasks-play, texts-agree, traces-stand}
 use Rattle.fond_bridge.proofs.Places.{same_tests}
 use Rattle.fond_cert.specs.declared.error.CertError.{CertError}
 use Rattle.fond_cert.specs.declared.error.CertError.TheVariants as cert_error
@@ -69,4 +69,4 @@ module _ (texts : TaskTexts) (cert script : List ℕ) (task : LiftedTask) (game 
         (lines : List ℕ) × (last : List Bool) × steps.Trace game rules game.init numbers lines last × (reply ≡ ground_reply game lines last) → RunReply texts cert script reply
     traced numbers reply spelled h =
         subst (RunReply texts cert script) (sym (h.3 ∙ reply_alike task game h.0 h.1 of.1 (last_long game rules game.init numbers h.0 h.1 game.init_long h.2)))
-        (RunReply.ran task game rules reach numbers h.0 (stands task h.1) of read spelled (traces-agree task game rules numbers h.0 h.1 of.1 h.2))
+        (RunReply.ran task game rules reach numbers h.0 (stands task h.1) of read spelled (traces-stand task game rules numbers h.0 h.1 of.1 h.2))

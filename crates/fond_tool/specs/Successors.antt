@@ -16,8 +16,8 @@ pub data AnswersAction (task : LiftedTask) (action : GroundAction) : Reply → T
   inapplicable : ¬ IsApplicable task (initial task) action → AnswersAction task action (line_reply (codes "applicable no") Done)
   successors : (text : List ℕ) → IsSuccessorsText task action text → AnswersAction task action (record { text = codes "applicable yes\n" ++ text; status = Done })
 
--- what `succ` replies: a refusal of its files, a rejection of its action, or the reply to the ground action that the word
--- names
+-- what `succ` replies, over an empty side list and a word that is an action: a refusal of its files, a rejection of its
+-- action, or the reply to the ground action that the word names
 pub data SuccReply (texts : TaskTexts) (word : List ℕ) : Reply → Type 0 where
   refused : (fault : Fault) → IsRefusal texts fault → SuccReply texts word (fault_reply fault)
   unknown : (task : LiftedTask) → Describe texts task → NamesNone task word → SuccReply texts word action_reply
