@@ -1,7 +1,7 @@
 -- Adding the states to which the outcomes of an action lead.
-use Rattle.std.proofs.Common.{◌≡◌, ℕ, suc, ◌+◌, ◌<◌, ◌≤◌, ◌∙◌, ◌⊎◌, inl, inr, ⊎_elim, Bool, true, false, List, [], ◌∷◌, ◌++◌, map, fold, drop, length, Some, slice_get, refl, sym, ap, subst, arith, true≢false, length-append, append_assoc}
-use Rattle.std.specs.Prelude.{◌||◌, ◌&&◌, nat_le, nat_lt, Contains, if◌then◌else◌}
-use Rattle.std.specs.Bool.{Decides, beq}
+use Rattle.std.proofs.Common.{◌≡◌, ℕ, ◌+◌, ◌≤◌, ◌∙◌, ◌⊎◌, inl, inr, Bool, true, false, List, [], ◌∷◌, ◌++◌, map, fold, drop, length, Some, slice_get, refl, sym, ap, subst, arith, length-append, append_assoc}
+use Rattle.std.specs.Prelude.{◌&&◌, nat_le, nat_lt, Contains, if◌then◌else◌}
+use Rattle.std.specs.Bool.{beq}
 use Rattle.std.specs.Cmp.{booleans_Decides}
 use Rattle.std.specs.Cmp.Lexicographic.{pointwise, pointwise_decides}
 use Rattle.std.specs.List.{flat_map, list_all, list_any}
@@ -19,7 +19,7 @@ use Rattle.fond_task.specs.declared.task.Task.{Task}
 use Rattle.fond_meaning.proofs.Come.{all-at}
 use Rattle.fond_meaning.proofs.Members.{Contains-from_Member, Member}
 use Rattle.fond_meaning.proofs.Tested.{some-member}
-use Rattle.fond_succ.specs.Steps.{added, once}
+use Rattle.fond_succ.specs.Steps.{added}
 
 -- an action of a task has few outcomes
 pub few_outcomes : (game : Task) (number : ℕ) (act : Act) → slice_get game.acts number ≡ Some act → length act.outcomes ≤ 256

@@ -1,6 +1,6 @@
 -- The successors in the ground task stand for those in the task.
-use Rattle.std.proofs.Common.{◌≡◌, ℕ, zero, suc, ◌∙◌, ◌⊎◌, inl, inr, Bool, true, false, List, [], ◌∷◌, ◌++◌, map, fold, length, Some, slice_get, option_map, refl, sym, ap, subst, true≢false}
-use Rattle.std.specs.Prelude.{◌||◌, Contains, if◌then◌else◌}
+use Rattle.std.proofs.Common.{◌≡◌, ℕ, ◌∙◌, inl, inr, Bool, true, false, List, [], ◌∷◌, ◌++◌, map, fold, Some, slice_get, option_map, refl, sym, ap, subst, true≢false}
+use Rattle.std.specs.Prelude.{◌||◌, if◌then◌else◌}
 use Rattle.std.specs.Bool.{Decides, beq}
 use Rattle.std.specs.Cmp.{booleans_Decides}
 use Rattle.std.specs.Cmp.Lexicographic.{pointwise, pointwise_decides}
@@ -11,17 +11,16 @@ use Rattle.std.proofs.lemmas.Option.{same_Some}
 use Rattle.fond_text.specs.declared.atom.GroundAction.{GroundAction}
 use Rattle.fond_ast.specs.declared.task.LiftedTask.{LiftedTask}
 use Rattle.fond_meaning.specs.States.{State}
-use Rattle.fond_meaning.specs.Outcomes.{is_same_state, once as once_of, outcomes, state_after, successors}
+use Rattle.fond_meaning.specs.Outcomes.{is_same_state, once as once_of, outcomes, state_after}
 use Rattle.fond_meaning.specs.Solutions.{IsApplicable, initial}
 use Rattle.fond_meaning.proofs.Once.{same-itself, same-states}
-use Rattle.fond_task.specs.Steps.{adds, deletes, next_state}
+use Rattle.fond_task.specs.Steps.{next_state}
 use Rattle.fond_task.specs.Texts as ground_texts
 use Rattle.fond_task.specs.Truth.{is_true}
 use Rattle.fond_task.specs.declared.task.Act.{Act}
 use Rattle.fond_task.specs.declared.task.Entry.{Entry}
 use Rattle.fond_task.specs.declared.task.Task.{Task}
 use Rattle.fond_task.proofs.Indices.{length-by_index}
-use Rattle.fond_game.specs.Policies as ground
 use Rattle.fond_ground.specs.Grounds.{IsGroundOf}
 use Rattle.fond_ground.specs.Texts.{state_text}
 use Rattle.fond_bridge.specs.Stands.{stands}
@@ -50,8 +49,8 @@ module _ (task : LiftedTask) (game : Task) (is : IsGroundOf task game) where
 
   same-test : (values other : List Bool) → IsState game values → IsState game other → pointwise beq values other ≡ is_same_state (S values) (S other)
   same-test values other state also = same_tests _ _
-    (λ told. subst (λ v. is_same_state (S values) (S v) ≡ true) ((decides values other).0 told) (same-itself (S values)))
-    (λ told. (decides values other).1 (stands-is-injective task game values other is state also (same-states (S values) (S other) told)))
+      (λ told. subst (λ v. is_same_state (S values) (S v) ≡ true) ((decides values other).0 told) (same-itself (S values)))
+      (λ told. (decides values other).1 (stands-is-injective task game values other is state also (same-states (S values) (S other) told)))
 
   same-any : (values : List Bool) (before : List (List Bool)) → IsState game values → AreStates game before → list_any (pointwise beq values) before ≡ list_any (is_same_state (S values)) (map S before)
   same-any values [] state all = refl
@@ -117,7 +116,7 @@ module _ (task : LiftedTask) (game : Task) (is : IsGroundOf task game) where
         map-map S (next_state game.init) act.outcomes ∙ ap (λ (a : Act). map (λ outcome. S (next_state game.init outcome)) a.outcomes) (sym acts) ∙ lead ∙ ap (λ s. map (state_after s) (outcomes action.objects one.is.schema.effect)) first in
         record {
           applicable = subst (λ s. IsApplicable task s action) first
-          (((ground-tasks-play task game is).applicable game.init number action game.init_long numbered).0 (record { act = act; numbered = at; holds = holds }));
+              (((ground-tasks-play task game is).applicable game.init number action game.init_long numbered).0 (record { act = act; numbered = at; holds = holds }));
           schema = one.is.schema;
           numbered = one.is.numbered;
           text_is = text-of (once states) (fold-states states [] none all) ∙ ap (flat_map (state_text task)) (fold-put states [] none all ∙ ap once_of shown);

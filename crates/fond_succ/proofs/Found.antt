@@ -1,11 +1,9 @@
 -- The ground action that names name, if they name one.
-use Rattle.std.proofs.Common.{◌≡◌, ℕ, zero, suc, ◌∙◌, Bool, true, List, [], ◌∷◌, map, length, Some, None, Option, is_some, slice_get, MatchOption, refl, sym, ap, subst}
+use Rattle.std.proofs.Common.{◌≡◌, ℕ, zero, suc, ◌∙◌, List, [], ◌∷◌, map, length, Some, slice_get, refl, sym, ap, subst}
 use Rattle.std.specs.Prelude.{IsTrue}
-use Rattle.std.specs.List.{filter_map, list_all}
 use Rattle.std.proofs.lemmas.Option.{same_Some}
-use Rattle.fond_text.specs.Lists.{are_distinct_texts}
 use Rattle.fond_text.specs.declared.atom.GroundAction.{GroundAction}
-use Rattle.fond_ast.specs.Within.{are_ranges_within, is_condition_within, is_effect_within, is_schema_within}
+use Rattle.fond_ast.specs.Within.{are_ranges_within, is_schema_within}
 use Rattle.fond_ast.specs.declared.task.LSchema.{LSchema}
 use Rattle.fond_ast.specs.declared.task.LiftedTask.{LiftedTask}
 use Rattle.fond_bridge.proofs.Places.{one_place}

@@ -1,12 +1,10 @@
 -- Which object of a range, and which objects of ranges, names name.
-use Rattle.std.proofs.Common.{◌≡◌, ℕ, zero, suc, ◌+◌, ◌<◌, ◌≤◌, ◌∙◌, ◌⊎◌, inl, inr, ⊎_elim, Bool, true, false, List, [], ◌∷◌, ◌++◌, map, take, length, get_or, Some, None, is_some, Option, slice_get, refl, sym, ap, subst, arith, true≢false}
-use Rattle.std.specs.Prelude.{◌&&◌, ◌==◌, Contains, IsTrue, nat_lt, slice_index_or}
-use Rattle.std.specs.List.{filter_map, list_all}
-use Rattle.std.specs.Str.{bytes_eq}
-use Rattle.std.proofs.lemmas.Bool.{and_parts, cases_lt}
+use Rattle.std.proofs.Common.{◌≡◌, ℕ, zero, suc, ◌+◌, ◌<◌, ◌≤◌, ◌∙◌, ◌⊎◌, inl, inr, true, List, [], ◌∷◌, length, get_or, Some, slice_get, refl, sym, ap, arith}
+use Rattle.std.specs.Prelude.{Contains, IsTrue, nat_lt}
+use Rattle.std.specs.List.{list_all}
+use Rattle.std.proofs.lemmas.Bool.{cases_lt}
 use Rattle.std.proofs.lemmas.Bool.Decides.{nat_tests}
-use Rattle.std.proofs.lemmas.Option.{same_Some, slice_get_within, get_or_from_slice_get, slice_get-get_or}
-use Rattle.std.proofs.lemmas.Slice.Eq.{bytes_eq-Decides}
+use Rattle.std.proofs.lemmas.Option.{get_or_from_slice_get, slice_get-get_or}
 use Rattle.fond_task.specs.Texts.{name_at}
 use Rattle.fond_meaning.proofs.Come.{all-at}
 

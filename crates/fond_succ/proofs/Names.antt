@@ -1,5 +1,5 @@
 -- The names in an action word are those of the leaves of the tree that it is read as.
-use Rattle.std.proofs.Common.{◌≡◌, ℕ, ◌∙◌, ◌⊎◌, inl, inr, ◌&&◌, Bool, true, false, List, [], ◌∷◌, ◌++◌, Some, None, is_some, Option, append-nil, refl, sym, ap, subst, Result, IfOk, MatchOption}
+use Rattle.std.proofs.Common.{◌≡◌, ℕ, ◌∙◌, ◌⊎◌, inl, inr, Bool, true, List, [], ◌∷◌, ◌++◌, Some, None, is_some, Option, append-nil, refl, sym, ap, subst, Result, IfOk, MatchOption}
 use Rattle.std.specs.List.{filter_map, flat_map, list_all}
 use Rattle.std.proofs.lemmas.Bool.{and_parts, false≢true}
 use Rattle.std.proofs.lemmas.List.Elements.{filter_map-append}
@@ -7,9 +7,8 @@ use Rattle.fond_text.specs.declared.atom.GroundAction.{GroundAction}
 use Rattle.fond_text.specs.declared.fault.NoMemory.{NoMemory}
 use Rattle.fond_ast.specs.declared.task.LiftedTask.{LiftedTask}
 use Rattle.fond_tree.specs.declared.tree.Tree.{Tree}
-use Rattle.fond_tree.specs.Marks.{tokens}
 use Rattle.fond_tree.specs.Spelling.{IsReadAs, spelling}
-use Rattle.fond_tree.specs.Tokens.{Token, Opens, Closes, Names}
+use Rattle.fond_tree.specs.Tokens.{Closes}
 use Rattle.fond_tree.specs.Trees.{leaf_of, members_of}
 use Rattle.fond_succ.specs.Actions.{AreNamesOf, NamesAction, NamesNone, is_leaf_node, leaf_names, name_of, names_in}
 use Rattle.fond_succ.proofs.ActionTrees.{IsLeafTree, IsNodeTree, cases_of}

@@ -1,7 +1,7 @@
 -- Objects of ranges, place by place, and their names.
-use Rattle.std.proofs.Common.{◌≡◌, ℕ, zero, suc, ◌+◌, ◌<◌, ◌≤◌, ◌∙◌, ◌⊎◌, inl, inr, Bool, true, false, List, [], ◌∷◌, ◌++◌, map, take, length, get_or, Some, None, is_some, Option, slice_get, refl, sym, ap, subst, arith, true≢false}
+use Rattle.std.proofs.Common.{◌≡◌, ℕ, zero, suc, ◌+◌, ◌<◌, ◌≤◌, ◌∙◌, Bool, true, List, [], ◌∷◌, ◌++◌, map, take, length, get_or, Some, None, is_some, Option, slice_get, refl, sym, ap, subst, arith}
 use Rattle.std.specs.Prelude.{◌&&◌, ◌==◌, nat_lt, Contains, IsTrue}
-use Rattle.std.specs.List.{filter_map, list_all, list_any}
+use Rattle.std.specs.List.{list_all}
 use Rattle.std.proofs.lemmas.Bool.{and_parts}
 use Rattle.std.proofs.lemmas.Bool.Decides.{nat_tests}
 use Rattle.std.proofs.lemmas.List.{length-map, map-append, take_all, take_more}
@@ -12,7 +12,7 @@ use Rattle.std.specs.declared.rc.Rc.{Rc}
 use Rattle.fond_ast.specs.Ranges.{RangeList, is_among, is_rising, objects_of}
 use Rattle.fond_ast.specs.Within.{are_ranges_within}
 use Rattle.fond_meaning.proofs.Come.{all-at}
-use Rattle.fond_meaning.specs.Conditions.{IsTuple, tuples}
+use Rattle.fond_meaning.specs.Conditions.{IsTuple}
 use Rattle.fond_meaning.proofs.Members.{Member, Contains-from_Member, Member-from_Contains}
 use Rattle.fond_meaning.proofs.Tested.{member-some, some-member}
 use Rattle.fond_meaning.proofs.Tuples.{tuples-lie-in-ranges}
@@ -152,7 +152,7 @@ objects_at ranges i range objects at same = from ranges i at
 pub range_within : (count : ℕ) (ranges : RangeList) (i : ℕ) (range : Rc (List ℕ) Global) (objects : List ℕ) → IsTrue (are_ranges_within count ranges) → slice_get ranges i ≡ Some range → objects ≡ range.value → IsTrue (list_all (λ object. nat_lt object count) objects)
 range_within count ranges i range objects within at same =
     (and_parts (is_rising objects) (list_all (λ object. nat_lt object count) objects)
-      (all-at (λ (one : List ℕ). is_rising one && list_all (λ object. nat_lt object count) one) (objects_of ranges) i objects (objects_at ranges i range objects at same) within)).1
+    (all-at (λ (one : List ℕ). is_rising one && list_all (λ object. nat_lt object count) one) (objects_of ranges) i objects (objects_at ranges i range objects at same) within)).1
 
 -- the leaf at an index has a name
 pub some_leaf : (trees : List Tree) (i : ℕ) (tree : Tree) → are_leaf_trees trees ≡ true → slice_get trees i ≡ Some tree → (name : List ℕ) × (leaf_of tree ≡ Some name)

@@ -94,7 +94,12 @@ fn find_object(names: &Names, range: &Objects, name: &[u8]) -> Option<u32>
 }
 
 /// The objects that the trees of leaves name, place by place in these ranges, or none if they name no such objects.
-fn find_objects(alloc: Global, names: &Names, ranges: &Ranges, leaves: &[Tree]) -> Result<Option<Objects>, NoMemory>
+fn find_objects(
+    alloc: Global,
+    names: &Names,
+    ranges: &Ranges,
+    leaves: &[Tree],
+) -> Result<Option<Objects>, NoMemory>
     requires within { IsTrue (are_ranges_within (length names.now) ranges.now) }
     requires leaves { IsTrue (list_all (λ tree. is_some (leaf_of tree)) leaves.now) }
     ensures { IfOk result (λ found. MatchOption found
@@ -115,7 +120,11 @@ fn find_objects(alloc: Global, names: &Names, ranges: &Ranges, leaves: &[Tree]) 
 }
 
 /// The ground action that the members of a node of leaves name, if they name one.
-fn find_named(alloc: Global, task: &LiftedTask, leaves: &[Tree]) -> Result<Option<GroundAction>, NoMemory>
+fn find_named(
+    alloc: Global,
+    task: &LiftedTask,
+    leaves: &[Tree],
+) -> Result<Option<GroundAction>, NoMemory>
     requires { IsTrue (list_all (λ tree. is_some (leaf_of tree)) leaves.now) }
     ensures { IfOk result (λ found. MatchOption found ((action : GroundAction) → ¬ AreNamesOf task.now (leaf_names leaves.now) action) (AreNamesOf task.now (leaf_names leaves.now))) }
 {
@@ -134,7 +143,11 @@ fn find_named(alloc: Global, task: &LiftedTask, leaves: &[Tree]) -> Result<Optio
 
 /// The ground action that an action word names, if it names one. Takes time in the length of the word and in the names of
 /// the schemas and of the objects in the ranges of the schema's parameters.
-pub fn find_action(alloc: Global, task: &LiftedTask, word: &Word) -> Result<Option<GroundAction>, NoMemory>
+pub fn find_action(
+    alloc: Global,
+    task: &LiftedTask,
+    word: &Word,
+) -> Result<Option<GroundAction>, NoMemory>
     requires { IsAction word.now }
     ensures { IfOk result (λ found. MatchOption found (NamesNone task.now word.now) (NamesAction task.now word.now)) }
 {

@@ -48,9 +48,10 @@ reply_alike task game lines last is state = λ i. record {
 }
   where
     same : is_true last game.goal ≡ holds (stands task last) [] task.goal
-    same = same_tests _ _
-    (λ told. (truth-is-tested (stands task last) [] task.goal).0 (((ground-tasks-play task game is).goal last state).0 told))
-    (λ told. ((ground-tasks-play task game is).goal last state).1 ((truth-is-tested (stands task last) [] task.goal).1 told))
+    same =
+        same_tests _ _
+        (λ told. (truth-is-tested (stands task last) [] task.goal).0 (((ground-tasks-play task game is).goal last state).0 told))
+        (λ told. ((ground-tasks-play task game is).goal last state).1 ((truth-is-tested (stands task last) [] task.goal).1 told))
 
 module _ (texts : TaskTexts) (cert script : List ℕ) (task : LiftedTask) (game : Task) (of : DescribeGround texts task game) where
   -- a certificate with a fault is rejected with it

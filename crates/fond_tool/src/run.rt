@@ -8,9 +8,9 @@ ghost use Rattle.fond_tool.specs.Runs.{RunReply};
 ghost use Rattle.std.specs.Prelude.{◌≡◌, ℕ, Bool, List, IfOk, IfErr};
 
 use crate::answer::Answer;
-use crate::task_files::read_files;
 use crate::rejection::Rejection;
 use crate::status::Status;
+use crate::task_files::read_files;
 use fond_cert::policy::read_policy;
 use fond_exec::script::read_script;
 use fond_exec::trace::trace;

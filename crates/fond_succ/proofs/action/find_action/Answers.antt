@@ -1,7 +1,5 @@
-use Rattle.std.proofs.Common.{◌≡◌, ◌∙◌, List, Some, Option, Bor, sym, ap, subst}
-use Rattle.fond_text.specs.declared.atom.GroundAction.{GroundAction}
-use Rattle.fond_tree.specs.declared.tree.Tree.{Tree}
-use Rattle.fond_succ.proofs.Names.{leaves_of_node, names_of_leaves, by_word}
+use Rattle.std.proofs.Common.{sym}
+use Rattle.fond_succ.proofs.Names.{leaves_of_node, by_word}
 use Rattle.fond_succ.proofs.action.find_action.Goals as goal
 
 pub returns : goal.returns

@@ -1,10 +1,10 @@
-use Rattle.std.proofs.Common.{◌≡◌, ◌∙◌, ◌∷◌, List, Some, slice_get, sym, ap, subst}
+use Rattle.std.proofs.Common.{◌∙◌, List, sym, ap, subst}
 use Rattle.std.proofs.lemmas.Option.{same_Some}
 use Rattle.fond_ast.specs.declared.task.LSchema.{LSchema}
 use Rattle.fond_tree.specs.declared.tree.Tree.{Tree}
 use Rattle.fond_text.specs.declared.atom.GroundAction.{GroundAction}
 use Rattle.fond_succ.specs.Actions.{AreNamesOf, leaf_names}
-use Rattle.fond_succ.proofs.Found.{found_names, no_objects, no_schema, schema_ranges}
+use Rattle.fond_succ.proofs.Found.{found_names, no_objects, schema_ranges}
 use Rattle.fond_succ.proofs.Places.{first_leaf}
 use Rattle.fond_succ.proofs.action.find_named.Goals as goal
 

@@ -1,7 +1,6 @@
-use Rattle.std.proofs.Common.{◌≡◌, ℕ, ◌<◌, ◌∙◌, true, false, length, get_or, Some, slice_get, arith, sym, ap, true≢false}
+use Rattle.std.proofs.Common.{◌≡◌, ◌∙◌, true, false, get_or, arith, sym, true≢false}
 use Rattle.std.specs.Str.{bytes_eq}
 use Rattle.std.proofs.lemmas.Slice.Eq.{bytes_eq-Decides}
-use Rattle.fond_task.specs.Texts.{name_at}
 use Rattle.fond_succ.proofs.Named.{has_name, is_in, none_more, none_of}
 use Rattle.fond_succ.proofs.action.find_object.Goals as goal
 
@@ -9,9 +8,10 @@ pub returns-then-eq-clause-found : goal.returns-then-eq-clause-found
 returns-then-eq-clause-found c =
     let items = c.as_slice-object-items.result.now in
     let object = get_or items c.loop-object.object-index 0 in
-    let told : bytes_eq c.bytes.result.now c.args.name.now ≡ true = cc in
-    (is_in c.args.range.now items c.loop-object.object-index c.as_slice-object-items.ensures c.loop-object-test.true,
-     has_name c.args.names.now object c.get.result.now c.get.ensures ∙ sym c.bytes.ensures.value ∙ (bytes_eq-Decides c.bytes.result.now c.args.name.now).0 told)
+    let told : bytes_eq c.bytes.result.now c.args.name.now ≡ true = cc in (
+      is_in c.args.range.now items c.loop-object.object-index c.as_slice-object-items.ensures c.loop-object-test.true,
+      has_name c.args.names.now object c.get.result.now c.get.ensures ∙ sym c.bytes.ensures.value ∙ (bytes_eq-Decides c.bytes.result.now c.args.name.now).0 told,
+    )
 
 pub loop-object-preserved : goal.loop-object-preserved
 loop-object-preserved c =

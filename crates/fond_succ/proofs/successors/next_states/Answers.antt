@@ -1,4 +1,4 @@
-use Rattle.std.proofs.Common.{◌≡◌, ℕ, ◌+◌, ◌<◌, ◌≤◌, ◌∙◌, length, Some, [], get_or, slice_get, Fits, w32, arith, sym, ap}
+use Rattle.std.proofs.Common.{◌≡◌, ◌<◌, ◌∙◌, length, Some, [], get_or, slice_get, arith, sym, ap}
 use Rattle.std.proofs.lemmas.Option.{same_Some}
 use Rattle.std.proofs.lemmas.Option.{slice_get-get_or}
 use Rattle.fond_task.specs.declared.task.Act.{Act}
@@ -22,12 +22,12 @@ pub loop-k-preserved : goal.loop-k-preserved
 loop-k-preserved c = record {
   few = (let grown = grows_by_one c.loop-k.states c.add.new.self c.apply_into.new.out c.in_ok-add.field-0 c.in_ok-add.ensures.ok in omega (arith, grown, c.loop-k.invariant.few));
   all = λ a at. (
-    let act = c.get.result.now in
-    let same : act ≡ a = same_Some act a (sym c.get.ensures ∙ at) in
-    let lt : c.loop-k.k < length a.outcomes = (let whole = ap (λ (x : Act). length x.outcomes) same in omega (arith, c.loop-k-test.true, c.len-k-end.ensures, whole)) in
-    let entries = get_or a.outcomes c.loop-k.k [] in
-    let there : slice_get a.outcomes c.loop-k.k ≡ Some entries = slice_get-get_or a.outcomes c.loop-k.k [] lt in
-    let next = c.apply_into.ensures.next a entries at there in
-    one_more c.args.game.now.init a.outcomes c.loop-k.k entries c.loop-k.states c.add.new.self _ there
-    (is_added c.loop-k.states c.add.new.self c.apply_into.new.out c.in_ok-add.field-0 c.in_ok-add.ensures.ok ∙ ap (added c.loop-k.states) next) (c.loop-k.invariant.all a at));
+      let act = c.get.result.now in
+      let same : act ≡ a = same_Some act a (sym c.get.ensures ∙ at) in
+      let lt : c.loop-k.k < length a.outcomes = (let whole = ap (λ (x : Act). length x.outcomes) same in omega (arith, c.loop-k-test.true, c.len-k-end.ensures, whole)) in
+      let entries = get_or a.outcomes c.loop-k.k [] in
+      let there : slice_get a.outcomes c.loop-k.k ≡ Some entries = slice_get-get_or a.outcomes c.loop-k.k [] lt in
+      let next = c.apply_into.ensures.next a entries at there in
+      one_more c.args.game.now.init a.outcomes c.loop-k.k entries c.loop-k.states c.add.new.self _ there
+      (is_added c.loop-k.states c.add.new.self c.apply_into.new.out c.in_ok-add.field-0 c.in_ok-add.ensures.ok ∙ ap (added c.loop-k.states) next) (c.loop-k.invariant.all a at));
 }

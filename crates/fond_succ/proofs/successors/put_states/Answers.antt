@@ -1,4 +1,3 @@
-use Rattle.std.proofs.Common.{◌≡◌}
 use Rattle.fond_task.specs.Texts.{state_text}
 use Rattle.fond_succ.proofs.Added.{grew_more, text_more}
 use Rattle.fond_succ.proofs.successors.put_states.Goals as goal

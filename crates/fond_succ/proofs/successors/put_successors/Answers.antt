@@ -1,4 +1,4 @@
-use Rattle.std.proofs.Common.{◌≡◌, refl, length, sym, ◌∙◌, Some, slice_get}
+use Rattle.std.proofs.Common.{refl, sym, ◌∙◌}
 use Rattle.std.proofs.lemmas.Option.{slice_get_within}
 use Rattle.fond_succ.proofs.Alike.{not_applicable, not_kept, successors_text}
 use Rattle.fond_succ.proofs.successors.put_successors.Goals as goal
