@@ -9,12 +9,15 @@ use Rattle.fond_ast.specs.Ranges.{RangeList, objects_of}
 use Rattle.fond_ast.specs.declared.task.LSchema.{LSchema}
 use Rattle.fond_ast.specs.declared.task.LiftedTask.{LiftedTask}
 use Rattle.fond_task.specs.declared.form.Kleene.{Kleene}
+use Rattle.fond_task.specs.declared.form.Kleene.TheVariants.{No, Unknown, Yes}
+use Rattle.fond_join.specs.Candidates.{AreCandidates}
 use Rattle.fond_join.specs.Kept.{is_kept, is_no, open_value}
 use Rattle.fond_join.specs.Partial.{partial_value}
 use Rattle.fond_join.specs.Search.{arguments, completions, IsOrder, kept_completions}
 use Rattle.fond_join.specs.Values.{condition_value}
 use Rattle.fond_join.proofs.Items.{drop_item}
-use Rattle.fond_join.proofs.Sound.{Agree, Tells, TellsObject, told}
+use Rattle.fond_join.proofs.Sound.{Tells, told}
+use Rattle.fond_join.specs.Agree.{Agree, TellsObject}
 
 pub filter-append : {X : Type 0} (p : X → Bool) (xs ys : List X) → filter p (xs ++ ys) ≡ filter p xs ++ filter p ys
 filter-append p [] ys = refl
@@ -40,6 +43,14 @@ forget (known ∷ env) zero object [] none h = absurd h
 forget (known ∷ env) zero object (first ∷ objects) none h = (subst (λ k. TellsObject false k first) (sym none) refl, h.1)
 forget (known ∷ env) (suc parameter) object [] none h = absurd h
 forget (known ∷ env) (suc parameter) object (first ∷ objects) none h = (h.0, forget env parameter object objects none h.1)
+
+-- objects that agree with parameters have the object that one of them is given
+agree_at : (env : List (Option ℕ)) (parameter object : ℕ) (objects : List ℕ) → get_or env parameter (Some 0) ≡ None → Agree false (set env parameter (Some object)) objects → get_or objects parameter 0 ≡ object
+agree_at [] parameter object objects none h = cc
+agree_at (known ∷ env) zero object [] none h = absurd h
+agree_at (known ∷ env) zero object (first ∷ objects) none h = sym h.0
+agree_at (known ∷ env) (suc parameter) object [] none h = absurd h
+agree_at (known ∷ env) (suc parameter) object (first ∷ objects) none h = agree_at env parameter object objects none h.1
 
 module _ (ranges : List (List ℕ)) (p : List ℕ → Bool) where
   -- the completions that pass a test
@@ -67,6 +78,25 @@ module _ (ranges : List (List ℕ)) (p : List ℕ → Bool) where
       none_from env parameter order
       (λ object. none_passes (set env parameter (Some object)) order (is.1 object) (λ objects agree. never objects (forget env parameter object objects is.0 agree)))
       (get_or ranges parameter [])
+
+  -- only the objects that pass a test have to be tried, if the parameter's object passes it wherever a completion passes
+  pub only_tested : (env : List (Option ℕ)) (parameter : ℕ) (order : List ℕ) (test : ℕ → Bool) → IsOrder env (parameter ∷ order) →
+      ((objects : List ℕ) → Agree false env objects → p objects ≡ true → test (get_or objects parameter 0) ≡ true) → (range : List ℕ) → passing_from env parameter order (filter test range) ≡ passing_from env parameter order range
+  only_tested env parameter order test is needed [] = refl
+  only_tested env parameter order test is needed (object ∷ range) = by (test object) refl (only_tested env parameter order test is needed range)
+    where
+      never : test object ≡ false → (objects : List ℕ) → Agree false (set env parameter (Some object)) objects → (b : Bool) → p objects ≡ b → b ≡ false
+      never fails objects agree false passes = refl
+      never fails objects agree true passes = absurd (true≢false (
+          sym (needed objects (forget env parameter object objects is.0 agree) passes) ∙ ap test (agree_at env parameter object objects is.0 agree) ∙ fails))
+
+      by : (b : Bool) → test object ≡ b → passing_from env parameter order (filter test range) ≡ passing_from env parameter order range →
+          passing_from env parameter order (if b then object ∷ filter test range else filter test range) ≡ passing_from env parameter order (object ∷ range)
+      by true passes rest =
+          passing_first env parameter order object (filter test range) ∙ ap (λ all. passing (set env parameter (Some object)) order ++ all) rest ∙ sym (passing_first env parameter order object range)
+      by false fails rest =
+          rest ∙ sym (passing_first env parameter order object range ∙ ap (λ all. all ++ passing_from env parameter order range)
+          (none_passes (set env parameter (Some object)) order (is.1 object) (λ objects agree. never fails objects agree (p objects) refl)))
 
   -- the completions with the next object are found
   pub next_found : (env : List (Option ℕ)) (parameter : ℕ) (order objects : List ℕ) (i object : ℕ) (before after whole : List (List ℕ)) → i < length objects → object ≡ get_or objects i object →
@@ -107,3 +137,16 @@ module _ (task : LiftedTask) (schema : LSchema) where
   pub one_kept : (env : List (Option ℕ)) → IsTrue (list_all (λ object. is_some object) env) → not (is_no (partial_value task env schema.pre)) ≡ true → kept_completions task schema env [] ≡ arguments env ∷ []
   one_kept env all h = ap (λ b. if b then arguments env ∷ [] else [])
       (yes_told (partial_value task env schema.pre) (condition_value (open_value task) (arguments env) schema.pre) (told task true schema.pre env (arguments env) (own true env (λ e. all))) h)
+
+  possible : (value : Kleene) → not (is_no value) ≡ true → is_no value ≡ false
+  possible No h = sym h
+  possible Unknown h = refl
+  possible Yes h = refl
+
+  -- only the candidates of a parameter have to be tried
+  pub candidates_enough : (env : List (Option ℕ)) (parameter : ℕ) (order : List ℕ) → IsOrder env (parameter ∷ order) → (candidates : List ℕ) → AreCandidates task schema env parameter candidates →
+      passing_from (objects_of schema.ranges) (is_kept task schema) env parameter order candidates ≡ kept_completions task schema env (parameter ∷ order)
+  candidates_enough env parameter order is candidates are =
+      ap (passing_from (objects_of schema.ranges) (is_kept task schema) env parameter order) are.2
+      ∙ only_tested (objects_of schema.ranges) (is_kept task schema) env parameter order are.0 is
+      (λ objects agree kept. are.1 objects agree (possible (condition_value (open_value task) objects schema.pre) kept)) (get_or (objects_of schema.ranges) parameter [])

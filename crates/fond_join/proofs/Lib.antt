@@ -7,3 +7,6 @@ pub mod PairedOff
 pub mod Sound
 pub mod Tables
 pub mod Weights
+pub mod Rising
+pub mod Rowed
+pub mod Covering

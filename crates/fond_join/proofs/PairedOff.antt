@@ -14,7 +14,8 @@ use Rattle.fond_join.specs.Kept.{is_kept, is_no, kept_args, open_value}
 use Rattle.fond_join.specs.Partial.{partial_value}
 use Rattle.fond_join.specs.Values.{condition_value}
 use Rattle.fond_join.proofs.Completed.{no_told}
-use Rattle.fond_join.proofs.Sound.{Agree, told}
+use Rattle.fond_join.proofs.Sound.{told}
+use Rattle.fond_join.specs.Agree.{Agree}
 
 none_filtered : {X : Type 0} (p : X → Bool) (xs : List X) → ((x : X) → Member xs x → p x ≡ false) → filter p xs ≡ []
 none_filtered p [] never = refl

@@ -14,6 +14,7 @@ use Rattle.fond_meaning.specs.Conditions.{object_of, ground_atom, tuples}
 use Rattle.fond_task.specs.declared.form.Kleene.{Kleene}
 use Rattle.fond_task.specs.declared.form.Kleene.TheVariants.{No, Unknown, Yes}
 use Rattle.fond_task.specs.Values.{greater, lesser}
+use Rattle.fond_join.specs.Agree.{Agree, TellsObject}
 use Rattle.fond_join.specs.Kept.{open_value, static_value}
 use Rattle.fond_join.specs.Partial.{all_known, joined, known_object, partial_atom, partial_equal, partial_step, partial_value, static_if_known}
 use Rattle.fond_join.specs.Values.{condition_step, condition_value, opposite}
@@ -22,21 +23,9 @@ use Rattle.fond_join.specs.Values.{condition_step, condition_value, opposite}
 abbrev pub Tells : Bool → Kleene → Kleene → Type 0
 Tells full value other = (value ≡ other) ⊎ ((value ≡ Unknown) × (full ≡ false))
 
--- an object is another, or it is unknown and not all objects are known
-abbrev pub TellsObject : Bool → Option ℕ → ℕ → Type 0
-TellsObject full None object = full ≡ false
-TellsObject full (Some known) object = known ≡ object
-
 abbrev TellsObjects : Bool → Option (List ℕ) → List ℕ → Type 0
 TellsObjects full None objects = full ≡ false
 TellsObjects full (Some known) objects = known ≡ objects
-
--- the objects that are known are those of a list, place by place
-abbrev pub Agree : Bool → List (Option ℕ) → List ℕ → Type 0
-Agree full [] [] = Unit {0}
-Agree full [] (object ∷ objects) = ⊥
-Agree full (known ∷ env) [] = ⊥
-Agree full (known ∷ env) (object ∷ objects) = TellsObject full known object × Agree full env objects
 
 Agree-append : (full : Bool) (env : List (Option ℕ)) (objects more : List ℕ) → Agree full env objects → Agree full (env ++ map Some more) (objects ++ more)
 Agree-append full [] [] [] h = tt
@@ -95,7 +84,7 @@ at_number full (known ∷ env) [] number h = absurd h
 at_number full (known ∷ env) (object ∷ objects) zero h = h.0
 at_number full (known ∷ env) (object ∷ objects) (suc number) h = at_number full env objects number h.1
 
-object_told : (full : Bool) (env : List (Option ℕ)) (objects : List ℕ) → Agree full env objects → (term : LTerm) → TellsObject full (known_object env term) (object_of objects term)
+pub object_told : (full : Bool) (env : List (Option ℕ)) (objects : List ℕ) → Agree full env objects → (term : LTerm) → TellsObject full (known_object env term) (object_of objects term)
 object_told full env objects agree (Object number) = refl
 object_told full env objects agree (Variable number) = at_number full env objects number agree
 

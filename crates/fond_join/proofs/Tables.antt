@@ -36,7 +36,7 @@ found_or (Some other) true number = refl
 found_or (Some other) false number = refl
 
 -- an atom ties with another if they have the same predicate and the same objects
-tied : (predicate : ℕ) (objects : List ℕ) (atom : Atom) → eq_by_cmp atom_cmp (record { predicate = predicate; objects = objects }) atom ≡ (nat_eq predicate atom.predicate && bytes_eq objects atom.objects)
+pub tied : (predicate : ℕ) (objects : List ℕ) (atom : Atom) → eq_by_cmp atom_cmp (record { predicate = predicate; objects = objects }) atom ≡ (nat_eq predicate atom.predicate && bytes_eq objects atom.objects)
 tied predicate objects atom = sym (texts_ties (predicate ∷ objects) (atom.predicate ∷ atom.objects))
 
 module _ (tables : List (List (List ℕ × ℕ))) (atom : Atom) (number : ℕ) (within : atom.predicate < length tables) where

@@ -4,3 +4,6 @@ pub mod Tables
 pub mod Partial
 pub mod Search
 pub mod Barren
+pub mod Rows
+pub mod Agree
+pub mod Candidates

@@ -1,21 +1,28 @@
 //! The initial atoms of a task, found by a hash.
 
+ghost use Rattle.fond_join.specs.Rows.{AreRowed};
 ghost use Rattle.fond_join.specs.Tables.{is_entered, IsEnteredBeside};
+ghost use Rattle.fond_ast.specs.Ranges.{is_among};
+ghost use Rattle.fond_text.specs.declared.atom.Atom.{Atom};
 ghost use Rattle.fond_meaning.specs.Solutions.{initial};
 ghost use Rattle.std.specs.FinSet as set;
-ghost use Rattle.std.specs.Prelude.{◌≡◌, ◌<◌, ℕ, List, false, vec_len, IfOk, OnOk};
+ghost use Rattle.std.specs.Prelude.{◌≡◌, ◌<◌, ℕ, List, Some, true, false, vec_len, length, slice_get, slice_index_or, IfOk, OnOk};
 
+use crate::rows::{Rows, row_of, rows_of};
 use fond_ast::task::LiftedTask;
 use fond_lookup::tuple_index::TupleIndex;
 use fond_text::atom::Atom;
 use fond_text::fault::NoMemory;
 use std::alloc::Global;
 
-/// A task with an index of its initial atoms: for each predicate the lists of objects of its initial atoms.
+/// A task with an index of its initial atoms: for each predicate the lists of objects of its initial atoms, and for each
+/// object at a position of one of them the objects beside it.
 #[derive(Drop)]
 pub struct Facts<'a> {
     pub task: &'a LiftedTask,
     tables: Vec<TupleIndex>,
+    rows: Rows,
+    ghost rowed: { AreRowed rows.numbers rows.lists.items task.now.init },
     ghost entered: { (predicate : ℕ) (objects : List ℕ)
         → is_entered tables.items predicate objects ≡ set.contains (initial task.now) (record { predicate = predicate; objects = objects }) },
 }
@@ -56,12 +63,22 @@ fn tables_of(alloc: Global, task: &LiftedTask) -> Result<Vec<TupleIndex>, NoMemo
 }
 
 impl<'a> Facts<'a> {
-    /// The index of a task. Takes time and memory in the size of the initial atoms.
+    /// The index of a task. Takes time and memory in the number of pairs of objects of an initial atom, over all of them.
     pub fn of(alloc: Global, task: &'a LiftedTask) -> Result<Facts<'a>, NoMemory>
         ensures { IfOk result (λ facts. facts.task.now ≡ task.now) }
     {
         let tables = tables_of(alloc, task)?;
-        Ok(Facts { task, tables })
+        let rows = rows_of(alloc, task.init.as_slice())?;
+        Ok(Facts { task, tables, rows })
+    }
+
+    /// The objects at a position of the initial atoms of a predicate that have this object at another position. Takes the
+    /// time of one lookup, and no memory.
+    pub(crate) fn beside(&self, predicate: u32, position: u32, object: u32, other: u32) -> &[u32]
+        ensures { (k : ℕ) (atom : Atom) → slice_get self.now.task.now.init k ≡ Some atom → atom.predicate ≡ predicate → position < length atom.objects → slice_index_or atom.objects position 0 ≡ object
+            → other < length atom.objects → is_among result.now (slice_index_or atom.objects other 0) ≡ true }
+    {
+        row_of(&self.rows, &[predicate, position, object, other])
     }
 
     /// Whether the atom of a predicate and objects is initial. Takes time in the number of the objects, and no memory.

@@ -42,7 +42,9 @@ fn no_objects(alloc: Global, count: usize) -> Result<Scope, NoMemory>
 
 /// The argument lists of the kept ground actions of a schema, in order, or none if there are more than `most`. Takes the
 /// time of one value of the precondition for each partial list that is reached and each object that is tried after it, and
-/// memory for no more than `most` lists.
+/// memory for no more than `most` lists. If a static atom that the precondition demands has the next parameter and an
+/// object that is known, only the objects in the matching initial atoms are tried. So a precondition `(road ?a ?b)` takes
+/// about the number of locations and roads, whatever the number of pairs of locations.
 pub fn matches_within(
     alloc: Global,
     facts: &Facts,

@@ -1,11 +1,14 @@
 //! A search for the kept ground actions of a schema by backtracking.
 
+ghost use Rattle.fond_ast.specs.Ranges.{is_rising, objects_of};
 ghost use Rattle.fond_join.specs.Kept.{is_no};
 ghost use Rattle.fond_join.specs.Partial.{partial_value};
 ghost use Rattle.fond_join.specs.Search.{arguments, IsOrder, kept_completions, Searched};
 ghost use Rattle.std.specs.Bool.{OnTrue};
-ghost use Rattle.std.specs.Prelude.{◌≡◌, ◌≤◌, [], ◌∷◌, length, not, IfOk, OnOk};
+ghost use Rattle.std.specs.List.{list_all};
+ghost use Rattle.std.specs.Prelude.{◌≡◌, ◌≤◌, [], ◌∷◌, length, not, IfOk, IsTrue, OnOk};
 
+use crate::candidates::candidates;
 use crate::facts::Facts;
 use crate::matching::ArgsList;
 use crate::value::{Scope, value};
@@ -54,7 +57,8 @@ fn keep(alloc: Global, scope: &Scope, most: usize, found: &mut ArgsList) -> Resu
 }
 
 /// Finds the kept ground actions by giving the parameters of an order one object after the other, and returns whether
-/// there were not too many. Leaves out all that follow as soon as the precondition is surely false.
+/// there were not too many. Leaves out all that follow as soon as the precondition is surely false, and tries only the
+/// candidates of each parameter.
 pub(crate) fn search(
     alloc: Global,
     facts: &Facts,
@@ -66,6 +70,7 @@ pub(crate) fn search(
 ) -> Result<bool, NoMemory>
     requires long { length scope.old.env.items ≡ length schema.now.ranges }
     requires order { IsOrder scope.old.env.items order.now }
+    requires rising { IsTrue (list_all is_rising (objects_of schema.now.ranges)) }
     requires room { length found.old ≤ most }
     ensures found { IfOk result (Searched most found.old (kept_completions facts.now.task.now schema.now scope.old.env.items order.now) found.new) }
     ensures same { IfOk result (λ complete. OnTrue complete (scope.new.env.items ≡ scope.old.env.items)) }
@@ -76,7 +81,8 @@ pub(crate) fn search(
     match order {
         [] => keep(alloc, scope, most, found),
         [parameter, rest @ ..] => {
-            for object in schema.ranges.get(*parameter).as_slice() {
+            let objects = candidates(alloc, facts, schema, scope, *parameter)?;
+            for object in &objects {
                 scope.env[*parameter] = Some(*object);
                 if !search(alloc, facts, schema, rest, scope, most, found)? {
                     return Ok(false);

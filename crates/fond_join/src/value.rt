@@ -94,7 +94,7 @@ fn is_decided(is_some: bool, value: Kleene) -> bool
 }
 
 /// The object of a term, if it is known.
-fn object_of(scope: &Scope, term: LTerm) -> Option<u32>
+pub(crate) fn object_of(scope: &Scope, term: LTerm) -> Option<u32>
     ensures { result ≡ known_object scope.now.env.items term }
 {
     match term {
@@ -107,7 +107,7 @@ fn object_of(scope: &Scope, term: LTerm) -> Option<u32>
 }
 
 /// Whether a predicate is fluent.
-fn is_fluent(facts: &Facts, predicate: u32) -> bool
+pub(crate) fn is_fluent(facts: &Facts, predicate: u32) -> bool
     ensures { result ≡ is_fluent_predicate facts.now.task.now.predicates predicate }
 {
     let predicates = &facts.task.predicates;

@@ -3,13 +3,16 @@ use Rattle.std.specs.List.{range_with_len}
 use Rattle.fond_join.specs.Kept.{kept_args}
 use Rattle.fond_join.specs.Search.{IsOrder, Searched}
 use Rattle.fond_join.proofs.Declared.{declared_kept, declared_order}
-use Rattle.fond_join.proofs.Found.{same_found}
+use Rattle.fond_join.proofs.Found.{ranges_rise, same_found}
 use Rattle.fond_join.proofs.matching.matches_within.Goals as goal
 
 pub search-requires-clause-order : goal.search-requires-clause-order
 search-requires-clause-order c =
     subst (λ env. IsOrder env c.deref.result.now) (sym (c.in_ok-has_barren_pair.ensures.same ∙ c.in_ok-scope.ensures))
     (subst (IsOrder (replicate c.len-count.result None)) (sym (c.deref.ensures.value ∙ c.in_ok-order.ensures)) (declared_order c.len-count.result))
+
+pub search-requires-clause-rising : goal.search-requires-clause-rising
+search-requires-clause-rising c = ranges_rise c.args.facts.now.task.now c.args.schema c.get-schema.result.now c.get-schema.ensures
 
 pub returns-then-branch : goal.returns-then-branch
 returns-then-branch c s numbered =

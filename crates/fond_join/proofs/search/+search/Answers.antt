@@ -6,7 +6,8 @@ use Rattle.fond_ast.specs.Ranges.{objects_of}
 use Rattle.fond_join.specs.Kept.{is_kept, is_no}
 use Rattle.fond_join.specs.Partial.{partial_value}
 use Rattle.fond_join.specs.Search.{arguments, IsOrder, kept_completions, Searched}
-use Rattle.fond_join.proofs.Completed.{next_found, none_kept, one_kept, passing_from, range_at, restored}
+use Rattle.fond_join.specs.Candidates.{AreCandidates}
+use Rattle.fond_join.proofs.Completed.{candidates_enough, next_found, none_kept, one_kept, restored}
 use Rattle.fond_join.proofs.Items.{first_item}
 use Rattle.fond_join.proofs.search.+search.Goals as goal
 
@@ -23,11 +24,15 @@ loop-object-init t c =
     let rest = take (length order - 1) (drop 1 order) in
     let whole = first_item order parameter c.in-len1-up.len_at_least (get_or_default order 0 0 parameter c.in-len1-up.len_at_least) in
     let ranges = objects_of c.args.schema.now.ranges in
-    let objects = c.as_slice-object-items.ensures ∙ c.deref.ensures ∙ range_at c.args.schema.now.ranges parameter c.get.result.now c.get.ensures in
+    let found = c.in_ok-objects-in-len1-up.ensures in
+    let own = c.in_ok-is_possible.ensures.same in
+    let is = subst (IsOrder c.args.scope.now.env.items) whole c.requires.order in
+    let from = subst (λ around. IsOrder around (parameter ∷ rest)) (sym own) is in
+    let objects = candidates_enough c.args.facts.now.task.now c.args.schema.now env parameter rest from c.deref-object-items.result.now (let same : c.deref-object-items.result.now ≡ c.in_ok-objects-in-len1-up.objects.items = c.deref-object-items.ensures.value in subst (AreCandidates c.args.facts.now.task.now c.args.schema.now env parameter) (sym same) found) in
     record {
       same = refl;
       room = c.requires.room;
-      left = ap (λ all. c.args.found.now ++ passing_from ranges (is_kept c.args.facts.now.task.now c.args.schema.now) env parameter rest all) objects
+      left = ap (λ all. c.args.found.now ++ all) objects
           ∙ ap (λ list. c.args.found.now ++ kept_completions c.args.facts.now.task.now c.args.schema.now env list) (sym whole);
     }
 
@@ -37,7 +42,7 @@ loop-object-preserved t c =
     let env = c.is_possible.new.scope.env.items in
     let parameter = get_or order 0 0 in
     let rest = take (length order - 1) (drop 1 order) in
-    let objects = c.as_slice-object-items.result.now in
+    let objects = c.deref-object-items.result.now in
     let i = c.loop-object.object-index in
     let object = get_or objects i 0 in
     let ranges = objects_of c.args.schema.now.ranges in
