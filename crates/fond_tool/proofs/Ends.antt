@@ -2,7 +2,9 @@
 use Rattle.std.proofs.Common.{◌≡◌, ℕ, Bool, true, false, List, [], ◌∷◌, if◌then◌else◌, refl}
 use Rattle.fond_edge.specs.Written.{Appended}
 use Rattle.fond_front.specs.declared.texts.TaskTexts.{TaskTexts}
-use Rattle.fond_task.specs.Truth.{is_true}
+use Rattle.fond_text.specs.declared.atom.GroundAction.{GroundAction}
+use Rattle.fond_ast.specs.declared.task.LiftedTask.{LiftedTask}
+use Rattle.fond_meaning.specs.Truths.{holds}
 use Rattle.fond_tool.specs.declared.status.Status.{Status}
 use Rattle.fond_tool.specs.declared.status.Status.TheVariants.{Done, Unsolvable, Undecided, Refused, BadWords, ReadFault, WriteFault, Rejected, Stopped, NoMemory}
 use Rattle.fond_tool.specs.declared.words.Command.{Command}
@@ -12,7 +14,7 @@ use Rattle.fond_tool.specs.Ends.{ToolReply, Ends, Writes}
 use Rattle.fond_tool.specs.Fetches.{Reads}
 use Rattle.fond_tool.specs.Replies.{Reply}
 use Rattle.fond_tool.specs.Runs.{RunReply}
-use Rattle.fond_tool.specs.Successors.{SuccReply}
+use Rattle.fond_tool.specs.Successors.{AnswersAction, SuccReply}
 
 -- whether a reply may have a status: not that of a write fault, and not that of memory that ran out
 abbrev pub is_reply_status : Status → Bool
@@ -20,11 +22,14 @@ is_reply_status WriteFault = false
 is_reply_status NoMemory = false
 is_reply_status status = true
 
+answer_status : {task : LiftedTask} {action : GroundAction} {reply : Reply} → AnswersAction task action reply → is_reply_status reply.status ≡ true
+answer_status (AnswersAction.inapplicable never) = refl
+answer_status (AnswersAction.successors text is) = refl
+
 succ_status : {texts : TaskTexts} {action : List ℕ} {reply : Reply} → SuccReply texts action reply → is_reply_status reply.status ≡ true
 succ_status (SuccReply.refused fault first) = refl
 succ_status (SuccReply.unknown task of none) = refl
-succ_status (SuccReply.inapplicable task schema of there names never) = refl
-succ_status (SuccReply.successors task schema of there names applicable) = refl
+succ_status (SuccReply.answered task action reply of names answers) = answer_status answers
 
 end_status : (is_goal : Bool) → is_reply_status (if is_goal then Done else Stopped) ≡ true
 end_status true = refl
@@ -32,9 +37,9 @@ end_status false = refl
 
 run_status : {texts : TaskTexts} {cert script : List ℕ} {reply : Reply} → RunReply texts cert script reply → is_reply_status reply.status ≡ true
 run_status (RunReply.refused fault first) = refl
-run_status (RunReply.bad_cert task code byte of fault) = refl
-run_status (RunReply.bad_script task rules reach byte of read fault) = refl
-run_status (RunReply.ran task rules reach numbers lines last of read spelled trace) = end_status (is_true last task.goal)
+run_status (RunReply.bad_cert task game code byte of fault) = refl
+run_status (RunReply.bad_script task game rules reach byte of read fault) = refl
+run_status (RunReply.ran task game rules reach numbers lines last of read spelled trace) = end_status (holds last [] task.goal)
 
 command_status : (command : Command) (given contents : List (List ℕ)) (reply : Reply) → CommandReply command given contents reply → is_reply_status reply.status ≡ true
 command_status Succ (d ∷ p ∷ action ∷ []) (domain ∷ problem ∷ []) reply h = succ_status h

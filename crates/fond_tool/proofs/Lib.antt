@@ -1,3 +1,4 @@
+mod Answered
 mod Ends
 mod Fitting
 mod Lists

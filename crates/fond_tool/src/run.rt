@@ -4,7 +4,9 @@ ghost use Rattle.fond_exec.specs.Traces.{Trace};
 ghost use Rattle.fond_rules.specs.Belongs.{BelongTo};
 ghost use Rattle.fond_tool.specs.Rejections.{Rejects};
 ghost use Rattle.fond_tool.specs.GroundRuns.{ground_reply};
-ghost use Rattle.fond_tool.specs.Runs.{RunReply};
+ghost use Rattle.fond_tool.specs.Runs.{DescribeGround, RunReply};
+ghost use Rattle.fond_front.specs.declared.texts.TaskTexts.{TaskTexts};
+ghost use Rattle.fond_ast.specs.declared.task.LiftedTask.{LiftedTask};
 ghost use Rattle.std.specs.Prelude.{◌≡◌, ℕ, Bool, List, IfOk, IfErr};
 
 use crate::answer::Answer;
@@ -40,6 +42,21 @@ fn trace_answer(
     Ok(Answer::new(text, status))
 }
 
+/// The trace of the certificate's rules over the script in a ground task, or why there is none.
+fn certified_trace(
+    alloc: Global,
+    game: &Task,
+    cert: &[u8],
+    script: &[u8],
+) -> Result<Answer, Rejection>
+    ensures replied { (texts : TaskTexts) (task : LiftedTask) → DescribeGround texts task game.now → IfOk result (RunReply texts cert.now script.now) }
+    ensures rejected { (texts : TaskTexts) (task : LiftedTask) → DescribeGround texts task game.now → IfErr result (Rejects (RunReply texts cert.now script.now)) }
+{
+    let policy = read_policy(alloc, game, cert)?;
+    let numbers = read_script(alloc, script)?;
+    Ok(trace_answer(alloc, game, &policy.rules, &numbers)?)
+}
+
 /// The answer to `run`: the trace of the certificate's rules over the script, or why there is none.
 pub fn run(
     alloc: Global,
@@ -51,7 +68,5 @@ pub fn run(
     ensures rejected { IfErr result (Rejects (RunReply texts.now cert.now script.now)) }
 {
     let files = read_files(alloc, texts)?;
-    let policy = read_policy(alloc, &files.game, cert)?;
-    let numbers = read_script(alloc, script)?;
-    Ok(trace_answer(alloc, &files.game, &policy.rules, &numbers)?)
+    certified_trace(alloc, &files.game, cert, script)
 }

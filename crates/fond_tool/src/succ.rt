@@ -4,6 +4,8 @@ ghost use Rattle.fond_ground.specs.Grounds.{IsGroundOf};
 ghost use Rattle.fond_succ.specs.Actions.{IsAction};
 ghost use Rattle.fond_tool.specs.Rejections.{Rejects};
 ghost use Rattle.fond_tool.specs.Successors.{AnswersAction, SuccReply};
+ghost use Rattle.fond_tool.specs.Tasks.{Describe};
+ghost use Rattle.fond_front.specs.declared.texts.TaskTexts.{TaskTexts};
 ghost use Rattle.std.specs.Prelude.{IfOk, IfErr};
 
 use crate::answer::{Answer, line};
@@ -38,6 +40,24 @@ fn successors(
     }
 }
 
+/// The successors of the initial state by the action that a word names, or why there are none.
+fn named_successors(
+    alloc: Global,
+    task: &LiftedTask,
+    game: &Task,
+    action: &Word,
+) -> Result<Answer, Rejection>
+    requires action { IsAction action.now }
+    requires ground { IsGroundOf task.now game.now }
+    ensures replied { (texts : TaskTexts) → Describe texts task.now → IfOk result (SuccReply texts action.now) }
+    ensures rejected { (texts : TaskTexts) → Describe texts task.now → IfErr result (Rejects (SuccReply texts action.now)) }
+{
+    let Some(named) = find_action(alloc, task, action)? else {
+        return Err(Rejection::UnknownAction);
+    };
+    Ok(successors(alloc, task, game, &named)?)
+}
+
 /// The answer to `succ`: the successors of the initial state by an action, or why there are none.
 pub fn succ(alloc: Global, texts: &TaskTexts, action: &Word) -> Result<Answer, Rejection>
     requires { IsAction action.now }
@@ -45,8 +65,5 @@ pub fn succ(alloc: Global, texts: &TaskTexts, action: &Word) -> Result<Answer, R
     ensures rejected { IfErr result (Rejects (SuccReply texts.now action.now)) }
 {
     let files = read_files(alloc, texts)?;
-    let Some(named) = find_action(alloc, &files.task, action)? else {
-        return Err(Rejection::UnknownAction);
-    };
-    Ok(successors(alloc, &files.task, &files.game, &named)?)
+    named_successors(alloc, &files.task, &files.game, action)
 }

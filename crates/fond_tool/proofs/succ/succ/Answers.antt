@@ -12,13 +12,11 @@ returns-in_err-files-clause-rejected c =
     rejected_by _ (of_files error) holds c.from_residual.ensures.1
     (files_rejected holds (IsRefusal c.args.texts.now) (λ (fault : Fault) first. SuccReply.refused fault first) error c.in_err-files.ensures.refused)
 
-pub successors-requires : goal.successors-requires
-successors-requires c = c.in_ok-files.ensures.read.1
-
-pub returns-in_default-clause-rejected : goal.returns-in_default-clause-rejected
-returns-in_default-clause-rejected c = SuccReply.unknown c.in_ok-files.files.task c.in_ok-files.ensures.read.0 (rw c.in_default.is at c.in_ok-named.ensures)
+pub named_successors-requires-clause-ground : goal.named_successors-requires-clause-ground
+named_successors-requires-clause-ground c = c.in_ok-files.ensures.read.1
 
 pub returns-clause-replied : goal.returns-clause-replied
-returns-clause-replied c =
-    let found = rw c.in-Some.is at c.in_ok-named.ensures in
-    SuccReply.answered c.in_ok-files.files.task c.in-Some.named c.in_ok-successors.field-0 c.in_ok-files.ensures.read.0 found c.in_ok-successors.ensures
+returns-clause-replied c = c.named_successors.ensures.replied c.args.texts.now c.in_ok-files.ensures.read.0
+
+pub returns-clause-rejected : goal.returns-clause-rejected
+returns-clause-rejected c = c.named_successors.ensures.rejected c.args.texts.now c.in_ok-files.ensures.read.0
