@@ -1,9 +1,9 @@
 pub mod Feeds
 pub mod Lines
 pub mod Words
-pub mod Texts
+pub mod Belongs
+pub mod Spellings
 pub mod Faults
+pub mod Laws
 pub mod Parts
-pub mod Shapes
 pub mod Refusals
-pub mod Checked
