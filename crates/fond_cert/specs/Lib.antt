@@ -7,3 +7,6 @@ pub mod Faults
 pub mod Laws
 pub mod Parts
 pub mod Refusals
+pub mod Checked
+pub mod Cutting
+pub mod Kinds

@@ -5,5 +5,14 @@
 
 pub mod cert;
 pub mod error;
+mod cut;
+mod feed;
+mod form;
+mod line;
+mod literal;
+mod part;
 pub mod print;
 pub mod read;
+mod scan;
+mod target;
+mod word;

@@ -1,0 +1,11 @@
+pub mod Feeds
+pub mod Groups
+pub mod Literals
+pub mod Cuts
+pub mod Numbers
+pub mod Targets
+pub mod Cubes
+pub mod Refusals
+pub mod Afters
+pub mod Longest
+pub mod Shapes

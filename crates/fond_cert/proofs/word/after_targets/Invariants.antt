@@ -1,0 +1,13 @@
+use Rattle.std.proofs.Common.{◌≡◌, ℕ, List, ◌++◌, length}
+use Rattle.fond_cert.specs.Lines.{spaced}
+use Rattle.fond_cert.specs.Parts.{AreTargets, EndsWord}
+use Rattle.fond_cert.proofs.word.after_targets.Given as goal
+
+abbrev pub invariant-loop-next : goal.invariant-loop-next
+invariant-loop-next l = record {
+  cut : (words : List (List ℕ)) × AreTargets words × (l.text ≡ spaced words ++ l.rest);
+  ends : EndsWord l.text → EndsWord l.rest;
+}
+
+abbrev pub decreases-loop-next : goal.decreases-loop-next
+decreases-loop-next l = length l.rest
