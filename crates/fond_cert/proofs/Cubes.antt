@@ -31,7 +31,7 @@ rises_behind : (number : ℕ) (numbers : List ℕ) → is_increasing (number ∷
 rises_behind number [] = refl
 rises_behind number (next ∷ numbers) = ap (λ t. rises (Some number) next && t) (rises_behind next numbers)
 
-rises_at_first : (numbers : List ℕ) → is_increasing numbers ≡ rises_from None numbers
+pub rises_at_first : (numbers : List ℕ) → is_increasing numbers ≡ rises_from None numbers
 rises_at_first [] = refl
 rises_at_first (number ∷ numbers) = rises_behind number numbers
 

@@ -9,3 +9,8 @@ pub mod Refusals
 pub mod Afters
 pub mod Longest
 pub mod Shapes
+pub mod CubeTexts
+pub mod Acts
+pub mod Pairs
+pub mod FairRules
+pub mod UnfairRules

@@ -1,14 +1,20 @@
 -- What is read from the parts of a line, and which of its parts is refused.
-use Rattle.std.specs.Prelude.{◌≡◌, ℕ, nat_lt, Bool, true, List, ◌++◌, Option, Some, None, All, length, map, replicate, slice_set, [], ◌∷◌, if◌then◌else◌, codes}
+use Rattle.std.specs.Prelude.{◌≡◌, ℕ, ◌<◌, ◌≤◌, ◌^◌, nat_lt, Bool, true, List, ◌++◌, Option, Some, None, All, length, map, replicate, slice_set, [], ◌∷◌, if◌then◌else◌, codes}
 use Rattle.std.specs.List.{flat_map}
+use Rattle.std.specs.Fmt.{decimal}
 use Rattle.std.specs.Str.{bytes_eq}
+use Rattle.std.specs.Str.Parse.{digits_value}
 use Rattle.fond_task.specs.declared.task.Task.{Task}
-use Rattle.fond_task.specs.Numbers.{atom_number}
+use Rattle.fond_task.specs.Numbers.{act_number, atom_number}
 use Rattle.fond_game.specs.declared.rule.Target.{Target}
-use Rattle.fond_cert.specs.Lines.{IsGroup, group_text, spaced, WrittenTarget, GoalWord, NumberWord, IsProperTarget, WrittenLiteral, piece_text, target_pieces, literal_pieces}
+use Rattle.fond_cert.specs.declared.error.LineError.{LineError}
+use Rattle.fond_cert.specs.declared.error.LineError.TheVariants.{Refused as RefusedLine}
+use Rattle.fond_cert.specs.declared.part.Part.{Part}
+use Rattle.fond_cert.specs.Cutting.{literals_text}
+use Rattle.fond_cert.specs.Lines.{IsGroup, group_text, spaced, WrittenTarget, GoalWord, NumberWord, IsProperTarget, WrittenLiteral, AreProper, piece_text, target_piece, target_pieces, literal_pieces}
 use Rattle.fond_cert.specs.Parts.{AreTargets}
-use Rattle.fond_cert.specs.Spellings.{written_target}
-use Rattle.fond_cert.specs.Words.{Refused, first_refused, atom_numbers, is_increasing}
+use Rattle.fond_cert.specs.Spellings.{written_target, written_cube}
+use Rattle.fond_cert.specs.Words.{Refused, piece_code, first_refused, atom_numbers, is_increasing, refusal_or_order}
 
 -- a word as a written target
 abbrev pub as_target : List ℕ → WrittenTarget
@@ -64,3 +70,49 @@ pub record IsLiteralRefused (task : Task) (at : ℕ) (text : List ℕ) (refused 
 abbrev pub rises : Option ℕ → ℕ → Bool
 rises None number = true
 rises (Some last) number = nat_lt last number
+
+-- the refusal of literals that begin at this byte of a line: by the first atom that the task does not have, or else by
+-- their order
+abbrev pub cube_refusal : Task → ℕ → List WrittenLiteral → Option Refused
+cube_refusal task at literals = refusal_or_order (first_refused task at (literal_pieces literals)) (is_increasing (atom_numbers task literals))
+
+-- a cube is read from a text of literals that begins at this byte of a line and is not refused: it is over the atoms of
+-- the task, and its literals have this text
+pub record ReadsCube (task : Task) (at : ℕ) (text : List ℕ) (cube : List (Option Bool)) : Type 0 where
+  pub literals : List WrittenLiteral
+  pub proper : AreProper literals
+  pub spelled : text ≡ literals_text literals
+  pub right : cube_refusal task at literals ≡ None
+  pub long : length cube ≡ length task.atoms
+  pub same : literals_text literals ≡ literals_text (written_cube task cube)
+
+-- a text of literals that begins at this byte of a line has this refusal
+pub record IsCubeRefused (task : Task) (at : ℕ) (text : List ℕ) (refused : Refused) : Type 0 where
+  pub literals : List WrittenLiteral
+  pub proper : AreProper literals
+  pub spelled : text ≡ literals_text literals
+  pub wrong : cube_refusal task at literals ≡ Some refused
+
+-- an action is read: the task has it under this number
+abbrev pub ReadsAct : Task → List ℕ → ℕ → Type 0
+ReadsAct task text act = act_number task text ≡ Some act
+
+-- an error is the refusal of an action that the task does not have
+abbrev pub IsActRefused : Task → Part → LineError → Type 0
+IsActRefused task action error = (act_number task action.text.now ≡ None) × (error ≡ RefusedLine 3 action.at)
+
+-- a number below 2^32 is read from its digits
+abbrev pub ReadsNumber : List ℕ → ℕ → Type 0
+ReadsNumber digits number = (digits_value 10 digits < 2 ^ 32) × (digits ≡ decimal number)
+
+-- an error is the refusal of a number of 2^32 or more
+abbrev pub IsNumberRefused : Part → LineError → Type 0
+IsNumberRefused digits error = (2 ^ 32 ≤ digits_value 10 digits.text.now) × (error ≡ RefusedLine 4 digits.at)
+
+-- a target is read from its word
+abbrev pub ReadsTarget : List ℕ → Target → Type 0
+ReadsTarget word target = ((task : Task) → piece_code task (target_piece (as_target word)) ≡ None) × (as_target word ≡ written_target target)
+
+-- an error is the refusal of a target whose number is 2^32 or more
+abbrev pub IsTargetTooLarge : Part → LineError → Type 0
+IsTargetTooLarge word error = ((task : Task) → piece_code task (target_piece (as_target word.text.now)) ≡ Some 4) × (error ≡ RefusedLine 4 word.at)

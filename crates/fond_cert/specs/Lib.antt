@@ -10,3 +10,4 @@ pub mod Refusals
 pub mod Checked
 pub mod Cutting
 pub mod Kinds
+pub mod Items

@@ -8,6 +8,7 @@ pub mod error;
 mod cut;
 mod feed;
 mod form;
+mod item;
 mod line;
 mod literal;
 mod part;

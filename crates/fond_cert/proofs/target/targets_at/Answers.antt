@@ -1,5 +1,5 @@
 use Rattle.fond_cert.proofs.Targets.{next_right, one_read, one_refused, all_read}
-use Rattle.fond_cert.proofs.target.read_targets.Goals as goal
+use Rattle.fond_cert.proofs.target.targets_at.Goals as goal
 
 pub target-requires : goal.target-requires
 target-requires c = next_right _ _ _ _ _ _ _ c.loop-inner.invariant c.in-Some.ensures c.word.ensures
