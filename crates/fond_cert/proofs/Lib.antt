@@ -14,3 +14,4 @@ pub mod Acts
 pub mod Pairs
 pub mod FairRules
 pub mod UnfairRules
+pub mod Dues

@@ -11,3 +11,4 @@ pub mod Checked
 pub mod Cutting
 pub mod Kinds
 pub mod Items
+pub mod Stages

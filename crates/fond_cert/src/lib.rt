@@ -4,6 +4,7 @@
 #![tactic(auto)]
 
 pub mod cert;
+mod due;
 pub mod error;
 mod cut;
 mod feed;
@@ -12,6 +13,7 @@ mod item;
 mod line;
 mod literal;
 mod part;
+mod place;
 pub mod print;
 pub mod read;
 mod scan;
