@@ -119,3 +119,7 @@ pub not_allowed : (due : Due) (piece : List ℕ) (line : Line) → IsCutOf piece
 not_allowed due piece line cut none other next proper allowed e =
     let same : Some next ≡ None = sym allowed ∙ same_due due other cut.0 (sym e ∙ cut.3) ∙ like_due due line cut.0 cut.2 ∙ none in
     absurd (cc)
+
+-- rules of fair and unfair actions are allowed at the same places
+pub unfair_due : (due : Due) → due_after due (FairRule [] [] GoalWord []) ≡ due_after due (UnfairRule [] [] [])
+unfair_due due = sym (alike_due due (UnfairRule [] [] []))

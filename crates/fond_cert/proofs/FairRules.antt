@@ -18,19 +18,19 @@ use Rattle.fond_cert.specs.Checked.{as_target, ReadsAct, IsActRefused, ReadsNumb
 use Rattle.fond_cert.specs.Cutting.{target_text, literals_text, IsRightCut, IsMade, IsRefusedBy}
 use Rattle.fond_cert.specs.Items.{IsRuleOf}
 use Rattle.fond_cert.specs.Refusals.{LineRefuses}
-use Rattle.fond_cert.specs.Spellings.{rule_line}
+use Rattle.fond_cert.specs.Spellings.{rule_line, written_target}
 use Rattle.fond_cert.proofs.Acts.{act_there}
 use Rattle.fond_cert.proofs.Afters.{target_right}
 use Rattle.fond_cert.proofs.Cubes.{spelled}
 use Rattle.fond_cert.proofs.Refusals.{below_right, below_wrong}
 use Rattle.fond_cert.proofs.Targets.{writes, Writes}
 
-fair_text : (a b : List (List ℕ)) (o p : List ℕ) (t u : WrittenTarget) (l m : List WrittenLiteral) → group_text a ≡ group_text b → o ≡ p → t ≡ u → literals_text l ≡ literals_text m →
+pub fair_text : (a b : List (List ℕ)) (o p : List ℕ) (t u : WrittenTarget) (l m : List WrittenLiteral) → group_text a ≡ group_text b → o ≡ p → target_text t ≡ target_text u → literals_text l ≡ literals_text m →
     line_text (FairRule a o t l) ≡ line_text (FairRule b p u m)
 fair_text a b o p t u l m e0 e1 e2 e3 =
     ap (λ s. codes "rule " ++ (s ++ (codes " fair " ++ (o ++ (codes " " ++ (target_text t ++ (codes " :" ++ literals_text l))))))) e0
     ∙ ap (λ s. codes "rule " ++ (group_text b ++ (codes " fair " ++ (s ++ (codes " " ++ (target_text t ++ (codes " :" ++ literals_text l))))))) e1
-    ∙ ap (λ s. codes "rule " ++ (group_text b ++ (codes " fair " ++ (p ++ (codes " " ++ (target_text s ++ (codes " :" ++ literals_text l))))))) e2
+    ∙ ap (λ s. codes "rule " ++ (group_text b ++ (codes " fair " ++ (p ++ (codes " " ++ (s ++ (codes " :" ++ literals_text l))))))) e2
     ∙ ap (λ s. codes "rule " ++ (group_text b ++ (codes " fair " ++ (p ++ (codes " " ++ (target_text u ++ (codes " :" ++ s))))))) e3
 
 -- the refusal of a line of a rule of a fair action, by the places of its parts
@@ -119,6 +119,6 @@ module _ (action outcome target literals : Part) (h : IsRightCut (FairParts acti
                   proper = (proper.0, proper.1, written.0, r.proper);
                   cut = (a, as_target target.text.now, r.literals, refl, h.2.4, sym written.1, r.spelled, h.2.7, h.2.8, h.2.9, h.2.10);
                   right = refusal r.literals ∙ over r.literals None r.right;
-                  same = fair_text a _ _ _ _ _ r.literals _ (sym h.2.4 ∙ there.1) one.1 two.1 r.same;
+                  same = fair_text a _ _ _ (as_target target.text.now) (written_target named) r.literals _ (sym h.2.4 ∙ there.1) one.1 (ap target_text two.1) r.same;
                 },
               )

@@ -15,3 +15,7 @@ pub mod Pairs
 pub mod FairRules
 pub mod UnfairRules
 pub mod Dues
+pub mod Befores
+pub mod Steps
+pub mod Wholes
+pub mod Counts

@@ -21,7 +21,7 @@ use Rattle.fond_cert.proofs.Acts.{act_there}
 use Rattle.fond_cert.proofs.Cubes.{spelled}
 use Rattle.fond_cert.proofs.Refusals.{below_right, below_wrong}
 
-pair_text : (a b : List (List ℕ)) (o p n q c r : List ℕ) (l m : List WrittenLiteral) → group_text a ≡ group_text b → o ≡ p → n ≡ q → c ≡ r → literals_text l ≡ literals_text m →
+pub pair_text : (a b : List (List ℕ)) (o p n q c r : List ℕ) (l m : List WrittenLiteral) → group_text a ≡ group_text b → o ≡ p → n ≡ q → c ≡ r → literals_text l ≡ literals_text m →
     line_text (PairLine a o n c l) ≡ line_text (PairLine b p q r m)
 pair_text a b o p n q c r l m e0 e1 e2 e3 e4 =
     ap (λ t. codes "pair " ++ (t ++ (codes " " ++ (o ++ (codes " " ++ (n ++ (codes " " ++ (c ++ (codes " :" ++ literals_text l))))))))) e0

@@ -28,12 +28,12 @@ pub apart : (a : List (List ℕ)) (t : List WrittenTarget) (l : List WrittenLite
     line_text (UnfairRule a t l) ≡ codes "rule " ++ (group_text a ++ (codes " unfair" ++ (targets_text t ++ (codes " :" ++ literals_text l))))
 apart a t l = ap (λ u. codes "rule " ++ (group_text a ++ (codes " unfair" ++ u))) (flat_map-append piece_text (target_pieces t) (Fixed (codes " :") ∷ literal_pieces l))
 
-unfair_text : (a b : List (List ℕ)) (t u : List WrittenTarget) (l m : List WrittenLiteral) → group_text a ≡ group_text b → t ≡ u → literals_text l ≡ literals_text m →
+pub unfair_text : (a b : List (List ℕ)) (t u : List WrittenTarget) (l m : List WrittenLiteral) → group_text a ≡ group_text b → targets_text t ≡ targets_text u → literals_text l ≡ literals_text m →
     line_text (UnfairRule a t l) ≡ line_text (UnfairRule b u m)
 unfair_text a b t u l m e0 e1 e2 =
     apart a t l
     ∙ ap (λ s. codes "rule " ++ (s ++ (codes " unfair" ++ (targets_text t ++ (codes " :" ++ literals_text l))))) e0
-    ∙ ap (λ s. codes "rule " ++ (group_text b ++ (codes " unfair" ++ (targets_text s ++ (codes " :" ++ literals_text l))))) e1
+    ∙ ap (λ s. codes "rule " ++ (group_text b ++ (codes " unfair" ++ (s ++ (codes " :" ++ literals_text l))))) e1
     ∙ ap (λ s. codes "rule " ++ (group_text b ++ (codes " unfair" ++ (targets_text u ++ (codes " :" ++ s))))) e2
     ∙ sym (apart b u m)
 
@@ -136,6 +136,6 @@ module _ (action targets literals : Part) (h : IsRightCut (UnfairParts action ta
                 proper = (proper.0, several, read_targets.proper, r.proper);
                 cut = (a, read_targets.written, r.literals, refl, h.2.4, read_targets.spelled, r.spelled, h.2.7, h.2.8, h.2.9);
                 right = refusal read_targets.written r.literals ∙ over r.literals None r.right;
-                same = unfair_text a _ read_targets.written _ r.literals _ (sym h.2.4 ∙ there.1) read_targets.named r.same;
+                same = unfair_text a _ read_targets.written (map written_target named) r.literals _ (sym h.2.4 ∙ there.1) (ap targets_text read_targets.named) r.same;
               },
             )

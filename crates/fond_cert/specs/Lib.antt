@@ -12,3 +12,5 @@ pub mod Cutting
 pub mod Kinds
 pub mod Items
 pub mod Stages
+pub mod Drafts
+pub mod Progress

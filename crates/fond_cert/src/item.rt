@@ -1,4 +1,4 @@
-//! What the lines of pairs and rules make. The parts of a line are looked up from left to right; the order of its atoms
+//! What the lines of a certificate make. The parts of a line are looked up from left to right; the order of its atoms
 //! comes last. Each call takes time in the length of the line and in the number of the task's atoms, and memory for what
 //! it makes.
 
@@ -6,15 +6,19 @@ ghost use Rattle.fond_cert.specs.Checked.{ReadsAct, IsActRefused};
 ghost use Rattle.fond_cert.specs.Cutting.{IsRightCut, IsMade, IsRefusedBy};
 ghost use Rattle.fond_cert.specs.Items.{IsPairOf, IsRuleOf};
 ghost use Rattle.fond_cert.specs.Refusals.{LineRefuses};
-ghost use Rattle.fond_cert.specs.Spellings.{pair_line, rule_line};
-ghost use Rattle.fond_cert.specs.declared.line.Line.TheVariants.{Pair as PairParts, FairRule as FairParts, UnfairRule as UnfairParts};
-ghost use Rattle.std.specs.Prelude.{IfOk, IfErr};
+ghost use Rattle.fond_cert.specs.Lines.{CubeLine, ReachLine};
+ghost use Rattle.fond_cert.specs.Spellings.{written_cube, pair_line, rule_line};
+ghost use Rattle.fond_cert.specs.declared.line.Line.TheVariants.{Cube as CubeParts, Reach as ReachParts, Pair as PairParts, FairRule as FairParts, UnfairRule as UnfairParts};
+ghost use Rattle.std.specs.Fmt.{decimal};
+ghost use Rattle.std.specs.Prelude.{◌≡◌, length, IfOk, IfErr};
 
 use crate::error::LineError;
 use crate::literal::read_cube;
 use crate::part::Part;
-use crate::target::{read_number, read_target, read_targets};
+use crate::target::{read_number, read_target, read_targets, too_large};
+use crate::word::number;
 use fond_game::rule::{Pair, Rule, Targets};
+use fond_state::cube::Cube;
 use fond_task::task_index::TaskIndex;
 use std::alloc::Global;
 
@@ -29,6 +33,31 @@ fn read_act(index: &TaskIndex, action: Part) -> Result<u32, LineError>
             code: 3,
             at: action.at,
         }),
+    }
+}
+
+/// The cube of a line, by the line's part.
+pub(crate) fn read_layer_cube(
+    alloc: Global,
+    index: &TaskIndex,
+    literals: Part,
+) -> Result<Cube, LineError>
+    requires { IsRightCut (CubeParts literals) }
+    ensures read { IfOk result (λ cube. (length cube ≡ length index.now.atoms) × IsMade index.now (CubeParts literals.entry) (CubeLine (written_cube index.now cube))) }
+    ensures wrong { IfErr result (LineRefuses (IsRefusedBy index.now (CubeParts literals.entry))) }
+{
+    read_cube(alloc, index, literals)
+}
+
+/// The number of the reach line, by the line's part.
+pub(crate) fn read_reach(index: &TaskIndex, count: Part) -> Result<u64, LineError>
+    requires { IsRightCut (ReachParts count) }
+    ensures read { IfOk result (λ reach. IsMade index.now (ReachParts count.entry) (ReachLine (decimal reach))) }
+    ensures wrong { IfErr result (LineRefuses (IsRefusedBy index.now (ReachParts count.entry))) }
+{
+    match number(count.text) {
+        Some(reach) => Ok(reach),
+        None => Err(too_large(count)),
     }
 }
 

@@ -4,13 +4,16 @@
 #![tactic(auto)]
 
 pub mod cert;
+mod draft;
 mod due;
 pub mod error;
 mod cut;
 mod feed;
 mod form;
+mod grow;
 mod item;
 mod line;
+mod lines;
 mod literal;
 mod part;
 mod place;

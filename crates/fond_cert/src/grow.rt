@@ -1,0 +1,140 @@
+//! Adding what a line makes to a draft.
+
+ghost use Rattle.fond_cert.specs.Cutting.{IsRightCut, IsRefusedBy};
+ghost use Rattle.fond_cert.specs.Drafts.{IsDraftOf, closed, with_open, with_pair, with_rule, with_reach, opened, all_layers, IsGrown, HasRoom};
+ghost use Rattle.fond_cert.specs.Refusals.{LineRefuses};
+ghost use Rattle.fond_game.specs.Layers.{CubeView};
+ghost use Rattle.std.specs.Prelude.{◌≡◌, ◌<◌, ◌-◌, ◌^◌, List, [], ◌∷◌, ◌++◌, length, None, Some, All, IfOk, IfErr, OnOk};
+
+use crate::draft::Draft;
+use crate::error::LineError;
+use crate::item::{read_fair, read_layer_cube, read_pair, read_reach, read_unfair};
+use crate::line::Line;
+use fond_game::rule::{Pair, Rule};
+use fond_layers::layers::{Layer, Layers};
+use fond_rules::pairs::Pairs;
+use fond_rules::rules::Rules;
+use fond_state::cube::Cube;
+use fond_task::task_index::TaskIndex;
+use fond_text::fault::NoMemory;
+use std::alloc::Global;
+
+impl Draft {
+    /// A draft without parts. It takes no memory.
+    pub fn new(alloc: Global) -> Draft
+        ensures { result ≡ record { layers = []; current = None; pairs = []; rules = []; reach = None } }
+    {
+        Draft {
+            layers: Layers::new(alloc),
+            current: None,
+            pairs: Pairs::new(alloc),
+            rules: Rules::new(alloc),
+            reach: None,
+        }
+    }
+
+    /// Ends the layer whose cubes were read, if there is one.
+    fn close(&mut self) -> Result<(), NoMemory>
+        requires few { length (all_layers self.old) < 2 ^ 32 }
+        requires few_cubes { All (λ (layer : List CubeView). length layer < 2 ^ 32) (all_layers self.old) }
+        ensures { OnOk result (self.new ≡ closed self.old) }
+    {
+        if let Some(layer) = self.current.take() {
+            self.layers.add_raw(layer)?;
+        }
+        Ok(())
+    }
+
+    /// Begins a layer.
+    fn add_layer(&mut self, alloc: Global) -> Result<(), NoMemory>
+        requires few { length (all_layers self.old) < 2 ^ 32 }
+        requires few_cubes { All (λ (layer : List CubeView). length layer < 2 ^ 32) (all_layers self.old) }
+        ensures { OnOk result (self.new ≡ with_open (closed self.old) (Some [])) }
+    {
+        self.close()?;
+        self.current = Some(Layer::new(alloc));
+        Ok(())
+    }
+
+    /// Adds a cube to the layer that is being read.
+    fn add_cube(&mut self, cube: Cube) -> Result<(), NoMemory>
+        ensures { OnOk result ((current : List CubeView) → self.old.current ≡ Some current → self.new ≡ with_open self.old (Some (current ++ cube ∷ []))) }
+    {
+        if let Some(layer) = &mut self.current {
+            layer.push(cube)?;
+        }
+        Ok(())
+    }
+
+    /// Adds a pair.
+    fn add_pair(&mut self, pair: Pair) -> Result<(), NoMemory>
+        requires few { length (all_layers self.old) < 2 ^ 32 }
+        requires few_cubes { All (λ (layer : List CubeView). length layer < 2 ^ 32) (all_layers self.old) }
+        ensures { OnOk result (self.new ≡ with_pair self.old pair) }
+    {
+        self.close()?;
+        self.pairs.push(pair)
+    }
+
+    /// Adds a rule.
+    fn add_rule(&mut self, rule: Rule) -> Result<(), NoMemory>
+        requires few { length (all_layers self.old) < 2 ^ 32 }
+        requires few_cubes { All (λ (layer : List CubeView). length layer < 2 ^ 32) (all_layers self.old) }
+        requires room { length self.old.rules < 2 ^ 32 - 1 }
+        ensures { OnOk result (self.new ≡ with_rule self.old rule) }
+    {
+        self.close()?;
+        self.rules.push(rule)
+    }
+
+    /// Adds the reach number.
+    fn add_reach(&mut self, reach: u64) -> Result<(), NoMemory>
+        requires few { length (all_layers self.old) < 2 ^ 32 }
+        requires few_cubes { All (λ (layer : List CubeView). length layer < 2 ^ 32) (all_layers self.old) }
+        ensures { OnOk result (self.new ≡ with_reach self.old reach) }
+    {
+        self.close()?;
+        self.reach = Some(reach);
+        Ok(())
+    }
+
+    /// Adds what the line makes.
+    pub fn add(&mut self, alloc: Global, index: &TaskIndex, line: Line) -> Result<(), LineError>
+        requires cut { IsRightCut line }
+        requires room { HasRoom line self.old }
+        requires few { length (all_layers self.old) < 2 ^ 32 }
+        requires few_cubes { All (λ (layer : List CubeView). length layer < 2 ^ 32) (all_layers self.old) }
+        ensures grown { OnOk result (IsGrown index.now line.entry self.old self.new) }
+        ensures wrong { IfErr result (LineRefuses (IsRefusedBy index.now line.entry)) }
+    {
+        match line {
+            Line::PolicyHeader | Line::RefusalHeader | Line::End => self.close()?,
+            Line::Layer => self.add_layer(alloc)?,
+            Line::Cube { literals } => self.add_cube(read_layer_cube(alloc, index, literals)?)?,
+            Line::Pair {
+                action,
+                outcome,
+                layer,
+                cube,
+                literals,
+            } => self.add_pair(read_pair(
+                alloc, index, action, outcome, layer, cube, literals,
+            )?)?,
+            Line::FairRule {
+                action,
+                outcome,
+                target,
+                literals,
+            } => self.add_rule(read_fair(
+                alloc, index, action, outcome, target, literals,
+            )?)?,
+            Line::UnfairRule {
+                action,
+                targets,
+                literals,
+            } => self.add_rule(read_unfair(alloc, index, action, targets, literals)?)?,
+            Line::Reach { count } => self.add_reach(read_reach(index, count)?)?,
+        }
+        Ok(())
+    }
+}
