@@ -30,9 +30,8 @@ leaves_text labels action =
 pub act_there : (task : Task) (text : List ℕ) (n : ℕ) → act_number task text ≡ Some n → (n < length task.acts) × (text ≡ group_text (act_leaves task n))
 act_there task text n e =
     let found = position-Some (λ (a : Act). bytes_eq (action_text task.labels a.ground) text) task.acts n no_act e in
-    let act = get_or task.acts n no_act in
-    (
+    let act = get_or task.acts n no_act in (
       found.0,
       sym ((bytes_eq-Decides (action_text task.labels act.ground) text).0 found.1) ∙ leaves_text task.labels act.ground
-      ∙ ap (λ o. group_text (option_map_or (λ (a : Act). action_leaves task.labels a.ground) o [])) (sym (slice_get-get_or task.acts n no_act found.0)),
+          ∙ ap (λ o. group_text (option_map_or (λ (a : Act). action_leaves task.labels a.ground) o [])) (sym (slice_get-get_or task.acts n no_act found.0)),
     )

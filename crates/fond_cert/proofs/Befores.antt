@@ -153,4 +153,3 @@ before_refusal task PairsDue next draft lines h e = absurd (cc)
 before_refusal task (RulesDue rules) next draft lines h e = absurd (cc)
 before_refusal task EndDue next draft lines h e = absurd (cc)
 before_refusal task NothingDue next draft lines h e = absurd (cc)
-

@@ -19,3 +19,4 @@ pub mod Befores
 pub mod Steps
 pub mod Wholes
 pub mod Counts
+pub mod Printed

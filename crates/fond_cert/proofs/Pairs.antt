@@ -128,8 +128,7 @@ module _ (action outcome layer cube literals : Part) (h : IsRightCut (PairParts 
                 × IsMade task line (pair_line task (record { cond = cond; act = act; outcome = picked; layer = layer_is; cube = cube_is }))
             made cond r =
                 let there = act_there task action.text.now act some in
-                let pair : Pair = record { cond = cond; act = act; outcome = picked; layer = layer_is; cube = cube_is } in
-                (
+                let pair : Pair = record { cond = cond; act = act; outcome = picked; layer = layer_is; cube = cube_is } in (
                   (r.long, there.0),
                   record {
                     written = PairLine a outcome.text.now layer.text.now cube.text.now r.literals;

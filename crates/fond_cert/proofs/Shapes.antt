@@ -118,15 +118,23 @@ module _ (line action r1 : Part) (group : IsGroupText action.text.now) where
                 PairLine group.0 outcome.text.now layer.text.now cube.text.now are.0,
                 (group.1, e1.0, e2.0, e3.0, are.1),
                 (
-                  group.0, are.0, refl, group.2, same,
-                  e.1 ∙ ap (λ n. n + 5) start, e1.2.1 ∙ ap (λ n. n + 1) e.2, e2.2.1 ∙ ap (λ n. n + 1) e1.2.2, e3.2.1 ∙ ap (λ n. n + 1) e2.2.2, e4.1 ∙ ap (λ n. n + 2) e3.2.2,
+                  group.0,
+                  are.0,
+                  refl,
+                  group.2,
+                  same,
+                  e.1 ∙ ap (λ n. n + 5) start,
+                  e1.2.1 ∙ ap (λ n. n + 1) e.2,
+                  e2.2.1 ∙ ap (λ n. n + 1) e1.2.2,
+                  e3.2.1 ∙ ap (λ n. n + 1) e2.2.2,
+                  e4.1 ∙ ap (λ n. n + 2) e3.2.2,
                 ),
                 e.0
-                ∙ ap (λ t. codes "pair " ++ (t ++ r1.text.now)) group.2
-                ∙ ap (λ t. codes "pair " ++ (group_text group.0 ++ t))
-                (e1.2.0 ∙ ap (λ t. codes " " ++ (outcome.text.now ++ t))
-                (e2.2.0 ∙ ap (λ t. codes " " ++ (layer.text.now ++ t))
-                (e3.2.0 ∙ ap (λ t. codes " " ++ (cube.text.now ++ t)) (e4.0 ∙ ap (λ t. codes " :" ++ t) same)))),
+                    ∙ ap (λ t. codes "pair " ++ (t ++ r1.text.now)) group.2
+                    ∙ ap (λ t. codes "pair " ++ (group_text group.0 ++ t))
+                    (e1.2.0 ∙ ap (λ t. codes " " ++ (outcome.text.now ++ t))
+                    (e2.2.0 ∙ ap (λ t. codes " " ++ (layer.text.now ++ t))
+                    (e3.2.0 ∙ ap (λ t. codes " " ++ (cube.text.now ++ t)) (e4.0 ∙ ap (λ t. codes " :" ++ t) same)))),
               )
 
   module _ (e : IsFirst line (codes "rule ") action r1) where
@@ -158,15 +166,24 @@ module _ (line action r1 : Part) (group : IsGroupText action.text.now) where
               FairRule group.0 outcome.text.now (as_target target.text.now) are.0,
               (group.1, e1.0, written.0, are.1),
               (
-                group.0, as_target target.text.now, are.0, refl, group.2, sym written.1, same,
-                e.1 ∙ ap (λ n. n + 5) start, e1.2.1 ∙ ap (λ n. n + 6) e.2, e2.1 ∙ ap (λ n. n + 1) e1.2.2, e3.1 ∙ ap (λ n. n + 2) e2.2,
+                group.0,
+                as_target target.text.now,
+                are.0,
+                refl,
+                group.2,
+                sym written.1,
+                same,
+                e.1 ∙ ap (λ n. n + 5) start,
+                e1.2.1 ∙ ap (λ n. n + 6) e.2,
+                e2.1 ∙ ap (λ n. n + 1) e1.2.2,
+                e3.1 ∙ ap (λ n. n + 2) e2.2,
               ),
               e.0
-              ∙ ap (λ t. codes "rule " ++ (t ++ r1.text.now)) group.2
-              ∙ ap (λ t. codes "rule " ++ (group_text group.0 ++ t))
-              (e1.2.0 ∙ ap (λ t. codes " fair " ++ (outcome.text.now ++ t))
-              (e2.0 ∙ ap (λ t. codes " " ++ (t ++ r3.text.now)) (sym written.1)
-              ∙ ap (λ t. codes " " ++ (target_text (as_target target.text.now) ++ t)) (e3.0 ∙ ap (λ t. codes " :" ++ t) same))),
+                  ∙ ap (λ t. codes "rule " ++ (t ++ r1.text.now)) group.2
+                  ∙ ap (λ t. codes "rule " ++ (group_text group.0 ++ t))
+                  (e1.2.0 ∙ ap (λ t. codes " fair " ++ (outcome.text.now ++ t))
+                  (e2.0 ∙ ap (λ t. codes " " ++ (t ++ r3.text.now)) (sym written.1)
+                  ∙ ap (λ t. codes " " ++ (target_text (as_target target.text.now) ++ t)) (e3.0 ∙ ap (λ t. codes " :" ++ t) same))),
             )
 
     unfair_text : (a : List (List ℕ)) (t : List WrittenTarget) (l : List WrittenLiteral) →
@@ -198,13 +215,21 @@ module _ (line action r1 : Part) (group : IsGroupText action.text.now) where
             UnfairRule group.0 written.0 are_literals.0,
             (group.1, some_written written.0 written.2, written.1, are_literals.1),
             (
-              group.0, written.0, are_literals.0, refl, group.2, written.2, same,
-              e.1 ∙ ap (λ n. n + 5) start, e1.1 ∙ ap (λ n. n + 7) e.2, e2.1 ∙ ap (λ n. n + 2) e1.2,
+              group.0,
+              written.0,
+              are_literals.0,
+              refl,
+              group.2,
+              written.2,
+              same,
+              e.1 ∙ ap (λ n. n + 5) start,
+              e1.1 ∙ ap (λ n. n + 7) e.2,
+              e2.1 ∙ ap (λ n. n + 2) e1.2,
             ),
             e.0
-            ∙ ap (λ t. codes "rule " ++ (t ++ r1.text.now)) group.2
-            ∙ ap (λ t. codes "rule " ++ (group_text group.0 ++ t))
-            (e1.0 ∙ ap (λ t. codes " unfair" ++ (t ++ r2.text.now)) written.2
-            ∙ ap (λ t. codes " unfair" ++ (targets_text written.0 ++ t)) (e2.0 ∙ ap (λ t. codes " :" ++ t) same))
-            ∙ sym (unfair_text group.0 written.0 are_literals.0),
+                ∙ ap (λ t. codes "rule " ++ (t ++ r1.text.now)) group.2
+                ∙ ap (λ t. codes "rule " ++ (group_text group.0 ++ t))
+                (e1.0 ∙ ap (λ t. codes " unfair" ++ (t ++ r2.text.now)) written.2
+                ∙ ap (λ t. codes " unfair" ++ (targets_text written.0 ++ t)) (e2.0 ∙ ap (λ t. codes " :" ++ t) same))
+                ∙ sym (unfair_text group.0 written.0 are_literals.0),
           )

@@ -96,4 +96,3 @@ pub record IsMade (task : Task) (line : Line) (made : WrittenLine) : Type 0 wher
   pub cut : IsLineOf line written
   pub right : line_refusal task written ≡ None
   pub same : line_text written ≡ line_text made
-

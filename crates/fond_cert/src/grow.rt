@@ -117,17 +117,13 @@ impl Draft {
                 layer,
                 cube,
                 literals,
-            } => self.add_pair(read_pair(
-                alloc, index, action, outcome, layer, cube, literals,
-            )?)?,
+            } => self.add_pair(read_pair(alloc, index, action, outcome, layer, cube, literals)?)?,
             Line::FairRule {
                 action,
                 outcome,
                 target,
                 literals,
-            } => self.add_rule(read_fair(
-                alloc, index, action, outcome, target, literals,
-            )?)?,
+            } => self.add_rule(read_fair(alloc, index, action, outcome, target, literals)?)?,
             Line::UnfairRule {
                 action,
                 targets,

@@ -4,10 +4,10 @@
 #![tactic(auto)]
 
 pub mod cert;
+mod cut;
 mod draft;
 mod due;
 pub mod error;
-mod cut;
 mod feed;
 mod form;
 mod grow;
@@ -18,6 +18,7 @@ mod literal;
 mod part;
 mod place;
 pub mod print;
+mod put;
 pub mod read;
 mod scan;
 mod target;

@@ -68,11 +68,7 @@ fn is_over(due: Due, rest: &[u8]) -> bool
 }
 
 /// What the lines of the text make.
-pub(crate) fn read_lines(
-    alloc: Global,
-    index: &TaskIndex,
-    text: &[u8],
-) -> Result<Draft, CertError>
+pub(crate) fn read_lines(alloc: Global, index: &TaskIndex, text: &[u8]) -> Result<Draft, CertError>
     ensures read { IfOk result (λ draft. IsDraftOf index.now draft × IsWhole index.now text.now draft) }
     ensures refused { IfErr result (CertRefuses (IsCertFault index.now text.now)) }
 {

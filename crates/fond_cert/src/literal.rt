@@ -86,11 +86,7 @@ fn read_literals(
 
 /// The cube of literals. Takes time in the length of their text and in the number of the task's atoms; memory for the
 /// cube.
-pub(crate) fn read_cube(
-    alloc: Global,
-    index: &TaskIndex,
-    literals: Part,
-) -> Result<Cube, LineError>
+pub(crate) fn read_cube(alloc: Global, index: &TaskIndex, literals: Part) -> Result<Cube, LineError>
     requires { AreLiterals literals.text.now }
     ensures read { IfOk result (ReadsCube index.now literals.entry.at literals.entry.text.now) }
     ensures wrong { IfErr result (LineRefuses (IsCubeRefused index.now literals.entry.at literals.entry.text.now)) }
