@@ -1,5 +1,5 @@
 -- Actions by their texts.
-use Rattle.std.proofs.Common.{◌≡◌, ℕ, ◌<◌, true, List, [], ◌∷◌, ◌++◌, Some, length, get_or, map, codes, refl, sym, ap, ◌∙◌, append_assoc}
+use Rattle.std.proofs.Common.{◌≡◌, ℕ, ◌<◌, true, List, [], ◌∷◌, ◌++◌, Some, length, get_or, codes, sym, ap, ◌∙◌, append_assoc}
 use Rattle.std.specs.List.{flat_map}
 use Rattle.std.specs.Option.{option_map_or}
 use Rattle.std.specs.Str.{bytes_eq}
@@ -13,7 +13,7 @@ use Rattle.fond_task.specs.declared.task.Labels.{Labels}
 use Rattle.fond_task.specs.declared.task.Task.{Task}
 use Rattle.fond_task.specs.Numbers.{act_number}
 use Rattle.fond_task.specs.Texts.{action_text, name_at}
-use Rattle.fond_cert.specs.Lines.{group_text, spaced}
+use Rattle.fond_cert.specs.Lines.{group_text}
 use Rattle.fond_cert.specs.Spellings.{action_leaves, act_leaves}
 use Rattle.fond_cert.proofs.CubeTexts.{spaced_names}
 

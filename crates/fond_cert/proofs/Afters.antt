@@ -1,17 +1,16 @@
 -- Parts after words, and rests without them.
-use Rattle.std.proofs.Common.{◌≡◌, ℕ, ◌<◌, ◌-◌, ◌==◌, ◌||◌, Bool, true, false, IsTrue, List, [], ◌∷◌, ◌++◌, All, length, take, drop, map, codes, refl, sym, ap, ◌∙◌, arith, append_assoc, length-append}
-use Rattle.std.specs.List.{flat_map, list_all}
+use Rattle.std.proofs.Common.{◌≡◌, ℕ, ◌<◌, ◌-◌, ◌||◌, Bool, true, false, IsTrue, List, [], ◌∷◌, ◌++◌, All, length, take, drop, codes, refl, sym, ap, ◌∙◌, arith, append_assoc, length-append}
+use Rattle.std.specs.List.{list_all}
 use Rattle.std.specs.Str.{bytes_eq}
 use Rattle.std.proofs.lemmas.List.{append_cancel_left}
-use Rattle.std.proofs.lemmas.List.Elements.{All-head, All-tail, All-cons, All-nil}
+use Rattle.std.proofs.lemmas.List.Elements.{All-head}
 use Rattle.std.proofs.Math.Seq.{take-append_seam, drop-append_seam}
-use Rattle.fond_cert.specs.Lines.{group_text, spaced, is_number, WrittenTarget, GoalWord, NumberWord, IsProperTarget, piece_text, target_piece, target_pieces}
-use Rattle.fond_cert.specs.Parts.{IsGroupText, HasNoGroup, AreLiterals, is_in_word, is_target, AreTargets, EndsWord, HasNoTarget}
+use Rattle.fond_cert.specs.Lines.{group_text, spaced, is_number, WrittenTarget, GoalWord, NumberWord, IsProperTarget}
+use Rattle.fond_cert.specs.Parts.{HasNoGroup, AreLiterals, is_in_word, is_target, AreTargets, EndsWord, HasNoTarget}
 use Rattle.fond_cert.specs.Checked.{AreTargetsText}
 use Rattle.fond_cert.specs.Cutting.{target_text, targets_text, HasNoAction, HasNoNumber, HasNoTargetAfter, HasNoTargets, HasNoLiterals}
 use Rattle.fond_cert.proofs.Cubes.{spelled}
 use Rattle.fond_cert.proofs.Cuts.{same_word, number_no_space, target_no_space}
-use Rattle.fond_cert.proofs.Groups.{front_of}
 
 pub cancel : (text word next more : List ℕ) → text ≡ word ++ next → text ≡ word ++ more → next ≡ more
 cancel text word next more e f = append_cancel_left word next more (sym e ∙ f)

@@ -1,5 +1,5 @@
 -- What the lines of cubes and the reach line make.
-use Rattle.std.proofs.Common.{◌≡◌, ℕ, ◌≤◌, ◌<◌, ◌^◌, IsTrue, List, [], ◌∷◌, ◌++◌, Option, Some, None, Bool, length, codes, refl, sym, ap, ◌∙◌, subst, arith}
+use Rattle.std.proofs.Common.{◌≡◌, ℕ, ◌≤◌, ◌<◌, ◌^◌, IsTrue, List, [], ◌++◌, Option, Some, Bool, length, codes, refl, sym, ap, ◌∙◌, subst}
 use Rattle.std.specs.Fmt.{decimal}
 use Rattle.std.specs.Str.Parse.{digits_value}
 use Rattle.fond_task.specs.declared.task.Task.{Task}
@@ -7,9 +7,9 @@ use Rattle.fond_cert.specs.declared.error.LineError.{LineError}
 use Rattle.fond_cert.specs.declared.error.LineError.TheVariants.{Refused as RefusedLine, NoMemory}
 use Rattle.fond_cert.specs.declared.line.Line.TheVariants.{Cube as CubeParts, Reach as ReachParts}
 use Rattle.fond_cert.specs.declared.part.Part.{Part}
-use Rattle.fond_cert.specs.Lines.{is_number, WrittenLiteral, CubeLine, ReachLine, IsProper, literal_pieces, Below}
+use Rattle.fond_cert.specs.Lines.{is_number, WrittenLiteral, CubeLine, ReachLine, IsProper}
 use Rattle.fond_cert.specs.Parts.{AreLiterals}
-use Rattle.fond_cert.specs.Words.{Refused, piece_code, refused_or, refusal_or_order, first_refused, atom_numbers, is_increasing, line_refusal}
+use Rattle.fond_cert.specs.Words.{line_refusal}
 use Rattle.fond_cert.specs.Checked.{ReadsCube, IsCubeRefused, cube_refusal}
 use Rattle.fond_cert.specs.Cutting.{IsRightCut, IsMade, IsRefusedBy}
 use Rattle.fond_cert.specs.Refusals.{LineRefuses}

@@ -1,6 +1,5 @@
 -- Literals in order have the text of the cube that they make.
-use Rattle.std.proofs.Common.{◌≡◌, ◌≢◌, ℕ, ◌+◌, ◌<◌, ◌≤◌, ◌&&◌, nat_lt, zero, suc, Bool, true, false, List, [], ◌∷◌, ◌++◌, Option, Some, None, length, get_or, set, replicate, map, codes, refl, sym, ap, ◌∙◌, arith, append_assoc}
-use Rattle.std.specs.Prelude.{⊤}
+use Rattle.std.proofs.Common.{◌≡◌, ◌≢◌, ℕ, ◌+◌, ◌<◌, ◌≤◌, zero, suc, Bool, true, false, List, [], ◌∷◌, ◌++◌, Option, Some, None, length, get_or, set, replicate, map, codes, refl, sym, ap, ◌∙◌, arith, append_assoc}
 use Rattle.std.specs.List.{filter_map, flat_map, enumerate_from, cons_option}
 use Rattle.std.specs.Option.{option_map}
 use Rattle.std.specs.Str.{bytes_eq}
@@ -16,11 +15,11 @@ use Rattle.fond_task.specs.declared.task.Task.{Task}
 use Rattle.fond_task.specs.Texts.{atom_text, name_at}
 use Rattle.fond_task.specs.Numbers.{atom_number}
 use Rattle.fond_state.specs.Cubes.{literal_at}
-use Rattle.fond_cert.specs.Lines.{group_text, spaced, WrittenLiteral, sign_text, piece_text, literal_pieces}
-use Rattle.fond_cert.specs.Words.{Refused, unknown, refused_or, first_refused, atom_numbers, is_increasing, refusal_or_order}
+use Rattle.fond_cert.specs.Lines.{group_text, spaced, WrittenLiteral, sign_text, literal_pieces}
+use Rattle.fond_cert.specs.Words.{Refused, unknown, refused_or, first_refused, atom_numbers, is_increasing}
 use Rattle.fond_cert.specs.Spellings.{atom_leaves, written_literal, written_cube}
 use Rattle.fond_cert.specs.Cutting.{literals_text}
-use Rattle.fond_cert.specs.Checked.{with_literal, cube_of, rises, IsCubeAt, IsLiteralRefused, ReadsCube, IsCubeRefused, cube_refusal}
+use Rattle.fond_cert.specs.Checked.{with_literal, cube_of, rises, IsCubeAt, IsLiteralRefused, ReadsCube, IsCubeRefused}
 use Rattle.fond_cert.specs.declared.error.LineError.{LineError}
 use Rattle.fond_cert.specs.declared.error.LineError.TheVariants.{Refused as RefusedLine, NoMemory}
 use Rattle.fond_cert.specs.Refusals.{LineRefuses}

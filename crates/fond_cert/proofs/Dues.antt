@@ -1,10 +1,10 @@
 -- What is due after lines depends on their kinds alone.
-use Rattle.std.proofs.Common.{◌≡◌, ◌≢◌, ℕ, ◌==◌, List, [], Option, Some, None, get_or, if◌then◌else◌, refl, sym, ap, ◌∙◌}
+use Rattle.std.proofs.Common.{◌≡◌, ℕ, ◌==◌, List, [], Some, None, get_or, if◌then◌else◌, refl, sym, ap, ◌∙◌}
 use Rattle.fond_cert.specs.declared.line.Line.{Line}
 use Rattle.fond_cert.specs.declared.line.Line.TheVariants.{PolicyHeader as CutPolicy, RefusalHeader as CutRefusal, Layer, Cube, Pair, FairRule as CutFair, UnfairRule as CutUnfair, Reach, End}
 use Rattle.fond_cert.specs.Lines.{GoalWord, WrittenLine, PolicyHeader, RefusalHeader, LayerLine, CubeLine, PairLine, FairRule, UnfairRule, ReachLine, EndLine, line_text}
 use Rattle.fond_cert.specs.Cutting.{IsLineOf, IsCutOf}
-use Rattle.fond_cert.specs.Faults.{Kind, OfPolicy, OfRefusal, Due, HeaderDue, LayersDue, CubesDue, PairsDue, RulesDue, EndDue, NothingDue, due_after, HasNoForm}
+use Rattle.fond_cert.specs.Faults.{OfPolicy, OfRefusal, Due, HeaderDue, LayersDue, CubesDue, PairsDue, RulesDue, EndDue, NothingDue, due_after, HasNoForm}
 use Rattle.fond_cert.specs.Kinds.{HasNoLineOf, IsAny}
 use Rattle.fond_cert.specs.Stages.{like}
 

@@ -1,9 +1,7 @@
 -- What a line of a rule of a fair action makes.
-use Rattle.std.proofs.Common.{◌≡◌, ℕ, ◌+◌, ◌≤◌, ◌<◌, ◌^◌, IsTrue, List, ◌++◌, Option, Some, None, Bool, length, codes, refl, sym, ap, ◌∙◌, subst}
-use Rattle.std.specs.Str.Parse.{digits_value}
+use Rattle.std.proofs.Common.{◌≡◌, ℕ, ◌+◌, ◌^◌, IsTrue, List, ◌++◌, Option, Some, None, Bool, length, codes, refl, sym, ap, ◌∙◌, subst}
 use Rattle.fond_task.specs.declared.task.Task.{Task}
 use Rattle.fond_task.specs.Numbers.{act_number}
-use Rattle.fond_game.specs.declared.rule.Rule.{Rule}
 use Rattle.fond_game.specs.declared.rule.Target.{Target}
 use Rattle.fond_game.specs.declared.rule.Targets.TheVariants.{One}
 use Rattle.fond_cert.specs.declared.error.LineError.{LineError}
@@ -11,7 +9,7 @@ use Rattle.fond_cert.specs.declared.error.LineError.TheVariants.{Refused as Refu
 use Rattle.fond_cert.specs.declared.line.Line.{Line}
 use Rattle.fond_cert.specs.declared.line.Line.TheVariants.{FairRule as FairParts}
 use Rattle.fond_cert.specs.declared.part.Part.{Part}
-use Rattle.fond_cert.specs.Lines.{group_text, is_number, WrittenTarget, WrittenLiteral, AreProper, FairRule, line_text, IsProper, IsProperTarget, Below, target_piece, literal_pieces}
+use Rattle.fond_cert.specs.Lines.{group_text, is_number, WrittenTarget, WrittenLiteral, AreProper, FairRule, line_text, IsProper, Below, target_piece, literal_pieces}
 use Rattle.fond_cert.specs.Parts.{AreLiterals, is_target}
 use Rattle.fond_cert.specs.Words.{Refused, unknown, piece_code, refused_or, first_refused, refusal_or_order, line_refusal, atom_numbers, is_increasing}
 use Rattle.fond_cert.specs.Checked.{as_target, ReadsAct, IsActRefused, ReadsNumber, IsNumberRefused, ReadsTarget, IsTargetTooLarge, ReadsCube, IsCubeRefused, cube_refusal}

@@ -1,6 +1,5 @@
 -- What a line of a pair makes.
-use Rattle.std.proofs.Common.{◌≡◌, ℕ, ◌+◌, ◌≤◌, ◌<◌, ◌^◌, IsTrue, List, ◌++◌, Option, Some, None, Bool, length, codes, refl, sym, ap, ◌∙◌, subst}
-use Rattle.std.specs.Str.Parse.{digits_value}
+use Rattle.std.proofs.Common.{◌≡◌, ℕ, ◌+◌, ◌^◌, IsTrue, List, ◌++◌, Option, Some, None, Bool, length, codes, refl, sym, ap, ◌∙◌, subst}
 use Rattle.fond_task.specs.declared.task.Task.{Task}
 use Rattle.fond_task.specs.Numbers.{act_number}
 use Rattle.fond_game.specs.declared.rule.Pair.{Pair}

@@ -1,11 +1,10 @@
 -- What is printed is how certificates are written.
-use Rattle.std.proofs.Common.{◌≡◌, ℕ, ◌+◌, ◌<◌, zero, suc, Bool, List, [], ◌∷◌, ◌++◌, Option, Some, None, length, map, codes, refl, sym, ap, ◌∙◌, arith, append_assoc, drop, All as Each}
+use Rattle.std.proofs.Common.{◌≡◌, ℕ, ◌+◌, zero, suc, Bool, List, [], ◌∷◌, ◌++◌, Option, Some, None, map, codes, refl, sym, ap, ◌∙◌, arith, append_assoc, drop, All as Each}
 use Rattle.std.specs.Prelude.{slice_get}
 use Rattle.std.specs.Fmt.{decimal}
 use Rattle.std.specs.List.{filter_map, flat_map, enumerate_from, cons_option}
 use Rattle.std.specs.Option.{option_map, option_map_or}
 use Rattle.std.proofs.lemmas.Grind.{flat_map-append}
-use Rattle.std.proofs.lemmas.List.{append-nil}
 use Rattle.fond_text.specs.declared.atom.Atom.{Atom}
 use Rattle.fond_task.specs.declared.task.Act.{Act}
 use Rattle.fond_task.specs.declared.task.Labels.{Labels}
@@ -21,8 +20,8 @@ use Rattle.fond_cert.specs.declared.cert.Cert.TheVariants.{Policy, Refusal}
 use Rattle.fond_cert.specs.Belongs.{BelongAsPairs, BelongAsRules}
 use Rattle.fond_cert.specs.Items.{IsPairOf, IsRuleOf}
 use Rattle.fond_cert.specs.Cutting.{target_text, targets_text, literals_text}
-use Rattle.fond_cert.specs.Lines.{group_text, WrittenLiteral, WrittenLine, ReachLine, EndLine, line_text, sign_text}
-use Rattle.fond_cert.specs.Printed.{item_text, cube_text, fed, chosen_text, places_text, cond_text, pair_text, rule_text, layer_text, plan_text, policy_text, refusal_text}
+use Rattle.fond_cert.specs.Lines.{group_text, WrittenLiteral, WrittenLine, ReachLine, EndLine, sign_text}
+use Rattle.fond_cert.specs.Printed.{item_text, cube_text, fed, chosen_text, cond_text, pair_text, rule_text, layer_text, policy_text, refusal_text}
 use Rattle.fond_cert.specs.Spellings.{action_leaves, act_leaves, written_literal, written_cube, written_target, targets_line, layer_lines, pair_line, rule_line, lines_text, spelling}
 use Rattle.fond_cert.proofs.Acts.{leaves_text as action_leaves_text}
 use Rattle.fond_cert.proofs.CubeTexts.{leaves_text}

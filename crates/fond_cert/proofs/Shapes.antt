@@ -1,13 +1,12 @@
 -- Lines from their parts, and texts that lack a part of a line.
-use Rattle.std.proofs.Common.{◌≡◌, ◌≢◌, ℕ, ◌<◌, ◌+◌, Bool, true, IsTrue, List, [], ◌∷◌, ◌++◌, All, length, codes, refl, sym, ap, ◌∙◌, arith}
+use Rattle.std.proofs.Common.{◌≡◌, ◌≢◌, ℕ, ◌<◌, ◌+◌, IsTrue, List, [], ◌∷◌, ◌++◌, All, length, codes, refl, sym, ap, ◌∙◌, arith}
 use Rattle.std.proofs.lemmas.Grind.{flat_map-append}
-use Rattle.std.proofs.lemmas.List.{append-nil}
 use Rattle.fond_cert.specs.declared.part.Part.{Part}
-use Rattle.fond_cert.specs.declared.line.Line.TheVariants.{Cube, Pair, FairRule as CutFair, UnfairRule as CutUnfair, Reach}
-use Rattle.fond_cert.specs.Lines.{IsGroup, group_text, spaced, is_number, WrittenTarget, IsProperTarget, WrittenLiteral, AreProper, WrittenLine, PolicyHeader, RefusalHeader, LayerLine, CubeLine, PairLine, FairRule, UnfairRule, ReachLine, EndLine, line_text, IsProper, Fixed, piece_text, target_pieces, literal_pieces}
+use Rattle.fond_cert.specs.declared.line.Line.TheVariants.{Cube, Pair, FairRule as CutFair, UnfairRule as CutUnfair}
+use Rattle.fond_cert.specs.Lines.{IsGroup, group_text, is_number, WrittenTarget, IsProperTarget, WrittenLiteral, PolicyHeader, RefusalHeader, LayerLine, CubeLine, PairLine, FairRule, UnfairRule, ReachLine, EndLine, line_text, IsProper, Fixed, piece_text, target_pieces, literal_pieces}
 use Rattle.fond_cert.specs.Parts.{IsGroupText, AreLiterals, is_target, EndsWord, HasNoTarget}
 use Rattle.fond_cert.specs.Checked.{as_target, AreTargetsText}
-use Rattle.fond_cert.specs.Cutting.{target_text, targets_text, literals_text, IsFirst, IsLast, HasNoAction, HasNoNumber, HasNoTargetAfter, HasNoTargets, HasNoLiterals, IsCutOf}
+use Rattle.fond_cert.specs.Cutting.{target_text, targets_text, literals_text, IsFirst, IsLast, HasNoNumber, HasNoTargetAfter, HasNoTargets, HasNoLiterals, IsCutOf}
 use Rattle.fond_cert.specs.Kinds.{HasNoLineOf, IsPair, IsFair, IsUnfair}
 use Rattle.fond_cert.proofs.Afters.{cancel, target_right}
 use Rattle.fond_cert.proofs.Cubes.{spelled}

@@ -1,6 +1,5 @@
 -- Drafts after a line.
-use Rattle.std.proofs.Common.{◌≡◌, ◌⊎◌, inl, inr, ℕ, ◌+◌, ◌-◌, ◌<◌, ◌^◌, List, [], ◌∷◌, ◌++◌, All, Option, Some, None, length, map, codes, refl, sym, ap, ◌∙◌, subst, arith, length-append, append_assoc}
-use Rattle.std.specs.Prelude.{⊤}
+use Rattle.std.proofs.Common.{◌≡◌, ◌⊎◌, inl, inr, ℕ, ◌+◌, ◌<◌, ◌^◌, List, [], ◌∷◌, ◌++◌, All, Some, None, length, map, refl, sym, ap, ◌∙◌, subst, arith, length-append, append_assoc}
 use Rattle.std.specs.List.{flat_map}
 use Rattle.std.specs.Fmt.{decimal}
 use Rattle.std.proofs.lemmas.Grind.{flat_map-append}
@@ -17,10 +16,10 @@ use Rattle.fond_cert.specs.declared.line.Line.TheVariants.{PolicyHeader as CutPo
 use Rattle.fond_cert.specs.declared.part.Part.{Part}
 use Rattle.fond_cert.specs.Belongs.{BelongAsLayers}
 use Rattle.fond_cert.specs.Cutting.{IsLineOf, IsMade}
-use Rattle.fond_cert.specs.Drafts.{opened, all_layers, reach_lines, draft_lines, IsDraftOf, with_open, closed, with_pair, with_rule, with_reach, IsGrown, IsEmpty, header, HasLayersAlone, FitsDue, HasRoom}
-use Rattle.fond_cert.specs.Faults.{Kind, OfPolicy, OfRefusal, Due, HeaderDue, LayersDue, CubesDue, PairsDue, RulesDue, EndDue, NothingDue, due_after}
+use Rattle.fond_cert.specs.Drafts.{opened, all_layers, reach_lines, draft_lines, IsDraftOf, with_open, closed, with_pair, with_rule, with_reach, IsGrown, header, HasLayersAlone, FitsDue, HasRoom}
+use Rattle.fond_cert.specs.Faults.{Due, due_after}
 use Rattle.fond_cert.specs.Items.{IsPairOf, IsRuleOf}
-use Rattle.fond_cert.specs.Lines.{WrittenLine, PolicyHeader, RefusalHeader, LayerLine, CubeLine, PairLine, FairRule, UnfairRule, ReachLine, EndLine, line_text, IsProper}
+use Rattle.fond_cert.specs.Lines.{WrittenLine, PolicyHeader, RefusalHeader, LayerLine, CubeLine, PairLine, ReachLine, EndLine, IsProper}
 use Rattle.fond_cert.specs.Spellings.{written_cube, layer_lines, pair_line, rule_line}
 use Rattle.fond_cert.specs.Stages.{like}
 use Rattle.fond_cert.specs.Words.{line_refusal}

@@ -6,10 +6,7 @@ use Rattle.std.proofs.lemmas.Grind.{flat_map-append}
 use Rattle.std.proofs.lemmas.List.{append-nil}
 use Rattle.std.proofs.lemmas.List.Elements.{All-nil}
 use Rattle.fond_task.specs.declared.task.Task.{Task}
-use Rattle.fond_game.specs.declared.rule.Pair.{Pair as OnePair}
-use Rattle.fond_game.specs.declared.rule.Rule.{Rule}
 use Rattle.fond_game.specs.Layers.{CubeView}
-use Rattle.fond_rules.specs.Belongs.{HasTarget}
 use Rattle.fond_cert.specs.declared.draft.Draft.{Draft}
 use Rattle.fond_cert.specs.declared.due.Due.{Due as KeptDue}
 use Rattle.fond_cert.specs.declared.due.Due.TheVariants.{Header, Layers, Cubes, Pairs, Rules, End as EndOnly, Nothing}
@@ -19,22 +16,22 @@ use Rattle.fond_cert.specs.declared.error.LineError.TheVariants.{Refused as Refu
 use Rattle.fond_cert.specs.declared.line.Line.{Line}
 use Rattle.fond_cert.specs.declared.line.Line.TheVariants.{PolicyHeader as CutPolicy, RefusalHeader as CutRefusal, Layer, Cube, Pair, FairRule as CutFair, UnfairRule as CutUnfair, Reach, End}
 use Rattle.fond_cert.specs.Belongs.{Belongs, BelongAsLayers, BelongAsPairs, BelongAsRules}
-use Rattle.fond_cert.specs.Cutting.{IsLineOf, IsCutOf, IsMade, IsRefusedBy}
-use Rattle.fond_cert.specs.Drafts.{all_layers, draft_lines, opened, IsDraftOf, IsGrown, HasLayersAlone, FitsDue}
-use Rattle.fond_cert.specs.Faults.{Due, HeaderDue, LayersDue, CubesDue, PairsDue, RulesDue, EndDue, NothingDue, due_after, Lead, HasNoForm, IsRefusedLine, IsRefusedAt, IsCertFault}
+use Rattle.fond_cert.specs.Cutting.{IsLineOf, IsCutOf, IsRefusedBy}
+use Rattle.fond_cert.specs.Drafts.{all_layers, draft_lines, opened, IsDraftOf, HasLayersAlone, FitsDue}
+use Rattle.fond_cert.specs.Faults.{Due, HeaderDue, LayersDue, CubesDue, PairsDue, RulesDue, EndDue, NothingDue, due_after, Lead, IsRefusedLine, IsRefusedAt, IsCertFault}
 use Rattle.fond_cert.specs.Feeds.{HasNoFeed}
 use Rattle.fond_cert.specs.Items.{IsPairOf, IsRuleOf}
-use Rattle.fond_cert.specs.Lines.{WrittenLine, PolicyHeader, RefusalHeader, LayerLine, CubeLine, PairLine, FairRule, UnfairRule, ReachLine, EndLine, line_text, IsProper}
+use Rattle.fond_cert.specs.Lines.{WrittenLine, PolicyHeader, RefusalHeader, LayerLine, CubeLine, PairLine, FairRule, UnfairRule, ReachLine, EndLine, line_text}
 use Rattle.fond_cert.specs.Progress.{IsReady, IsTaken, IsWhole, cert_by, cert_of, IsPlaced}
 use Rattle.fond_cert.specs.Refusals.{LineRefuses, CertRefuses}
 use Rattle.fond_cert.specs.Spellings.{layer_lines, pair_line, rule_line, lines_text, spelling}
 use Rattle.fond_cert.specs.Stages.{due_of, like}
-use Rattle.fond_cert.specs.Words.{Refused, line_refusal}
-use Rattle.fond_cert.proofs.Dues.{like_due, no_line, not_allowed}
+use Rattle.fond_cert.specs.Words.{Refused}
+use Rattle.fond_cert.proofs.Dues.{like_due}
 use Rattle.fond_cert.proofs.FairRules.{fair_text}
 use Rattle.fond_cert.proofs.Pairs.{pair_text}
 use Rattle.fond_cert.proofs.Refusals.{refusal_within}
-use Rattle.fond_cert.proofs.Steps.{step, IsStepped, grow4}
+use Rattle.fond_cert.proofs.Steps.{step, grow4}
 use Rattle.fond_cert.proofs.UnfairRules.{unfair_text}
 
 -- a line that is cut has one text

@@ -1,5 +1,5 @@
 -- Certificates that belong to a task.
-use Rattle.std.specs.Prelude.{ℕ, ◌<◌, ◌^◌, List, All, length}
+use Rattle.std.specs.Prelude.{◌<◌, ◌^◌, List, All, length}
 use Rattle.fond_task.specs.declared.task.Task.{Task}
 use Rattle.fond_game.specs.declared.rule.Pair.{Pair}
 use Rattle.fond_game.specs.declared.rule.Rule.{Rule}

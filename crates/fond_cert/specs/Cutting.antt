@@ -6,7 +6,7 @@ use Rattle.fond_cert.specs.declared.part.Part.{Part}
 use Rattle.fond_cert.specs.declared.line.Line.{Line}
 use Rattle.fond_cert.specs.declared.line.Line.TheVariants.{PolicyHeader as CutPolicy, RefusalHeader as CutRefusal, Layer, Cube, Pair, FairRule as CutFair, UnfairRule as CutUnfair, Reach, End}
 use Rattle.fond_cert.specs.Lines.{IsGroup, group_text, WrittenTarget, IsProperTarget, WrittenLiteral, AreProper, WrittenLine, PolicyHeader, RefusalHeader, LayerLine, CubeLine, PairLine, FairRule, UnfairRule, ReachLine, EndLine, line_text, IsProper, is_number, piece_text, target_piece, target_pieces, literal_pieces}
-use Rattle.fond_cert.specs.Parts.{is_target, EndsWord}
+use Rattle.fond_cert.specs.Parts.{EndsWord}
 use Rattle.fond_cert.specs.Words.{Refused, line_refusal}
 
 -- the text of a target

@@ -1,5 +1,5 @@
 -- The laws of the texts of certificates.
-use Rattle.std.specs.Prelude.{◌≡◌, ℕ, List}
+use Rattle.std.specs.Prelude.{◌≡◌, ℕ}
 use Rattle.fond_task.specs.declared.task.Task.{Task}
 use Rattle.fond_cert.specs.declared.cert.Cert.{Cert}
 use Rattle.fond_cert.specs.Belongs.{Belongs}

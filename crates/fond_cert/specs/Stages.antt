@@ -1,5 +1,5 @@
 -- What is due, as the code keeps it, and the kinds of lines that are cut.
-use Rattle.std.specs.Prelude.{ℕ, ◌≡◌, ◌+◌, ◌^◌, nat_lt, List, [], Option, Some, None, true, false}
+use Rattle.std.specs.Prelude.{ℕ, ◌≡◌, ◌+◌, ◌^◌, nat_lt, [], true}
 use Rattle.fond_cert.specs.declared.due.Due.{Due as KeptDue}
 use Rattle.fond_cert.specs.declared.due.Due.TheVariants.{Header, Layers, Cubes, Pairs, Rules, End as EndOnly, Nothing}
 use Rattle.fond_cert.specs.declared.due.Kind.{Kind as KeptKind}
