@@ -12,8 +12,7 @@ use Rattle.fond_task.specs.Numbers.{atom_number}
 use Rattle.fond_cert.specs.Lines.{IsGroup, group_text, WrittenLiteral, sign_text, piece_text, literal_pieces}
 use Rattle.fond_cert.specs.Parts.{IsGroupText, HasNoLiteral, AreLiterals, literal_text}
 use Rattle.fond_cert.specs.Words.{unknown, refused_or, first_refused, atom_numbers, is_increasing}
-use Rattle.fond_cert.specs.Texts.{with_literal, cube_of}
-use Rattle.fond_cert.specs.Checked.{IsCubeAt, IsLiteralRefused, rises}
+use Rattle.fond_cert.specs.Checked.{with_literal, cube_of, IsCubeAt, IsLiteralRefused, rises}
 use Rattle.fond_cert.proofs.Groups.{same_rest}
 use Rattle.fond_cert.proofs.Literals.{literal_apart, same_head, after_sign, after_space}
 
@@ -32,7 +31,7 @@ rises_behind : (number : ℕ) (numbers : List ℕ) → is_increasing (number ∷
 rises_behind number [] = refl
 rises_behind number (next ∷ numbers) = ap (λ t. rises (Some number) next && t) (rises_behind next numbers)
 
-rises_at_first : (numbers : List ℕ) → is_increasing numbers ≡ rises_from None numbers
+pub rises_at_first : (numbers : List ℕ) → is_increasing numbers ≡ rises_from None numbers
 rises_at_first [] = refl
 rises_at_first (number ∷ numbers) = rises_behind number numbers
 

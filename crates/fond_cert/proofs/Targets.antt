@@ -9,7 +9,7 @@ use Rattle.fond_game.specs.declared.rule.Target.{Target}
 use Rattle.fond_cert.specs.Lines.{is_number, spaced, WrittenTarget, IsProperTarget, piece_text, target_piece, target_pieces}
 use Rattle.fond_cert.specs.Parts.{is_target, AreTargets, IsCut, EndsWord}
 use Rattle.fond_cert.specs.Words.{piece_code, refused_or, first_refused}
-use Rattle.fond_cert.specs.Texts.{written_target, written_targets}
+use Rattle.fond_cert.specs.Spellings.{written_target}
 use Rattle.fond_cert.specs.Checked.{as_target, AreTargetsText, AreTargetsAt, IsTargetRefused}
 use Rattle.fond_cert.proofs.Cuts.{same_word, target_no_space}
 use Rattle.fond_cert.proofs.Literals.{same_tail}
@@ -54,7 +54,7 @@ pub record LeftTargets (at : ℕ) (text rest : List ℕ) (targets : List Target)
   pub left_is : rest ≡ spaced left
   pub short : length rest ≤ length text
   pub refusal : (task : Task) → first_refused task at (target_pieces (map as_target whole)) ≡ first_refused task (at + (length text - length rest)) (target_pieces (map as_target left))
-  pub named : map as_target whole ≡ written_targets targets ++ map as_target left
+  pub named : map as_target whole ≡ map written_target targets ++ map as_target left
 
 pub all_left : (at : ℕ) (text : List ℕ) → AreTargetsText text → LeftTargets at text text []
 all_left at text h = record {
@@ -102,7 +102,7 @@ pub next_right : (at : ℕ) (text rest inner word further : List ℕ) (targets :
 next_right at text rest inner word further targets h e cut = (next_is at text rest inner word further targets h e cut).right
 
 -- targets as they are written, with one more
-written_more : (targets : List Target) (target : Target) (more : List WrittenTarget) → written_targets (targets ++ (target ∷ [])) ++ more ≡ written_targets targets ++ (written_target target ∷ more)
+written_more : (targets : List Target) (target : Target) (more : List WrittenTarget) → map written_target (targets ++ (target ∷ [])) ++ more ≡ map written_target targets ++ (written_target target ∷ more)
 written_more [] target more = refl
 written_more (first ∷ targets) target more = ap (λ t. written_target first ∷ t) (written_more targets target more)
 
@@ -131,8 +131,8 @@ one_read at text rest inner word further targets target h e cut right named =
           ∙ ap (λ c. refused_or c (at + (length text - length rest) + 1) (first_refused task (at + (length text - length rest) + 1 + length word) (target_pieces (map as_target next.more)))) (right task)
           ∙ ap (λ p. first_refused task p (target_pieces (map as_target next.more))) (past at text rest inner word further e cut.0 h.short);
       named =
-          h.named ∙ ap (λ l. written_targets targets ++ map as_target l) next.left_is
-          ∙ ap (λ t. written_targets targets ++ (t ∷ map as_target next.more)) named ∙ sym (written_more targets target (map as_target next.more));
+          h.named ∙ ap (λ l. map written_target targets ++ map as_target l) next.left_is
+          ∙ ap (λ t. map written_target targets ++ (t ∷ map as_target next.more)) named ∙ sym (written_more targets target (map as_target next.more));
     }
 
 pub one_refused : (at : ℕ) (text rest inner word further : List ℕ) (targets : List Target) → LeftTargets at text rest targets → rest ≡ 32 ∷ inner → IsCut inner word further →
@@ -167,5 +167,5 @@ all_read at text rest targets h none task =
       proper = proper h.whole h.whole_right;
       spelled = h.whole_is ∙ spelled h.whole h.whole_right;
       right = h.refusal task ∙ ap (λ l. first_refused task (at + (length text - length rest)) (target_pieces (map as_target l))) end;
-      named = h.named ∙ ap (λ l. written_targets targets ++ map as_target l) end ∙ append_nil (written_targets targets);
+      named = h.named ∙ ap (λ l. map written_target targets ++ map as_target l) end ∙ append_nil (map written_target targets);
     }

@@ -1,19 +1,20 @@
--- What is read from the parts of a line and which of its parts is refused, and what a line does to the rules before it.
-use Rattle.std.specs.Prelude.{◌≡◌, ◌≢◌, ◌⊎◌, ℕ, ◌<◌, ◌+◌, ◌^◌, nat_lt, Bool, true, false, List, [], ◌∷◌, ◌++◌, Option, Some, None, All, length, replicate, if◌then◌else◌, codes}
+-- What is read from the parts of a line, and which of its parts is refused.
+use Rattle.std.specs.Prelude.{◌≡◌, ℕ, ◌<◌, ◌≤◌, ◌^◌, nat_lt, Bool, true, List, Option, Some, None, All, length, map, replicate, slice_set, [], ◌∷◌, if◌then◌else◌, codes}
 use Rattle.std.specs.List.{flat_map}
 use Rattle.std.specs.Fmt.{decimal}
 use Rattle.std.specs.Str.{bytes_eq}
+use Rattle.std.specs.Str.Parse.{digits_value}
 use Rattle.fond_task.specs.declared.task.Task.{Task}
-use Rattle.fond_game.specs.declared.rule.Rule.{Rule}
+use Rattle.fond_task.specs.Numbers.{act_number, atom_number}
 use Rattle.fond_game.specs.declared.rule.Target.{Target}
-use Rattle.fond_cert.specs.declared.error.CertError.{CertError}
-use Rattle.fond_cert.specs.declared.error.CertError.TheVariants.{Refused as RefusedText, NoMemory as WithoutMemory}
 use Rattle.fond_cert.specs.declared.error.LineError.{LineError}
-use Rattle.fond_cert.specs.declared.error.LineError.TheVariants.{Refused as RefusedLine, NoMemory}
-use Rattle.fond_cert.specs.Lines.{IsGroup, spaced, WrittenTarget, GoalWord, NumberWord, IsProperTarget, WrittenLiteral, WrittenLine, FairRule, UnfairRule, ReachLine, line_text, IsProper, piece_text, target_pieces, literal_pieces}
+use Rattle.fond_cert.specs.declared.error.LineError.TheVariants.{Refused as RefusedLine}
+use Rattle.fond_cert.specs.declared.part.Part.{Part}
+use Rattle.fond_cert.specs.Cutting.{literals_text}
+use Rattle.fond_cert.specs.Lines.{IsGroup, group_text, spaced, WrittenTarget, GoalWord, NumberWord, IsProperTarget, WrittenLiteral, AreProper, piece_text, target_piece, target_pieces, literal_pieces}
 use Rattle.fond_cert.specs.Parts.{AreTargets}
-use Rattle.fond_cert.specs.Words.{Refused, first_refused, atom_numbers, is_increasing, line_refusal}
-use Rattle.fond_cert.specs.Texts.{written_targets, cube_of, IsRuleLine}
+use Rattle.fond_cert.specs.Spellings.{written_target, written_cube}
+use Rattle.fond_cert.specs.Words.{Refused, piece_code, first_refused, atom_numbers, is_increasing, refusal_or_order}
 
 -- a word as a written target
 abbrev pub as_target : List ℕ → WrittenTarget
@@ -29,7 +30,7 @@ pub record AreTargetsAt (task : Task) (at : ℕ) (text : List ℕ) (targets : Li
   pub proper : All IsProperTarget written
   pub spelled : text ≡ flat_map piece_text (target_pieces written)
   pub right : first_refused task at (target_pieces written) ≡ None
-  pub named : written ≡ written_targets targets
+  pub named : written ≡ map written_target targets
 
 -- a text of targets that begins at this byte of a line has this first refusal
 pub record IsTargetRefused (task : Task) (at : ℕ) (text : List ℕ) (refused : Refused) : Type 0 where
@@ -37,6 +38,16 @@ pub record IsTargetRefused (task : Task) (at : ℕ) (text : List ℕ) (refused :
   pub proper : All IsProperTarget written
   pub spelled : text ≡ flat_map piece_text (target_pieces written)
   pub wrong : first_refused task at (target_pieces written) ≡ Some refused
+
+-- a cube with a literal of an atom, or unchanged if the task does not have the atom
+abbrev pub with_literal : List (Option Bool) → Option ℕ → Bool → List (Option Bool)
+with_literal cube None sign = cube
+with_literal cube (Some number) sign = slice_set cube number (Some sign)
+
+-- a cube with the literals that are written, one by one
+abbrev pub cube_of : Task → List (Option Bool) → List WrittenLiteral → List (Option Bool)
+cube_of task cube [] = cube
+cube_of task cube (literal ∷ literals) = cube_of task (with_literal cube (atom_number task (group_text literal.leaves)) literal.sign) literals
 
 -- a cube is read from a text of literals that begins at this byte of a line, none of which is refused, together with
 -- whether their atoms strictly increase
@@ -60,47 +71,48 @@ abbrev pub rises : Option ℕ → ℕ → Bool
 rises None number = true
 rises (Some last) number = nat_lt last number
 
--- whether a line is that of a rule
-abbrev pub is_rule : WrittenLine → Bool
-is_rule (FairRule action outcome target literals) = true
-is_rule (UnfairRule action targets literals) = true
-is_rule line = false
+-- the refusal of literals that begin at this byte of a line: by the first atom that the task does not have, or else by
+-- their order
+abbrev pub cube_refusal : Task → ℕ → List WrittenLiteral → Option Refused
+cube_refusal task at literals = refusal_or_order (first_refused task at (literal_pieces literals)) (is_increasing (atom_numbers task literals))
 
--- a piece of text is a line of this rule that is not refused
-pub record ReadsRule (task : Task) (piece : List ℕ) (rule : Rule) : Type 0 where
-  pub line : WrittenLine
-  pub proper : IsProper line
-  pub kind : is_rule line ≡ true
-  pub spelled : piece ≡ line_text line
-  pub right : line_refusal task line ≡ None
-  pub rule_is : IsRuleLine task rule line
+-- a cube is read from a text of literals that begins at this byte of a line and is not refused: it is over the atoms of
+-- the task, and its literals have this text
+pub record ReadsCube (task : Task) (at : ℕ) (text : List ℕ) (cube : List (Option Bool)) : Type 0 where
+  pub literals : List WrittenLiteral
+  pub proper : AreProper literals
+  pub spelled : text ≡ literals_text literals
+  pub right : cube_refusal task at literals ≡ None
+  pub long : length cube ≡ length task.atoms
+  pub same : literals_text literals ≡ literals_text (written_cube task cube)
 
--- a piece of text is a line of a rule with this refusal
-pub record IsRuleRefused (task : Task) (piece : List ℕ) (refused : Refused) : Type 0 where
-  pub line : WrittenLine
-  pub proper : IsProper line
-  pub kind : is_rule line ≡ true
-  pub spelled : piece ≡ line_text line
-  pub wrong : line_refusal task line ≡ Some refused
+-- a text of literals that begins at this byte of a line has this refusal
+pub record IsCubeRefused (task : Task) (at : ℕ) (text : List ℕ) (refused : Refused) : Type 0 where
+  pub literals : List WrittenLiteral
+  pub proper : AreProper literals
+  pub spelled : text ≡ literals_text literals
+  pub wrong : cube_refusal task at literals ≡ Some refused
 
--- a piece of text is the reach line with this number, which is not refused
-pub record ReadsReach (task : Task) (piece : List ℕ) (reach : ℕ) : Type 0 where
-  pub small : reach < 2 ^ 64
-  pub proper : IsProper (ReachLine (decimal reach))
-  pub spelled : piece ≡ line_text (ReachLine (decimal reach))
-  pub right : line_refusal task (ReachLine (decimal reach)) ≡ None
+-- an action is read: the task has it under this number
+abbrev pub ReadsAct : Task → List ℕ → ℕ → Type 0
+ReadsAct task text act = act_number task text ≡ Some act
 
--- the rules after a line that follows rules: one more rule, or the same rules with the reach number
-abbrev pub IsGrown : Task → List Rule → List ℕ → Option ℕ → List Rule → Type 0
-IsGrown task before piece None after = (rule : Rule) × (after ≡ before ++ rule ∷ []) × (length after < 2 ^ 32) × ReadsRule task piece rule
-IsGrown task before piece (Some reach) after = (after ≡ before) × ReadsReach task piece reach
+-- an error is the refusal of an action that the task does not have
+abbrev pub IsActRefused : Task → Part → LineError → Type 0
+IsActRefused task action error = (act_number task action.text.now ≡ None) × (error ≡ RefusedLine 3 action.at)
 
--- the rest of a text, from its first fault on, if the end line is due at its beginning: all of it if it does not begin
--- with the end line, or else the bytes after the end line
-abbrev pub IsMisplaced : List ℕ → List ℕ → Type 0
-IsMisplaced text rest = ((rest ≡ text) × ((more : List ℕ) → text ≢ codes "end\n" ++ more)) ⊎ ((text ≡ codes "end\n" ++ rest) × (rest ≢ []))
+-- a number below 2^32 is read from its digits
+abbrev pub ReadsNumber : List ℕ → ℕ → Type 0
+ReadsNumber digits number = (digits_value 10 digits < 2 ^ 32) × (digits ≡ decimal number)
 
--- the error of a text is that of its line which begins at this byte
-abbrev pub IsPlaced : ℕ → LineError → CertError → Type 0
-IsPlaced start (RefusedLine code byte) error = error ≡ RefusedText code (start + byte)
-IsPlaced start NoMemory error = error ≡ WithoutMemory
+-- an error is the refusal of a number of 2^32 or more
+abbrev pub IsNumberRefused : Part → LineError → Type 0
+IsNumberRefused digits error = (2 ^ 32 ≤ digits_value 10 digits.text.now) × (error ≡ RefusedLine 4 digits.at)
+
+-- a target is read from its word
+abbrev pub ReadsTarget : List ℕ → Target → Type 0
+ReadsTarget word target = ((task : Task) → piece_code task (target_piece (as_target word)) ≡ None) × (as_target word ≡ written_target target)
+
+-- an error is the refusal of a target whose number is 2^32 or more
+abbrev pub IsTargetTooLarge : Part → LineError → Type 0
+IsTargetTooLarge word error = ((task : Task) → piece_code task (target_piece (as_target word.text.now)) ≡ Some 4) × (error ≡ RefusedLine 4 word.at)

@@ -1,28 +1,53 @@
--- The fault of a text that is no policy certificate without layers and pairs: its code and its byte.
+-- The fault of a text that is no certificate: its code and its byte.
 use Rattle.std.specs.Prelude.{◌≡◌, ◌≢◌, ◌⊎◌, ℕ, ◌+◌, ◌^◌, nat_lt, if◌then◌else◌, List, [], ◌∷◌, ◌++◌, Option, Some, None, length, codes}
 use Rattle.fond_task.specs.declared.task.Task.{Task}
-use Rattle.fond_cert.specs.Lines.{WrittenLine, PolicyHeader, FairRule, UnfairRule, ReachLine, EndLine, line_text, IsProper}
+use Rattle.fond_cert.specs.Lines.{WrittenLine, PolicyHeader, RefusalHeader, LayerLine, CubeLine, PairLine, FairRule, UnfairRule, ReachLine, EndLine, line_text, IsProper}
 use Rattle.fond_cert.specs.Feeds.{HasNoFeed}
 use Rattle.fond_cert.specs.Words.{line_refusal}
-use Rattle.fond_cert.specs.Texts.{lines_text}
+use Rattle.fond_cert.specs.Spellings.{lines_text}
 
--- what is due at a place: the header, a rule or the reach line after this many rules, the end line, or nothing more
+-- whether a certificate is a policy or a refusal
+pub data Kind : Type 0 where
+  OfPolicy : Kind
+  OfRefusal : Kind
+
+-- what is due at a place: the header; a layer, or what follows the layers; the same after this many layers, the last with
+-- this many cubes; what follows a pair; what follows this many rules; the end line; or nothing more
 pub data Due : Type 0 where
   HeaderDue : Due
-  RuleDue : (rules : ℕ) → Due
+  LayersDue : (kind : Kind) → Due
+  CubesDue : (kind : Kind) (layers cubes : ℕ) → Due
+  PairsDue : Due
+  RulesDue : (rules : ℕ) → Due
   EndDue : Due
   NothingDue : Due
 
--- what is due after one more rule, if the rules are still fewer than 2^32
-abbrev pub one_more : ℕ → Option Due
-one_more rules = if nat_lt (rules + 1) (2 ^ 32) then Some (RuleDue (rules + 1)) else None
+-- what is due next, if there are still fewer than 2^32 items of a kind
+abbrev pub if_few : ℕ → Due → Option Due
+if_few count due = if nat_lt count (2 ^ 32) then Some due else None
+
+-- what is due after a line that may follow the layers of a certificate
+abbrev pub after_layers : Kind → WrittenLine → Option Due
+after_layers OfPolicy (PairLine action outcome layer cube literals) = Some PairsDue
+after_layers OfPolicy (FairRule action outcome target literals) = Some (RulesDue 1)
+after_layers OfPolicy (UnfairRule action targets literals) = Some (RulesDue 1)
+after_layers OfPolicy (ReachLine count) = Some EndDue
+after_layers OfRefusal EndLine = Some NothingDue
+after_layers kind line = None
 
 -- what is due after a line, if the line is allowed at its place
 abbrev pub due_after : Due → WrittenLine → Option Due
-due_after HeaderDue PolicyHeader = Some (RuleDue 0)
-due_after (RuleDue rules) (FairRule action outcome target literals) = one_more rules
-due_after (RuleDue rules) (UnfairRule action targets literals) = one_more rules
-due_after (RuleDue rules) (ReachLine count) = Some EndDue
+due_after HeaderDue PolicyHeader = Some (LayersDue OfPolicy)
+due_after HeaderDue RefusalHeader = Some (LayersDue OfRefusal)
+due_after (LayersDue kind) LayerLine = Some (CubesDue kind 1 0)
+due_after (LayersDue kind) line = after_layers kind line
+due_after (CubesDue kind layers cubes) LayerLine = if_few (layers + 1) (CubesDue kind (layers + 1) 0)
+due_after (CubesDue kind layers cubes) (CubeLine literals) = if_few (cubes + 1) (CubesDue kind layers (cubes + 1))
+due_after (CubesDue kind layers cubes) line = after_layers kind line
+due_after PairsDue line = after_layers OfPolicy line
+due_after (RulesDue rules) (FairRule action outcome target literals) = if_few (rules + 1) (RulesDue (rules + 1))
+due_after (RulesDue rules) (UnfairRule action targets literals) = if_few (rules + 1) (RulesDue (rules + 1))
+due_after (RulesDue rules) (ReachLine count) = Some EndDue
 due_after EndDue EndLine = Some NothingDue
 due_after due line = None
 
@@ -58,7 +83,7 @@ IsRefusedAt task NothingDue rest code at = (rest ≢ []) × (code ≡ 1) × (at 
 IsRefusedAt task due rest code at = IsRefusedRest task due rest code at
 
 -- a text has a fault at a byte: after lines that are right, the rest is refused there
-pub record IsPolicyFault (task : Task) (text : List ℕ) (code byte : ℕ) : Type 0 where
+pub record IsCertFault (task : Task) (text : List ℕ) (code byte : ℕ) : Type 0 where
   pub lines : List WrittenLine
   pub due : Due
   pub lead : Lead task HeaderDue lines due

@@ -1,5 +1,4 @@
--- The lines of a policy certificate without layers and pairs as they are written, whether or not the task has what
--- their words name.
+-- The lines of a certificate as they are written, whether or not the task has what their words name.
 use Rattle.std.specs.Prelude.{ℕ, ◌<◌, ◌^◌, ◌&&◌, ◌||◌, ◌==◌, nat_le, Bool, true, false, not, List, [], ◌∷◌, ◌++◌, All, length, IsTrue, codes, ⊤}
 use Rattle.std.specs.Char.{is_ascii_digit}
 use Rattle.std.specs.List.{flat_map, list_all}
@@ -54,6 +53,10 @@ sign_text false = codes "-"
 -- a line as it is written, without its line feed
 pub data WrittenLine : Type 0 where
   PolicyHeader : WrittenLine
+  RefusalHeader : WrittenLine
+  LayerLine : WrittenLine
+  CubeLine : (literals : List WrittenLiteral) → WrittenLine
+  PairLine : (action : List (List ℕ)) (outcome layer cube : List ℕ) (literals : List WrittenLiteral) → WrittenLine
   FairRule : (action : List (List ℕ)) (outcome : List ℕ) (target : WrittenTarget) (literals : List WrittenLiteral) → WrittenLine
   UnfairRule : (action : List (List ℕ)) (targets : List WrittenTarget) (literals : List WrittenLiteral) → WrittenLine
   ReachLine : (count : List ℕ) → WrittenLine
@@ -91,6 +94,11 @@ literal_pieces (literal ∷ literals) = Fixed (codes " ") ∷ Fixed (sign_text l
 -- the pieces of a line
 abbrev pub line_pieces : WrittenLine → List Piece
 line_pieces PolicyHeader = Fixed (codes "dualfond 1 policy") ∷ []
+line_pieces RefusalHeader = Fixed (codes "dualfond 1 refusal") ∷ []
+line_pieces LayerLine = Fixed (codes "layer") ∷ []
+line_pieces (CubeLine literals) = Fixed (codes "cube") ∷ literal_pieces literals
+line_pieces (PairLine action outcome layer cube literals) =
+    Fixed (codes "pair ") ∷ ActionWord action ∷ Fixed (codes " ") ∷ Below (2 ^ 32) outcome ∷ Fixed (codes " ") ∷ Below (2 ^ 32) layer ∷ Fixed (codes " ") ∷ Below (2 ^ 32) cube ∷ Fixed (codes " :") ∷ literal_pieces literals
 line_pieces (FairRule action outcome target literals) =
     Fixed (codes "rule ") ∷ ActionWord action ∷ Fixed (codes " fair ") ∷ Below (2 ^ 32) outcome ∷ Fixed (codes " ") ∷ target_piece target ∷ Fixed (codes " :") ∷ literal_pieces literals
 line_pieces (UnfairRule action targets literals) =
@@ -102,10 +110,18 @@ line_pieces EndLine = Fixed (codes "end") ∷ []
 abbrev pub line_text : WrittenLine → List ℕ
 line_text line = flat_map piece_text (line_pieces line)
 
+-- the atoms of literals have leaves
+abbrev pub AreProper : List WrittenLiteral → Type 0
+AreProper literals = All (λ literal. IsGroup literal.leaves) literals
+
 -- a line is proper: its atoms and actions have leaves, its numbers are numbers, and an unfair rule has targets
 abbrev pub IsProper : WrittenLine → Type 0
 IsProper PolicyHeader = ⊤
-IsProper (FairRule action outcome target literals) = IsGroup action × IsTrue (is_number outcome) × IsProperTarget target × All (λ literal. IsGroup literal.leaves) literals
-IsProper (UnfairRule action targets literals) = IsGroup action × (0 < length targets) × All IsProperTarget targets × All (λ literal. IsGroup literal.leaves) literals
+IsProper RefusalHeader = ⊤
+IsProper LayerLine = ⊤
+IsProper (CubeLine literals) = AreProper literals
+IsProper (PairLine action outcome layer cube literals) = IsGroup action × IsTrue (is_number outcome) × IsTrue (is_number layer) × IsTrue (is_number cube) × AreProper literals
+IsProper (FairRule action outcome target literals) = IsGroup action × IsTrue (is_number outcome) × IsProperTarget target × AreProper literals
+IsProper (UnfairRule action targets literals) = IsGroup action × (0 < length targets) × All IsProperTarget targets × AreProper literals
 IsProper (ReachLine count) = IsTrue (is_number count)
 IsProper EndLine = ⊤

@@ -3,7 +3,7 @@
 ghost use Rattle.fond_cert.specs.Feeds.{HasNoFeed};
 ghost use Rattle.std.specs.Prelude.{◌≡◌, ◌++◌, codes, MatchOption};
 
-use crate::part::len_before;
+use crate::scan::len_before;
 
 /// The bytes before the first line feed and the bytes after it, if there is one. Takes time in the length of the line.
 pub fn line_of<'a>(text: &'a [u8]) -> Option<(&'a [u8], &'a [u8])>

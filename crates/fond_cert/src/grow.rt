@@ -1,90 +1,136 @@
-//! Reading the rules and the reach number line by line.
+//! Adding what a line makes to a draft.
 
-ghost use Rattle.fond_cert.specs.Faults.{IsRefusedLine, RuleDue};
+ghost use Rattle.fond_cert.specs.Cutting.{IsRightCut, IsRefusedBy};
+ghost use Rattle.fond_cert.specs.Drafts.{IsDraftOf, closed, with_open, with_pair, with_rule, with_reach, opened, all_layers, IsGrown, HasRoom};
 ghost use Rattle.fond_cert.specs.Refusals.{LineRefuses};
-ghost use Rattle.fond_cert.specs.Checked.{IsGrown, ReadsReach, ReadsRule, IsRuleRefused};
-ghost use Rattle.fond_cert.specs.Lines.{is_number};
-ghost use Rattle.fond_cert.specs.Shapes.{IsRuleOf};
-ghost use Rattle.fond_task.specs.declared.task.Task.{Task};
-ghost use Rattle.std.specs.Prelude.{◌≡◌, ◌++◌, ℕ, IsTrue, codes, length, IfOk, IfErr};
+ghost use Rattle.fond_game.specs.Layers.{CubeView};
+ghost use Rattle.std.specs.Prelude.{◌≡◌, ◌<◌, ◌-◌, ◌^◌, List, [], ◌∷◌, ◌++◌, length, None, Some, All, IfOk, IfErr, OnOk};
 
+use crate::draft::Draft;
 use crate::error::LineError;
-use crate::line::{Line, RuleLine, cut_line};
-use crate::rule::{fair_rule, unfair_rule};
-use crate::word::number;
-use fond_game::rule::Rule;
+use crate::item::{read_fair, read_layer_cube, read_pair, read_reach, read_unfair};
+use crate::line::Line;
+use fond_game::rule::{Pair, Rule};
+use fond_layers::layers::{Layer, Layers};
+use fond_rules::pairs::Pairs;
 use fond_rules::rules::Rules;
+use fond_state::cube::Cube;
 use fond_task::task_index::TaskIndex;
+use fond_text::fault::NoMemory;
 use std::alloc::Global;
 
-/// The refusal of a line that has no form allowed at its place.
-pub(crate) const FORMLESS: LineError = LineError::Refused { code: 1, at: 0 };
-
-/// The rule of a line, by the line's parts.
-fn rule_of(
-    alloc: Global,
-    index: &TaskIndex,
-    piece: &[u8],
-    line: RuleLine,
-) -> Result<Rule, LineError>
-    requires { IsRuleOf line piece.now }
-    ensures read { IfOk result (ReadsRule index.now piece.now) }
-    ensures wrong { IfErr result (LineRefuses (IsRuleRefused index.now piece.now)) }
-{
-    match line {
-        RuleLine::Fair {
-            action,
-            outcome,
-            target,
-            literals,
-        } => fair_rule(alloc, index, action, outcome, target, literals),
-        RuleLine::Unfair {
-            action,
-            targets,
-            literals,
-        } => unfair_rule(alloc, index, action, targets, literals),
-    }
-}
-
-/// The number of the reach line, by its digits.
-fn reach_of(piece: &[u8], count: &[u8]) -> Result<u64, LineError>
-    requires number { IsTrue (is_number count.now) }
-    requires spelled { piece.now ≡ codes "reach " ++ count.now }
-    ensures read { IfOk result (λ reach. (task : Task) → ReadsReach task piece.now reach) }
-    ensures wrong { IfErr result (λ error. (task : Task) (rules : ℕ) → LineRefuses (λ refused. IsRefusedLine task (RuleDue rules) piece.now refused.code refused.at) error) }
-{
-    match number(count) {
-        Some(reach) => Ok(reach),
-        None => Err(LineError::Refused {
-            code: 4,
-            at: piece.len() - count.len(),
-        }),
-    }
-}
-
-/// Adds the rule of the line, or answers the number if it is the reach line.
-pub(crate) fn grow(
-    alloc: Global,
-    index: &TaskIndex,
-    rules: &mut Rules,
-    piece: &[u8],
-) -> Result<Option<u64>, LineError>
-    ensures grown { IfOk result (λ reach. IsGrown index.now rules.old piece.now reach rules.new) }
-    ensures wrong { IfErr result (LineRefuses (λ refused. IsRefusedLine index.now (RuleDue (length rules.old)) piece.now refused.code refused.at)) }
-{
-    let Some(line) = cut_line(piece) else {
-        return Err(FORMLESS);
-    };
-    let line = match line {
-        Line::Reach { count } => {
-            return Ok(Some(reach_of(piece, count)?));
+impl Draft {
+    /// A draft without parts. It takes no memory.
+    pub fn new(alloc: Global) -> Draft
+        ensures { result ≡ record { layers = []; current = None; pairs = []; rules = []; reach = None } }
+    {
+        Draft {
+            layers: Layers::new(alloc),
+            current: None,
+            pairs: Pairs::new(alloc),
+            rules: Rules::new(alloc),
+            reach: None,
         }
-        Line::Rule(line) => line,
-    };
-    if rules.len() == u32::MAX {
-        return Err(FORMLESS);
     }
-    let rule = rule_of(alloc, index, piece, line)?;
-    rules.push(rule)?;
-    Ok(None)
+
+    /// Ends the layer whose cubes were read, if there is one.
+    fn close(&mut self) -> Result<(), NoMemory>
+        requires few { length (all_layers self.old) < 2 ^ 32 }
+        requires few_cubes { All (λ (layer : List CubeView). length layer < 2 ^ 32) (all_layers self.old) }
+        ensures { OnOk result (self.new ≡ closed self.old) }
+    {
+        if let Some(layer) = self.current.take() {
+            self.layers.add_raw(layer)?;
+        }
+        Ok(())
+    }
+
+    /// Begins a layer.
+    fn add_layer(&mut self, alloc: Global) -> Result<(), NoMemory>
+        requires few { length (all_layers self.old) < 2 ^ 32 }
+        requires few_cubes { All (λ (layer : List CubeView). length layer < 2 ^ 32) (all_layers self.old) }
+        ensures { OnOk result (self.new ≡ with_open (closed self.old) (Some [])) }
+    {
+        self.close()?;
+        self.current = Some(Layer::new(alloc));
+        Ok(())
+    }
+
+    /// Adds a cube to the layer that is being read.
+    fn add_cube(&mut self, cube: Cube) -> Result<(), NoMemory>
+        ensures { OnOk result ((current : List CubeView) → self.old.current ≡ Some current → self.new ≡ with_open self.old (Some (current ++ cube ∷ []))) }
+    {
+        if let Some(layer) = &mut self.current {
+            layer.push(cube)?;
+        }
+        Ok(())
+    }
+
+    /// Adds a pair.
+    fn add_pair(&mut self, pair: Pair) -> Result<(), NoMemory>
+        requires few { length (all_layers self.old) < 2 ^ 32 }
+        requires few_cubes { All (λ (layer : List CubeView). length layer < 2 ^ 32) (all_layers self.old) }
+        ensures { OnOk result (self.new ≡ with_pair self.old pair) }
+    {
+        self.close()?;
+        self.pairs.push(pair)
+    }
+
+    /// Adds a rule.
+    fn add_rule(&mut self, rule: Rule) -> Result<(), NoMemory>
+        requires few { length (all_layers self.old) < 2 ^ 32 }
+        requires few_cubes { All (λ (layer : List CubeView). length layer < 2 ^ 32) (all_layers self.old) }
+        requires room { length self.old.rules < 2 ^ 32 - 1 }
+        ensures { OnOk result (self.new ≡ with_rule self.old rule) }
+    {
+        self.close()?;
+        self.rules.push(rule)
+    }
+
+    /// Adds the reach number.
+    fn add_reach(&mut self, reach: u64) -> Result<(), NoMemory>
+        requires few { length (all_layers self.old) < 2 ^ 32 }
+        requires few_cubes { All (λ (layer : List CubeView). length layer < 2 ^ 32) (all_layers self.old) }
+        ensures { OnOk result (self.new ≡ with_reach self.old reach) }
+    {
+        self.close()?;
+        self.reach = Some(reach);
+        Ok(())
+    }
+
+    /// Adds what the line makes.
+    pub fn add(&mut self, alloc: Global, index: &TaskIndex, line: Line) -> Result<(), LineError>
+        requires cut { IsRightCut line }
+        requires room { HasRoom line self.old }
+        requires few { length (all_layers self.old) < 2 ^ 32 }
+        requires few_cubes { All (λ (layer : List CubeView). length layer < 2 ^ 32) (all_layers self.old) }
+        ensures grown { OnOk result (IsGrown index.now line.entry self.old self.new) }
+        ensures wrong { IfErr result (LineRefuses (IsRefusedBy index.now line.entry)) }
+    {
+        match line {
+            Line::PolicyHeader | Line::RefusalHeader | Line::End => self.close()?,
+            Line::Layer => self.add_layer(alloc)?,
+            Line::Cube { literals } => self.add_cube(read_layer_cube(alloc, index, literals)?)?,
+            Line::Pair {
+                action,
+                outcome,
+                layer,
+                cube,
+                literals,
+            } => self.add_pair(read_pair(alloc, index, action, outcome, layer, cube, literals)?)?,
+            Line::FairRule {
+                action,
+                outcome,
+                target,
+                literals,
+            } => self.add_rule(read_fair(alloc, index, action, outcome, target, literals)?)?,
+            Line::UnfairRule {
+                action,
+                targets,
+                literals,
+            } => self.add_rule(read_unfair(alloc, index, action, targets, literals)?)?,
+            Line::Reach { count } => self.add_reach(read_reach(index, count)?)?,
+        }
+        Ok(())
+    }
 }

@@ -1,15 +1,25 @@
-//! Reading certificates. A text is read as the rules and the reach number of a policy over the actions and atoms of a
-//! task, or refused with the code and the byte of its first fault. Layers and pairs are not read yet. Whether the policy
-//! is right is left to others.
+//! The text of certificates. A text is read as the certificate that it spells over the actions and atoms of a task, or
+//! refused with the code and the byte of its first fault; a certificate is printed in its one spelling. Whether a
+//! certificate is correct is left to others.
 #![tactic(auto)]
 
+pub mod cert;
+mod cut;
+mod draft;
+mod due;
 pub mod error;
 mod feed;
+mod form;
 mod grow;
+mod item;
 mod line;
+mod lines;
 mod literal;
 mod part;
-pub mod policy;
-mod rule;
+mod place;
+pub mod print;
+mod put;
+pub mod read;
+mod scan;
 mod target;
 mod word;

@@ -1,12 +1,13 @@
 //! Reading the literals of a rule.
 
 ghost use Rattle.fond_cert.specs.Refusals.{LineRefuses};
-ghost use Rattle.fond_cert.specs.Checked.{rises, IsCubeAt, IsLiteralRefused};
+ghost use Rattle.fond_cert.specs.Checked.{rises, IsCubeAt, IsLiteralRefused, ReadsCube, IsCubeRefused};
 ghost use Rattle.fond_cert.specs.Parts.{AreLiterals};
 ghost use Rattle.std.specs.Prelude.{◌≡◌, ◌+◌, ◌<◌, ◌^◌, ◌&&◌, None, Some, length, replicate, slice_set, IfOk, IfErr};
 
 use crate::error::LineError;
-use crate::part::literal;
+use crate::part::Part;
+use crate::scan::literal;
 use fond_state::cube::Cube;
 use fond_task::task::Task;
 use fond_task::task_index::TaskIndex;
@@ -15,10 +16,10 @@ use std::alloc::Global;
 
 /// The literals that were read, the atom of the last one, and whether the atoms strictly increase.
 #[derive(Drop)]
-pub(crate) struct Literals {
-    pub cube: Cube,
-    pub last: Option<u32>,
-    pub is_ordered: bool,
+struct Literals {
+    cube: Cube,
+    last: Option<u32>,
+    is_ordered: bool,
 }
 
 /// Whether the number is greater than the one before it, if there is one.
@@ -53,7 +54,7 @@ impl Literals {
 }
 
 /// The literals of the text, which begins at this byte of its line.
-pub(crate) fn read_literals(
+fn read_literals(
     alloc: Global,
     index: &TaskIndex,
     text: &[u8],
@@ -81,4 +82,19 @@ pub(crate) fn read_literals(
         rest = further;
     }
     Ok(literals)
+}
+
+/// The cube of literals. Takes time in the length of their text and in the number of the task's atoms; memory for the
+/// cube.
+pub(crate) fn read_cube(alloc: Global, index: &TaskIndex, literals: Part) -> Result<Cube, LineError>
+    requires { AreLiterals literals.text.now }
+    ensures read { IfOk result (ReadsCube index.now literals.entry.at literals.entry.text.now) }
+    ensures wrong { IfErr result (LineRefuses (IsCubeRefused index.now literals.entry.at literals.entry.text.now)) }
+{
+    let read = read_literals(alloc, index, literals.text, literals.at)?;
+    if read.is_ordered {
+        Ok(read.cube)
+    } else {
+        Err(LineError::Refused { code: 1, at: 0 })
+    }
 }

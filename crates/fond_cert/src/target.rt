@@ -1,36 +1,56 @@
-//! Reading the targets of a rule.
+//! Reading numbers and targets.
 
 ghost use Rattle.fond_cert.specs.Refusals.{LineRefuses};
-ghost use Rattle.fond_cert.specs.Checked.{as_target, AreTargetsText, AreTargetsAt, IsTargetRefused};
+ghost use Rattle.fond_cert.specs.Checked.{as_target, AreTargetsText, AreTargetsAt, IsTargetRefused, ReadsNumber, IsNumberRefused, ReadsTarget, IsTargetTooLarge};
+ghost use Rattle.fond_cert.specs.declared.error.LineError.TheVariants.{Refused as RefusedLine};
 ghost use Rattle.fond_cert.specs.Lines.{is_number, target_piece};
 ghost use Rattle.fond_cert.specs.Parts.{is_target};
-ghost use Rattle.fond_cert.specs.Texts.{written_target};
 ghost use Rattle.fond_cert.specs.Words.{piece_code};
 ghost use Rattle.fond_task.specs.declared.task.Task.{Task};
-ghost use Rattle.std.specs.Fmt.{decimal};
-ghost use Rattle.std.specs.Prelude.{◌≡◌, ◌+◌, ◌<◌, ◌≤◌, ◌^◌, IsTrue, None, Some, length, MatchOption, IfOk, IfErr};
+ghost use Rattle.std.specs.Prelude.{◌≡◌, ◌+◌, ◌<◌, ◌≤◌, ◌^◌, Some, length, IsTrue, MatchOption, IfOk, IfErr};
 ghost use Rattle.std.specs.Str.Parse.{digits_value};
 
 use crate::error::LineError;
-use crate::part::after;
+use crate::part::Part;
+use crate::scan::after;
 use crate::word::{number, word};
 use fond_game::rule::{Target, TargetList};
 use std::alloc::Global;
 
 /// The value of a number, or nothing if it is 2^32 or more.
-pub(crate) fn short_number(digits: &[u8]) -> Option<u32>
+fn short_number(digits: &[u8]) -> Option<u32>
     requires { IsTrue (is_number digits.now) }
-    ensures { MatchOption result (2 ^ 32 ≤ digits_value 10 digits.now) (λ n. (digits_value 10 digits.now < 2 ^ 32) × (digits.now ≡ decimal n)) }
+    ensures { MatchOption result (2 ^ 32 ≤ digits_value 10 digits.now) (ReadsNumber digits.now) }
 {
     u32::try_from(number(digits)?).ok()
 }
 
+/// The refusal of a number that is too large.
+pub(crate) fn too_large(digits: Part) -> LineError
+    ensures { result ≡ RefusedLine 4 digits.entry.at }
+{
+    LineError::Refused {
+        code: 4,
+        at: digits.at,
+    }
+}
+
+/// The value of a number below 2^32.
+pub(crate) fn read_number(digits: Part) -> Result<u32, LineError>
+    requires { IsTrue (is_number digits.text.now) }
+    ensures read { IfOk result (ReadsNumber digits.entry.text.now) }
+    ensures wrong { IfErr result (IsNumberRefused digits.entry) }
+{
+    match short_number(digits.text) {
+        Some(n) => Ok(n),
+        None => Err(too_large(digits)),
+    }
+}
+
 /// The target that the word writes, or nothing if its number is 2^32 or more.
-pub(crate) fn target(word: &[u8]) -> Option<Target>
+fn target(word: &[u8]) -> Option<Target>
     requires { IsTrue (is_target word.now) }
-    ensures { MatchOption result
-        ((task : Task) → piece_code task (target_piece (as_target word.now)) ≡ Some 4)
-        (λ target. ((task : Task) → piece_code task (target_piece (as_target word.now)) ≡ None) × (as_target word.now ≡ written_target target)) }
+    ensures { MatchOption result ((task : Task) → piece_code task (target_piece (as_target word.now)) ≡ Some 4) (ReadsTarget word.now) }
 {
     if word == b"goal".as_slice() {
         return Some(Target::Goal);
@@ -38,8 +58,20 @@ pub(crate) fn target(word: &[u8]) -> Option<Target>
     Some(Target::Rule(short_number(word)?))
 }
 
+/// A target.
+pub(crate) fn read_target(word: Part) -> Result<Target, LineError>
+    requires { IsTrue (is_target word.text.now) }
+    ensures read { IfOk result (ReadsTarget word.entry.text.now) }
+    ensures wrong { IfErr result (IsTargetTooLarge word.entry) }
+{
+    match target(word.text) {
+        Some(target) => Ok(target),
+        None => Err(too_large(word)),
+    }
+}
+
 /// The targets of the text, each after a space. The text begins at this byte of its line.
-pub(crate) fn read_targets(alloc: Global, text: &[u8], at: usize) -> Result<TargetList, LineError>
+fn targets_at(alloc: Global, text: &[u8], at: usize) -> Result<TargetList, LineError>
     requires spelled { AreTargetsText text.now }
     requires within { at + length text.now < 2 ^ 64 }
     ensures read { IfOk result (λ targets. (task : Task) → AreTargetsAt task at text.now targets) }
@@ -59,4 +91,13 @@ pub(crate) fn read_targets(alloc: Global, text: &[u8], at: usize) -> Result<Targ
         rest = further;
     }
     Ok(targets)
+}
+
+/// Targets. Takes time in the length of their text; memory for the targets.
+pub(crate) fn read_targets(alloc: Global, targets: Part) -> Result<TargetList, LineError>
+    requires { AreTargetsText targets.text.now }
+    ensures read { IfOk result (λ read. (task : Task) → AreTargetsAt task targets.entry.at targets.entry.text.now read) }
+    ensures wrong { IfErr result (λ error. (task : Task) → LineRefuses (IsTargetRefused task targets.entry.at targets.entry.text.now) error) }
+{
+    targets_at(alloc, targets.text, targets.at)
 }

@@ -9,7 +9,7 @@ ghost use Rattle.std.specs.List.{list_all};
 ghost use Rattle.fond_cert.specs.Lines.{spaced};
 ghost use Rattle.fond_cert.specs.Parts.{is_target, AreTargets, EndsWord, HasNoTarget, IsCut};
 
-use crate::part::{after, len_before};
+use crate::scan::{after, len_before};
 use fond_text::number::read_number;
 
 /// Whether all bytes are digits.

@@ -1,0 +1,141 @@
+-- What is printed is how certificates are written.
+use Rattle.std.proofs.Common.{◌≡◌, ℕ, ◌+◌, zero, suc, Bool, List, [], ◌∷◌, ◌++◌, Option, Some, None, map, codes, refl, sym, ap, ◌∙◌, arith, append_assoc, drop, All as Each}
+use Rattle.std.specs.Prelude.{slice_get}
+use Rattle.std.specs.Fmt.{decimal}
+use Rattle.std.specs.List.{filter_map, flat_map, enumerate_from, cons_option}
+use Rattle.std.specs.Option.{option_map, option_map_or}
+use Rattle.std.proofs.lemmas.Grind.{flat_map-append}
+use Rattle.fond_text.specs.declared.atom.Atom.{Atom}
+use Rattle.fond_task.specs.declared.task.Act.{Act}
+use Rattle.fond_task.specs.declared.task.Labels.{Labels}
+use Rattle.fond_task.specs.declared.task.Task.{Task}
+use Rattle.fond_task.specs.Texts.{action_text}
+use Rattle.fond_state.specs.Cubes.{literal_at}
+use Rattle.fond_game.specs.Layers.{CubeView}
+use Rattle.fond_game.specs.declared.rule.Pair.{Pair}
+use Rattle.fond_game.specs.declared.rule.Rule.{Rule}
+use Rattle.fond_game.specs.declared.rule.Targets.{Targets}
+use Rattle.fond_game.specs.declared.rule.Targets.TheVariants.{One, All}
+use Rattle.fond_cert.specs.declared.cert.Cert.TheVariants.{Policy, Refusal}
+use Rattle.fond_cert.specs.Belongs.{BelongAsPairs, BelongAsRules}
+use Rattle.fond_cert.specs.Items.{IsPairOf, IsRuleOf}
+use Rattle.fond_cert.specs.Cutting.{target_text, targets_text, literals_text}
+use Rattle.fond_cert.specs.Lines.{group_text, WrittenLiteral, WrittenLine, ReachLine, EndLine, sign_text}
+use Rattle.fond_cert.specs.Printed.{item_text, cube_text, fed, chosen_text, cond_text, pair_text, rule_text, layer_text, policy_text, refusal_text}
+use Rattle.fond_cert.specs.Spellings.{action_leaves, act_leaves, written_literal, written_cube, written_target, targets_line, layer_lines, pair_line, rule_line, lines_text, spelling}
+use Rattle.fond_cert.proofs.Acts.{leaves_text as action_leaves_text}
+use Rattle.fond_cert.proofs.CubeTexts.{leaves_text}
+use Rattle.fond_cert.proofs.Literals.{literal_apart}
+use Rattle.fond_cert.proofs.UnfairRules.{apart}
+use Rattle.fond_cert.proofs.Wholes.{lines_append}
+
+one_item : (labels : Labels) (atom : Atom) (literal : Option Bool) (rest : List WrittenLiteral) →
+    item_text labels atom literal ++ literals_text rest ≡ literals_text (cons_option (option_map (written_literal labels atom) literal) rest)
+one_item labels atom None rest = refl
+one_item labels atom (Some sign) rest =
+    ap (λ t. (codes " " ++ (sign_text sign ++ t)) ++ literals_text rest) (leaves_text labels atom) ∙ literal_apart (written_literal labels atom sign) (literals_text rest)
+
+items_text : (labels : Labels) (cube : CubeView) (items : List (ℕ × Atom)) →
+    flat_map (λ (item : ℕ × Atom). item_text labels item.1 (literal_at cube item.0)) items
+    ≡ literals_text (filter_map (λ (item : ℕ × Atom). option_map (written_literal labels item.1) (literal_at cube item.0)) items)
+items_text labels cube [] = refl
+items_text labels cube (item ∷ items) =
+    ap (λ t. item_text labels item.1 (literal_at cube item.0) ++ t) (items_text labels cube items)
+    ∙ one_item labels item.1 (literal_at cube item.0) (filter_map (λ (item : ℕ × Atom). option_map (written_literal labels item.1) (literal_at cube item.0)) items)
+
+pub cube_text_is : (task : Task) (cube : CubeView) → cube_text task cube ≡ literals_text (written_cube task cube)
+cube_text_is task cube = items_text task.labels cube (enumerate_from 0 task.atoms)
+
+pub act_text_is : (task : Task) (n : ℕ) (act : Act) → slice_get task.acts n ≡ Some act → action_text task.labels act.ground ≡ group_text (act_leaves task n)
+act_text_is task n act e = action_leaves_text task.labels act.ground ∙ ap (λ o. group_text (option_map_or (λ (a : Act). action_leaves task.labels a.ground) o [])) (sym e)
+
+abbrev item_of : {X : Type 0} → X → Option X → X
+item_of y None = y
+item_of y (Some x) = x
+
+drop_at : {X : Type 0} (xs : List X) (i : ℕ) (x : X) → slice_get xs i ≡ Some x → drop i xs ≡ x ∷ drop (suc i) xs
+drop_at [] i x e = absurd (cc)
+drop_at (y ∷ xs) zero x e = ap (λ o. item_of y o ∷ xs) e
+drop_at (y ∷ xs) (suc i) x e = drop_at xs i x e
+
+-- what is left of a text after the next item
+pub next_text : {X : Type 0} (f : X → List ℕ) (xs : List X) (i : ℕ) (x : X) (before after whole : List ℕ) → slice_get xs i ≡ Some x → before ++ flat_map f (drop i xs) ≡ whole → after ≡ before ++ f x →
+    after ++ flat_map f (drop (i + 1) xs) ≡ whole
+next_text f xs i x before after whole at e is =
+    let one : i + 1 ≡ suc i = omega arith in
+    rw one
+    (ap (λ t. t ++ flat_map f (drop (suc i) xs)) is ∙ append_assoc before (f x) (flat_map f (drop (suc i) xs)) ∙ ap (λ l. before ++ flat_map f l) (sym (drop_at xs i x at)) ∙ e)
+
+pub grew_more : (start before after text : List ℕ) → ((more : List ℕ) × (before ≡ start ++ more)) → after ≡ before ++ text → (more : List ℕ) × (after ≡ start ++ more)
+grew_more start before after text h e = (h.0 ++ text, e ∙ ap (λ t. t ++ text) h.1 ∙ append_assoc start h.0 text)
+
+-- lines of which each item makes several, item by item
+pub several_lines : {X : Type 0} (f : X → List WrittenLine) (xs : List X) → lines_text (flat_map f xs) ≡ flat_map (λ (x : X). lines_text (f x)) xs
+several_lines f [] = refl
+several_lines f (x ∷ xs) = flat_map-append fed (f x) (flat_map f xs) ∙ ap (λ t. lines_text (f x) ++ t) (several_lines f xs)
+
+flat3 : (o l c t : List ℕ) → (o ++ (l ++ c)) ++ t ≡ o ++ (l ++ (c ++ t))
+flat3 o l c t = append_assoc o (l ++ c) t ∙ ap (λ u. o ++ u) (append_assoc l c t)
+
+flat4 : (o l c t n : List ℕ) → (o ++ (l ++ (c ++ t))) ++ n ≡ o ++ (l ++ (c ++ (t ++ n)))
+flat4 o l c t n = flat3 o l (c ++ t) n ∙ ap (λ u. o ++ (l ++ u)) (append_assoc c t n)
+
+pub pair_is : (task : Task) (pair : Pair) → pair_text task pair ≡ fed (pair_line task pair)
+pair_is task pair =
+    let g = group_text (act_leaves task pair.act) in
+    let o = codes " " ++ decimal pair.outcome in
+    let l = codes " " ++ decimal pair.layer in
+    let c = codes " " ++ decimal pair.cube in
+    let t = codes " :" ++ literals_text (written_cube task pair.cond) in
+    ap (λ u. codes "pair " ++ (g ++ u)) (flat3 o l c (t ++ codes "\n") ∙ sym (flat4 o l c t (codes "\n")))
+    ∙ ap (λ u. codes "pair " ++ u) (sym (append_assoc g (o ++ (l ++ (c ++ t))) (codes "\n")))
+
+rule_by : (task : Task) (a : List (List ℕ)) (targets : Targets) (cond : CubeView) →
+    codes "rule " ++ (group_text a ++ (chosen_text targets ++ cond_text task cond)) ≡ fed (targets_line a targets (written_cube task cond))
+rule_by task a (One outcome target) cond =
+    let g = group_text a in
+    let o = codes " fair " ++ decimal outcome in
+    let w = codes " " ++ target_text (written_target target) in
+    let t = codes " :" ++ literals_text (written_cube task cond) in
+    ap (λ u. codes "rule " ++ (g ++ u)) (append_assoc o w (t ++ codes "\n") ∙ sym (flat3 o w t (codes "\n")))
+    ∙ ap (λ u. codes "rule " ++ u) (sym (append_assoc g (o ++ (w ++ t)) (codes "\n")))
+rule_by task a (All targets) cond =
+    let g = group_text a in
+    let w = codes " unfair" ++ targets_text (map written_target targets) in
+    let t = codes " :" ++ literals_text (written_cube task cond) in
+    ap (λ u. codes "rule " ++ (g ++ u)) (sym (append_assoc w t (codes "\n")))
+    ∙ ap (λ u. codes "rule " ++ u) (sym (append_assoc g (w ++ t) (codes "\n")))
+    ∙ ap (λ u. u ++ codes "\n") (sym (apart a (map written_target targets) (written_cube task cond)))
+
+pub rule_is : (task : Task) (rule : Rule) → rule_text task rule ≡ fed (rule_line task rule)
+rule_is task rule = rule_by task (act_leaves task rule.act) rule.targets rule.cond
+
+mapped : {X : Type 0} (f : X → WrittenLine) (g : X → List ℕ) → ((x : X) → g x ≡ fed (f x)) → (xs : List X) → flat_map g xs ≡ lines_text (map f xs)
+mapped f g h [] = refl
+mapped f g h (x ∷ xs) = ap (λ t. t ++ flat_map g xs) (h x) ∙ ap (λ t. fed (f x) ++ t) (mapped f g h xs)
+
+pub policy_is : (task : Task) (layers : List (List CubeView)) (pairs : List Pair) (rules : List Rule) (reach : ℕ) → policy_text task layers pairs rules reach ≡ spelling task (Policy layers pairs rules reach)
+policy_is task layers pairs rules reach =
+    let ll = flat_map (layer_lines task) layers in
+    let pl = map (pair_line task) pairs in
+    let rl = map (rule_line task) rules in
+    let last = ReachLine (decimal reach) ∷ EndLine ∷ [] in
+    ap (λ u. codes "dualfond 1 policy\n" ++ u)
+    (ap (λ t. flat_map (layer_text task) layers ++ t) (flat3 (flat_map (pair_text task) pairs) (flat_map (rule_text task) rules) (fed (ReachLine (decimal reach))) (codes "end\n"))
+    ∙ ap (λ t. t ++ (flat_map (pair_text task) pairs ++ (flat_map (rule_text task) rules ++ lines_text last))) (sym (several_lines (layer_lines task) layers))
+    ∙ ap (λ t. lines_text ll ++ (t ++ (flat_map (rule_text task) rules ++ lines_text last))) (mapped (pair_line task) (pair_text task) (pair_is task) pairs)
+    ∙ ap (λ t. lines_text ll ++ (lines_text pl ++ (t ++ lines_text last))) (mapped (rule_line task) (rule_text task) (rule_is task) rules)
+    ∙ ap (λ t. lines_text ll ++ (lines_text pl ++ t)) (sym (lines_append rl last))
+    ∙ ap (λ t. lines_text ll ++ t) (sym (lines_append pl (rl ++ last)))
+    ∙ sym (lines_append ll (pl ++ (rl ++ last))))
+
+pub refusal_is : (task : Task) (layers : List (List CubeView)) → refusal_text task layers ≡ spelling task (Refusal layers)
+refusal_is task layers =
+    ap (λ u. codes "dualfond 1 refusal\n" ++ u)
+    (ap (λ t. t ++ codes "end\n") (sym (several_lines (layer_lines task) layers)) ∙ sym (lines_append (flat_map (layer_lines task) layers) (EndLine ∷ [])))
+
+pub pairs_of : (task : Task) (pairs : List Pair) → BelongAsPairs task pairs → Each (IsPairOf task) pairs
+pairs_of task pairs h = λ k d lt. (h.over k d lt, h.there k d lt)
+
+pub rules_of : (task : Task) (rules : List Rule) → BelongAsRules task rules → Each (IsRuleOf task) rules
+rules_of task rules h = λ k d lt. (h.belong.over k d lt, h.belong.there k d lt, h.targeted k d lt)

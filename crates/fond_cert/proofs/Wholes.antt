@@ -1,0 +1,263 @@
+-- Texts that were read line by line.
+use Rattle.std.proofs.Common.{◌≡◌, ◌≢◌, ◌⊎◌, inl, inr, ℕ, ◌+◌, ◌-◌, ◌≤◌, ◌<◌, ◌^◌, List, [], ◌∷◌, ◌++◌, All, Option, Some, None, length, map, codes, refl, sym, ap, ◌∙◌, subst, arith, length-append, append_assoc}
+use Rattle.std.specs.List.{flat_map}
+use Rattle.std.specs.Fmt.{decimal}
+use Rattle.std.proofs.lemmas.Grind.{flat_map-append}
+use Rattle.std.proofs.lemmas.List.{append-nil}
+use Rattle.std.proofs.lemmas.List.Elements.{All-nil}
+use Rattle.fond_task.specs.declared.task.Task.{Task}
+use Rattle.fond_game.specs.Layers.{CubeView}
+use Rattle.fond_cert.specs.declared.draft.Draft.{Draft}
+use Rattle.fond_cert.specs.declared.due.Due.{Due as KeptDue}
+use Rattle.fond_cert.specs.declared.due.Due.TheVariants.{Header, Layers, Cubes, Pairs, Rules, End as EndOnly, Nothing}
+use Rattle.fond_cert.specs.declared.error.CertError.{CertError}
+use Rattle.fond_cert.specs.declared.error.LineError.{LineError}
+use Rattle.fond_cert.specs.declared.error.LineError.TheVariants.{Refused as RefusedLine, NoMemory}
+use Rattle.fond_cert.specs.declared.line.Line.{Line}
+use Rattle.fond_cert.specs.declared.line.Line.TheVariants.{PolicyHeader as CutPolicy, RefusalHeader as CutRefusal, Layer, Cube, Pair, FairRule as CutFair, UnfairRule as CutUnfair, Reach, End}
+use Rattle.fond_cert.specs.Belongs.{Belongs, BelongAsLayers, BelongAsPairs, BelongAsRules}
+use Rattle.fond_cert.specs.Cutting.{IsLineOf, IsCutOf, IsRefusedBy}
+use Rattle.fond_cert.specs.Drafts.{all_layers, draft_lines, opened, IsDraftOf, HasLayersAlone, FitsDue}
+use Rattle.fond_cert.specs.Faults.{Due, HeaderDue, LayersDue, CubesDue, PairsDue, RulesDue, EndDue, NothingDue, due_after, Lead, IsRefusedLine, IsRefusedAt, IsCertFault}
+use Rattle.fond_cert.specs.Feeds.{HasNoFeed}
+use Rattle.fond_cert.specs.Items.{IsPairOf, IsRuleOf}
+use Rattle.fond_cert.specs.Lines.{WrittenLine, PolicyHeader, RefusalHeader, LayerLine, CubeLine, PairLine, FairRule, UnfairRule, ReachLine, EndLine, line_text}
+use Rattle.fond_cert.specs.Progress.{IsReady, IsTaken, IsWhole, cert_by, cert_of, IsPlaced}
+use Rattle.fond_cert.specs.Refusals.{LineRefuses, CertRefuses}
+use Rattle.fond_cert.specs.Spellings.{layer_lines, pair_line, rule_line, lines_text, spelling}
+use Rattle.fond_cert.specs.Stages.{due_of, like}
+use Rattle.fond_cert.specs.Words.{Refused}
+use Rattle.fond_cert.proofs.Dues.{like_due}
+use Rattle.fond_cert.proofs.FairRules.{fair_text}
+use Rattle.fond_cert.proofs.Pairs.{pair_text}
+use Rattle.fond_cert.proofs.Refusals.{refusal_within}
+use Rattle.fond_cert.proofs.Steps.{step, grow4}
+use Rattle.fond_cert.proofs.UnfairRules.{unfair_text}
+
+-- a line that is cut has one text
+pub same_text : (line : Line) (w v : WrittenLine) → IsLineOf line w → IsLineOf line v → line_text w ≡ line_text v
+same_text CutPolicy w v h k = ap line_text (h ∙ sym k)
+same_text CutRefusal w v h k = ap line_text (h ∙ sym k)
+same_text Layer w v h k = ap line_text (h ∙ sym k)
+same_text (Cube literals) w v h k = ap line_text h.1 ∙ ap (λ t. codes "cube" ++ t) (sym h.2 ∙ k.2) ∙ ap line_text (sym k.1)
+same_text (Pair action outcome layer cube literals) w v h k = ap line_text h.2 ∙ pair_text h.0 k.0 _ _ _ _ _ _ h.1 k.1 (sym h.3 ∙ k.3) refl refl refl (sym h.4 ∙ k.4) ∙ ap line_text (sym k.2)
+same_text (CutFair action outcome target literals) w v h k =
+    ap line_text h.3 ∙ fair_text h.0 k.0 _ _ h.1 k.1 h.2 k.2 (sym h.4 ∙ k.4) refl (sym h.5 ∙ k.5) (sym h.6 ∙ k.6) ∙ ap line_text (sym k.3)
+same_text (CutUnfair action targets literals) w v h k =
+    ap line_text h.3 ∙ unfair_text h.0 k.0 h.1 k.1 h.2 k.2 (sym h.4 ∙ k.4) (sym h.5 ∙ k.5) (sym h.6 ∙ k.6) ∙ ap line_text (sym k.3)
+same_text (Reach count) w v h k = ap line_text (h.0 ∙ sym k.0)
+same_text End w v h k = ap line_text (h ∙ sym k)
+
+pub lead_more : (task : Task) (lines more : List WrittenLine) (due between end : Due) → Lead task due lines between → Lead task between more end → Lead task due (lines ++ more) end
+lead_more task [] more due between end h k = rw (sym h) k
+lead_more task (line ∷ lines) more due between end h k = (h.0, h.1, (h.2.0, h.2.1, lead_more task lines more h.2.0 between end h.2.2 k))
+
+pub lines_append : (lines more : List WrittenLine) → lines_text (lines ++ more) ≡ lines_text lines ++ lines_text more
+lines_append lines more = flat_map-append (λ (line : WrittenLine). line_text line ++ codes "\n") lines more
+
+-- the text of lines with one more, followed by a rest
+text_more : (lines : List WrittenLine) (line : WrittenLine) (further : List ℕ) → lines_text lines ++ (line_text line ++ (codes "\n" ++ further)) ≡ lines_text (lines ++ (line ∷ [])) ++ further
+text_more lines line further =
+    ap (λ t. lines_text lines ++ t) (sym (append_assoc (line_text line) (codes "\n") further) ∙ ap (λ t. t ++ further) (sym (append-nil (line_text line ++ codes "\n"))))
+    ∙ sym (append_assoc (lines_text lines) (lines_text (line ∷ [])) further)
+    ∙ ap (λ t. t ++ further) (sym (lines_append lines (line ∷ [])))
+
+-- the lines before a rest, and the draft that they make
+pub record IsReadTo (task : Task) (text rest : List ℕ) (due : KeptDue) (draft : Draft) : Type 0 where
+  pub lines : List WrittenLine
+  pub own : List WrittenLine
+  pub lead : Lead task HeaderDue lines (due_of due)
+  pub split : text ≡ lines_text lines ++ rest
+  pub same : lines_text lines ≡ lines_text own
+  pub fits : FitsDue task (due_of due) draft own
+  pub belongs : IsDraftOf task draft
+
+pub nothing_read : (task : Task) (text : List ℕ) (draft : Draft) → draft ≡ record { layers = []; current = None; pairs = []; rules = []; reach = None } → IsReadTo task text text Header draft
+nothing_read task text draft e = record {
+  lines = [];
+  own = [];
+  lead = refl;
+  split = refl;
+  same = refl;
+  fits = (e, refl);
+  belongs =
+      rw e
+      (record {
+        layers = record {
+          few = omega arith;
+          few_cubes = All-nil (λ (layer : List CubeView). length layer < 2 ^ 32);
+          over = All-nil (λ (layer : List CubeView). All (λ (cube : CubeView). length cube ≡ length task.atoms) layer);
+        };
+        pairs = All-nil (IsPairOf task);
+        rules = All-nil (IsRuleOf task);
+        few = omega arith;
+      });
+}
+
+pub is_ready : (task : Task) (text rest : List ℕ) (due : KeptDue) (draft : Draft) → IsReadTo task text rest due draft → IsReady task due draft
+is_ready task text rest due draft h = (h.belongs, (h.own, h.fits))
+
+pub rest_short : (task : Task) (text rest : List ℕ) (due : KeptDue) (draft : Draft) → IsReadTo task text rest due draft → length rest ≤ length text
+rest_short task text rest due draft h = omega (arith, ap length h.split, length-append (lines_text h.lines) rest)
+
+pub one_more_line : (task : Task) (text rest piece further : List ℕ) (due next : KeptDue) (before after : Draft) → IsReadTo task text rest due before → rest ≡ piece ++ (codes "\n" ++ further) →
+    IsTaken task due before piece next after → IsReadTo task text further next after
+one_more_line task text rest piece further due next before after h e taken =
+    let line = taken.0 in
+    let cut = taken.1 in
+    let s = step task (due_of due) (due_of next) before after h.own h.fits h.belongs line taken.2 taken.3 in
+    let w = s.made.written in
+    let piece_is : piece ≡ line_text w = cut.3 ∙ same_text line cut.0 w cut.2 s.made.cut in record {
+      lines = h.lines ++ (w ∷ []);
+      own = h.own ++ (s.own ∷ []);
+      lead =
+          lead_more task h.lines (w ∷ []) HeaderDue (due_of due) (due_of next) h.lead
+          (s.made.proper, s.made.right, (due_of next, like_due (due_of due) line w s.made.cut ∙ taken.2, refl));
+      split = h.split ∙ ap (λ t. lines_text h.lines ++ t) (e ∙ ap (λ t. t ++ (codes "\n" ++ further)) piece_is) ∙ text_more h.lines w further;
+      same =
+          lines_append h.lines (w ∷ []) ∙ ap (λ t. t ++ lines_text (w ∷ [])) h.same
+          ∙ ap (λ t. lines_text h.own ++ ((t ++ codes "\n") ++ [])) s.made.same ∙ sym (lines_append h.own (s.own ∷ []));
+      fits = s.fits;
+      belongs = s.draft;
+    }
+
+at_byte : (text front rest : List ℕ) (at : ℕ) → text ≡ front ++ rest → length text - length rest + at ≡ length front + at
+at_byte text front rest at e = omega (arith, ap length e, length-append front rest)
+
+fault_at : (task : Task) (text rest : List ℕ) (due : KeptDue) (draft : Draft) (code at : ℕ) → IsReadTo task text rest due draft → IsRefusedAt task (due_of due) rest code at →
+    IsCertFault task text code (length text - length rest + at)
+fault_at task text rest due draft code at h refused = record {
+  lines = h.lines;
+  due = due_of due;
+  lead = h.lead;
+  rest = rest;
+  split = h.split;
+  at = at;
+  refused = refused;
+  byte_is = at_byte text (lines_text h.lines) rest at h.split;
+}
+
+line_within : (task : Task) (due : Due) (piece : List ℕ) (code at : ℕ) → IsRefusedLine task due piece code at → at ≤ length piece
+line_within task due piece code at (inl h) = omega (arith, h.2)
+line_within task due piece code at (inr h) = let within = refusal_within task h.0 (record { code = code; at = at }) h.5 in omega (arith, within, ap length h.4)
+
+pub within_rest : (task : Task) (rest piece further : List ℕ) (due : Due) (error : LineError) → rest ≡ piece ++ (codes "\n" ++ further) →
+    LineRefuses (λ (refused : Refused). IsRefusedLine task due piece refused.code refused.at) error → LineRefuses (λ (refused : Refused). refused.at ≤ length rest) error
+within_rest task rest piece further due NoMemory e h = tt
+within_rest task rest piece further due (RefusedLine code at) e h = omega (arith, line_within task due piece code at h, ap length e, length-append piece (codes "\n" ++ further))
+
+nothing_allowed : (line : WrittenLine) (next : Due) → ¬ due_after NothingDue line ≡ Some next
+nothing_allowed PolicyHeader next e = absurd (cc)
+nothing_allowed RefusalHeader next e = absurd (cc)
+nothing_allowed LayerLine next e = absurd (cc)
+nothing_allowed (CubeLine l) next e = absurd (cc)
+nothing_allowed (PairLine a o n c l) next e = absurd (cc)
+nothing_allowed (FairRule a o t l) next e = absurd (cc)
+nothing_allowed (UnfairRule a t l) next e = absurd (cc)
+nothing_allowed (ReachLine n) next e = absurd (cc)
+nothing_allowed EndLine next e = absurd (cc)
+
+some_bytes : (rest piece further : List ℕ) → rest ≡ piece ++ (codes "\n" ++ further) → rest ≢ []
+some_bytes rest piece further e f = omega (arith, ap length e, ap length f, length-append piece (codes "\n" ++ further))
+
+refused_line : (task : Task) (due : Due) (rest piece further : List ℕ) (code at : ℕ) → HasNoFeed piece → rest ≡ piece ++ (codes "\n" ++ further) → IsRefusedLine task due piece code at →
+    IsRefusedAt task due rest code at
+refused_line task HeaderDue rest piece further code at whole e h = inr (piece, further, e, whole, h)
+refused_line task (LayersDue kind) rest piece further code at whole e h = inr (piece, further, e, whole, h)
+refused_line task (CubesDue kind layers cubes) rest piece further code at whole e h = inr (piece, further, e, whole, h)
+refused_line task PairsDue rest piece further code at whole e h = inr (piece, further, e, whole, h)
+refused_line task (RulesDue rules) rest piece further code at whole e h = inr (piece, further, e, whole, h)
+refused_line task EndDue rest piece further code at whole e h = inr (piece, further, e, whole, h)
+refused_line task NothingDue rest piece further code at whole e (inl h) = (some_bytes rest piece further e, h.1, h.2)
+refused_line task NothingDue rest piece further code at whole e (inr h) = absurd (nothing_allowed h.0 h.1 h.3)
+
+pub line_fault : (task : Task) (text rest piece further : List ℕ) (due : KeptDue) (draft : Draft) (error : LineError) (result : CertError) → IsReadTo task text rest due draft → HasNoFeed piece →
+    rest ≡ piece ++ (codes "\n" ++ further) → LineRefuses (λ (refused : Refused). IsRefusedLine task (due_of due) piece refused.code refused.at) error →
+    IsPlaced (length text - length rest) error result → CertRefuses (IsCertFault task text) result
+line_fault task text rest piece further due draft (RefusedLine code at) result h whole e refused placed =
+    rw placed (fault_at task text rest due draft code at h (refused_line task (due_of due) rest piece further code at whole e refused))
+line_fault task text rest piece further due draft NoMemory result h whole e refused placed = rw placed tt
+
+no_rest : (task : Task) (due : Due) (rest : List ℕ) → HasNoFeed rest → ¬ ((due ≡ NothingDue) × (rest ≡ [])) → IsRefusedAt task due rest 1 0
+no_rest task HeaderDue rest none not_over = inl (none, refl, refl)
+no_rest task (LayersDue kind) rest none not_over = inl (none, refl, refl)
+no_rest task (CubesDue kind layers cubes) rest none not_over = inl (none, refl, refl)
+no_rest task PairsDue rest none not_over = inl (none, refl, refl)
+no_rest task (RulesDue rules) rest none not_over = inl (none, refl, refl)
+no_rest task EndDue rest none not_over = inl (none, refl, refl)
+no_rest task NothingDue rest none not_over = ((λ e. not_over (refl, e)), refl, refl)
+
+kept_nothing : (due : KeptDue) → due_of due ≡ NothingDue → due ≡ Nothing
+kept_nothing Header e = absurd (cc)
+kept_nothing (Layers kind) e = absurd (cc)
+kept_nothing (Cubes kind layers cubes) e = absurd (cc)
+kept_nothing Pairs e = absurd (cc)
+kept_nothing (Rules rules) e = absurd (cc)
+kept_nothing EndOnly e = absurd (cc)
+kept_nothing Nothing e = refl
+
+pub end_fault : (task : Task) (text rest : List ℕ) (due : KeptDue) (draft : Draft) → IsReadTo task text rest due draft → HasNoFeed rest → ¬ ((due ≡ Nothing) × (rest ≡ [])) →
+    IsCertFault task text 1 (length text - length rest + 0)
+end_fault task text rest due draft h none not_over = fault_at task text rest due draft 1 0 h (no_rest task (due_of due) rest none (λ k. not_over (kept_nothing due k.0, k.1)))
+
+pub whole_read : (task : Task) (text rest : List ℕ) (due : KeptDue) (draft : Draft) → IsReadTo task text rest due draft → due ≡ Nothing → rest ≡ [] → IsDraftOf task draft × IsWhole task text draft
+whole_read task text rest due draft h e f =
+    let fits : FitsDue task NothingDue draft h.own = rw e at h.fits in
+    let is : text ≡ lines_text h.own = h.split ∙ ap (λ t. lines_text h.lines ++ t) f ∙ append-nil (lines_text h.lines) ∙ h.same in
+    (h.belongs, (fits.0, by_kind is fits.1))
+  where
+    by_kind : text ≡ lines_text h.own →
+        (((reach : ℕ) × (draft.reach ≡ Some reach)) × (h.own ≡ PolicyHeader ∷ (draft_lines task draft ++ (EndLine ∷ []))))
+        ⊎ (HasLayersAlone draft × (h.own ≡ RefusalHeader ∷ (draft_lines task draft ++ (EndLine ∷ [])))) →
+        (((reach : ℕ) × (draft.reach ≡ Some reach)) × (text ≡ lines_text (PolicyHeader ∷ (draft_lines task draft ++ (EndLine ∷ [])))))
+        ⊎ (HasLayersAlone draft × (text ≡ lines_text (RefusalHeader ∷ (draft_lines task draft ++ (EndLine ∷ [])))))
+    by_kind is (inl k) = inl (k.0, is ∙ ap lines_text k.1)
+    by_kind is (inr k) = inr (k.0, is ∙ ap lines_text k.1)
+
+-- the certificate of a whole draft
+module _ (task : Task) (text : List ℕ) (draft : Draft) (belongs : IsDraftOf task draft) (whole : IsWhole task text draft) where
+  layers_are : all_layers draft ≡ draft.layers
+  layers_are = ap (λ o. draft.layers ++ opened o) whole.0 ∙ append-nil draft.layers
+
+  as_layers : BelongAsLayers task draft.layers
+  as_layers = subst (BelongAsLayers task) layers_are belongs.layers
+
+  as_pairs : BelongAsPairs task draft.pairs
+  as_pairs = record { over = λ k d lt. (belongs.pairs k d lt).0; there = λ k d lt. (belongs.pairs k d lt).1 }
+
+  as_rules : BelongAsRules task draft.rules
+  as_rules = record {
+    few = belongs.few;
+    belong = record { over = λ k d lt. (belongs.rules k d lt).0; there = λ k d lt. (belongs.rules k d lt).1 };
+    targeted = λ k d lt. (belongs.rules k d lt).2;
+  }
+
+  abbrev layers_text : List WrittenLine
+  layers_text = flat_map (layer_lines task) draft.layers
+
+  policy_lines : (reach : ℕ) → draft.reach ≡ Some reach →
+      draft_lines task draft ++ (EndLine ∷ []) ≡ layers_text ++ (map (pair_line task) draft.pairs ++ (map (rule_line task) draft.rules ++ (ReachLine (decimal reach) ∷ EndLine ∷ [])))
+  policy_lines reach e =
+      rw (e, layers_are) (sym (grow4 layers_text (map (pair_line task) draft.pairs) (map (rule_line task) draft.rules) (ReachLine (decimal reach) ∷ []) (EndLine ∷ [])))
+
+  refusal_lines : HasLayersAlone draft → draft_lines task draft ++ (EndLine ∷ []) ≡ layers_text ++ (EndLine ∷ [])
+  refusal_lines h = rw (h.0, h.1, h.2, layers_are) (ap (λ t. t ++ (EndLine ∷ [])) (append-nil layers_text))
+
+  spelled_by : (r : Option ℕ) → draft.reach ≡ r →
+      (((reach : ℕ) × (draft.reach ≡ Some reach)) × (text ≡ lines_text (PolicyHeader ∷ (draft_lines task draft ++ (EndLine ∷ [])))))
+      ⊎ (HasLayersAlone draft × (text ≡ lines_text (RefusalHeader ∷ (draft_lines task draft ++ (EndLine ∷ []))))) →
+      Belongs task (cert_by draft r) × (text ≡ spelling task (cert_by draft r))
+  spelled_by (Some reach) e (inl k) = ((as_layers, as_pairs, as_rules), k.1 ∙ ap (λ l. lines_text (PolicyHeader ∷ l)) (policy_lines reach e))
+  spelled_by (Some reach) e (inr k) = let none : Some reach ≡ None = sym e ∙ k.0.2 in absurd (cc)
+  spelled_by None e (inl k) = let none : Some k.0.0 ≡ None = sym k.0.1 ∙ e in absurd (cc)
+  spelled_by None e (inr k) = (as_layers, k.1 ∙ ap (λ l. lines_text (RefusalHeader ∷ l)) (refusal_lines k.0))
+
+  pub cert_read : Belongs task (cert_of draft) × (text ≡ spelling task (cert_of draft))
+  cert_read = spelled_by draft.reach refl whole.1
+
+-- refusals of a line that is cut
+pub cut_refused : (task : Task) (due next : Due) (piece : List ℕ) (line : Line) (error : LineError) → IsCutOf piece line → due_after due (like line) ≡ Some next →
+    LineRefuses (IsRefusedBy task line) error → LineRefuses (λ (refused : Refused). IsRefusedLine task due piece refused.code refused.at) error
+cut_refused task due next piece line (RefusedLine code at) cut e h =
+    inr (h.written, next, h.proper, like_due due line h.written h.cut ∙ e, cut.3 ∙ same_text line cut.0 h.written cut.2 h.cut, h.wrong)
+cut_refused task due next piece line NoMemory cut e h = tt

@@ -1,0 +1,111 @@
+-- Certificates that were read in part.
+use Rattle.std.specs.Prelude.{◌≡◌, ◌⊎◌, ℕ, ◌+◌, ◌-◌, ◌<◌, ◌^◌, ⊤, List, [], ◌∷◌, ◌++◌, All, Option, Some, None, length, map}
+use Rattle.std.specs.Fmt.{decimal}
+use Rattle.std.specs.List.{flat_map}
+use Rattle.fond_task.specs.declared.task.Task.{Task}
+use Rattle.fond_game.specs.declared.rule.Pair.{Pair as OnePair}
+use Rattle.fond_game.specs.declared.rule.Rule.{Rule}
+use Rattle.fond_game.specs.Layers.{CubeView}
+use Rattle.fond_cert.specs.declared.draft.Draft.{Draft}
+use Rattle.fond_cert.specs.declared.line.Line.{Line}
+use Rattle.fond_cert.specs.declared.line.Line.TheVariants.{Layer, Cube, Pair, FairRule as CutFair, UnfairRule as CutUnfair, Reach}
+use Rattle.fond_cert.specs.Belongs.{BelongAsLayers}
+use Rattle.fond_cert.specs.Cutting.{IsMade}
+use Rattle.fond_cert.specs.Faults.{Kind, OfPolicy, OfRefusal, Due, HeaderDue, LayersDue, CubesDue, PairsDue, RulesDue, EndDue, NothingDue}
+use Rattle.fond_cert.specs.Items.{IsPairOf, IsRuleOf}
+use Rattle.fond_cert.specs.Lines.{WrittenLine, PolicyHeader, RefusalHeader, CubeLine, ReachLine, EndLine}
+use Rattle.fond_cert.specs.Spellings.{written_cube, layer_lines, pair_line, rule_line}
+
+-- the layer that is being read, if there is one
+abbrev pub opened : Option (List CubeView) → List (List CubeView)
+opened None = []
+opened (Some layer) = layer ∷ []
+
+-- all layers of a draft
+abbrev pub all_layers : Draft → List (List CubeView)
+all_layers draft = draft.layers ++ opened draft.current
+
+-- the lines of the reach number, if there is one
+abbrev pub reach_lines : Option ℕ → List WrittenLine
+reach_lines None = []
+reach_lines (Some reach) = ReachLine (decimal reach) ∷ []
+
+-- the lines of a draft between the header and the end line
+abbrev pub draft_lines : Task → Draft → List WrittenLine
+draft_lines task draft =
+    flat_map (layer_lines task) (all_layers draft) ++ (map (pair_line task) draft.pairs ++ (map (rule_line task) draft.rules ++ reach_lines draft.reach))
+
+-- a draft belongs to a task if its layers, pairs and rules do
+pub record IsDraftOf (task : Task) (draft : Draft) : Type 0 where
+  pub layers : BelongAsLayers task (all_layers draft)
+  pub pairs : All (IsPairOf task) draft.pairs
+  pub rules : All (IsRuleOf task) draft.rules
+  pub few : length draft.rules < 2 ^ 32
+
+-- a draft with this layer being read
+abbrev pub with_open : Draft → Option (List CubeView) → Draft
+with_open draft current = record { layers = draft.layers; current = current; pairs = draft.pairs; rules = draft.rules; reach = draft.reach }
+
+-- a draft whose layers are all read
+abbrev pub closed : Draft → Draft
+closed draft = record { layers = all_layers draft; current = None; pairs = draft.pairs; rules = draft.rules; reach = draft.reach }
+
+-- a draft whose layers are all read, with one more pair
+abbrev pub with_pair : Draft → OnePair → Draft
+with_pair draft pair = record { layers = all_layers draft; current = None; pairs = draft.pairs ++ pair ∷ []; rules = draft.rules; reach = draft.reach }
+
+-- a draft whose layers are all read, with one more rule
+abbrev pub with_rule : Draft → Rule → Draft
+with_rule draft rule = record { layers = all_layers draft; current = None; pairs = draft.pairs; rules = draft.rules ++ rule ∷ []; reach = draft.reach }
+
+-- a draft whose layers are all read, with a reach number
+abbrev pub with_reach : Draft → ℕ → Draft
+with_reach draft reach = record { layers = all_layers draft; current = None; pairs = draft.pairs; rules = draft.rules; reach = Some reach }
+
+-- a line makes one draft of another
+abbrev pub IsGrown : Task → Line → Draft → Draft → Type 0
+IsGrown task Layer before after = after ≡ with_open (closed before) (Some [])
+IsGrown task (Cube literals) before after =
+    (cube : CubeView) × (length cube ≡ length task.atoms) × IsMade task (Cube literals) (CubeLine (written_cube task cube))
+    × ((current : List CubeView) → before.current ≡ Some current → after ≡ with_open before (Some (current ++ cube ∷ [])))
+IsGrown task (Pair action outcome layer cube literals) before after =
+    (pair : OnePair) × IsPairOf task pair × IsMade task (Pair action outcome layer cube literals) (pair_line task pair) × (after ≡ with_pair before pair)
+IsGrown task (CutFair action outcome target literals) before after =
+    (rule : Rule) × IsRuleOf task rule × IsMade task (CutFair action outcome target literals) (rule_line task rule) × (after ≡ with_rule before rule)
+IsGrown task (CutUnfair action targets literals) before after =
+    (rule : Rule) × IsRuleOf task rule × IsMade task (CutUnfair action targets literals) (rule_line task rule) × (after ≡ with_rule before rule)
+IsGrown task (Reach count) before after = (reach : ℕ) × IsMade task (Reach count) (ReachLine (decimal reach)) × (after ≡ with_reach before reach)
+IsGrown task line before after = after ≡ closed before
+
+-- a draft has nothing in it
+abbrev pub IsEmpty : Draft → Type 0
+IsEmpty draft = draft ≡ record { layers = []; current = None; pairs = []; rules = []; reach = None }
+
+-- the header of a certificate
+abbrev pub header : Kind → WrittenLine
+header OfPolicy = PolicyHeader
+header OfRefusal = RefusalHeader
+
+-- a draft has nothing after its layers
+abbrev pub HasLayersAlone : Draft → Type 0
+HasLayersAlone draft = (draft.pairs ≡ []) × (draft.rules ≡ []) × (draft.reach ≡ None)
+
+-- a draft has these lines, and no part that may not precede what is due
+abbrev pub FitsDue : Task → Due → Draft → List WrittenLine → Type 0
+FitsDue task HeaderDue draft lines = IsEmpty draft × (lines ≡ [])
+FitsDue task (LayersDue kind) draft lines = IsEmpty draft × (lines ≡ header kind ∷ [])
+FitsDue task (CubesDue kind layers cubes) draft lines =
+    (current : List CubeView) × (draft.current ≡ Some current) × (length current ≡ cubes) × (length draft.layers + 1 ≡ layers) × HasLayersAlone draft × (lines ≡ header kind ∷ draft_lines task draft)
+FitsDue task PairsDue draft lines = (draft.current ≡ None) × (draft.rules ≡ []) × (draft.reach ≡ None) × (lines ≡ PolicyHeader ∷ draft_lines task draft)
+FitsDue task (RulesDue rules) draft lines = (draft.current ≡ None) × (length draft.rules ≡ rules) × (draft.reach ≡ None) × (lines ≡ PolicyHeader ∷ draft_lines task draft)
+FitsDue task EndDue draft lines = (draft.current ≡ None) × ((reach : ℕ) × (draft.reach ≡ Some reach)) × (lines ≡ PolicyHeader ∷ draft_lines task draft)
+FitsDue task NothingDue draft lines =
+    (draft.current ≡ None)
+    × ((((reach : ℕ) × (draft.reach ≡ Some reach)) × (lines ≡ PolicyHeader ∷ (draft_lines task draft ++ EndLine ∷ [])))
+    ⊎ (HasLayersAlone draft × (lines ≡ RefusalHeader ∷ (draft_lines task draft ++ EndLine ∷ []))))
+
+-- there is room in a draft for what a line makes
+abbrev pub HasRoom : Line → Draft → Type 0
+HasRoom (CutFair action outcome target literals) draft = length draft.rules < 2 ^ 32 - 1
+HasRoom (CutUnfair action targets literals) draft = length draft.rules < 2 ^ 32 - 1
+HasRoom line draft = ⊤

@@ -1,0 +1,14 @@
+-- Pairs and rules, one by one, that belong to a task.
+use Rattle.std.specs.Prelude.{◌≡◌, ◌<◌, length}
+use Rattle.fond_task.specs.declared.task.Task.{Task}
+use Rattle.fond_game.specs.declared.rule.Pair.{Pair}
+use Rattle.fond_game.specs.declared.rule.Rule.{Rule}
+use Rattle.fond_rules.specs.Belongs.{HasTarget}
+
+-- a pair belongs to a task: its condition is over the task's atoms, and the task has its action
+abbrev pub IsPairOf : Task → Pair → Type 0
+IsPairOf task pair = (length pair.cond ≡ length task.atoms) × (pair.act < length task.acts)
+
+-- a rule belongs to a task: its condition is over the task's atoms, the task has its action, and it has a target
+abbrev pub IsRuleOf : Task → Rule → Type 0
+IsRuleOf task rule = (length rule.cond ≡ length task.atoms) × (rule.act < length task.acts) × HasTarget rule.targets

@@ -1,0 +1,68 @@
+-- What is printed of cubes, atom by atom.
+use Rattle.std.specs.Prelude.{ℕ, List, [], ◌++◌, Bool, Option, Some, None, map, codes}
+use Rattle.std.specs.Fmt.{decimal}
+use Rattle.std.specs.List.{enumerate_from, flat_map}
+use Rattle.fond_text.specs.declared.atom.Atom.{Atom}
+use Rattle.fond_task.specs.declared.task.Labels.{Labels}
+use Rattle.fond_task.specs.declared.task.Task.{Task}
+use Rattle.fond_task.specs.Texts.{atom_text}
+use Rattle.fond_state.specs.Cubes.{literal_at}
+use Rattle.fond_game.specs.Layers.{CubeView}
+use Rattle.fond_game.specs.declared.rule.Targets.{Targets}
+use Rattle.fond_game.specs.declared.rule.Targets.TheVariants.{One, All}
+use Rattle.fond_game.specs.declared.rule.Pair.{Pair}
+use Rattle.fond_game.specs.declared.rule.Rule.{Rule}
+use Rattle.fond_cert.specs.Cutting.{target_text, targets_text, literals_text}
+use Rattle.fond_cert.specs.Lines.{group_text, WrittenLine, ReachLine, line_text, sign_text}
+use Rattle.fond_cert.specs.Spellings.{act_leaves, written_target, written_cube, layer_lines, lines_text}
+
+-- the text of an atom's literal, if there is one
+abbrev pub item_text : Labels → Atom → Option Bool → List ℕ
+item_text labels atom None = []
+item_text labels atom (Some sign) = codes " " ++ (sign_text sign ++ atom_text labels atom)
+
+-- the text of a cube's literals, atom by atom
+abbrev pub cube_text : Task → CubeView → List ℕ
+cube_text task cube = flat_map (λ item. item_text task.labels item.1 (literal_at cube item.0)) (enumerate_from 0 task.atoms)
+
+-- the text of a line with its line feed
+abbrev pub fed : WrittenLine → List ℕ
+fed line = line_text line ++ codes "\n"
+
+-- the text of the targets of a rule, after its action
+abbrev pub chosen_text : Targets → List ℕ
+chosen_text (One outcome target) = codes " fair " ++ (decimal outcome ++ (codes " " ++ target_text (written_target target)))
+chosen_text (All targets) = codes " unfair" ++ targets_text (map written_target targets)
+
+-- the text of the numbers of a pair, each after a space
+abbrev pub places_text : Pair → List ℕ
+places_text pair = (codes " " ++ decimal pair.outcome) ++ ((codes " " ++ decimal pair.layer) ++ (codes " " ++ decimal pair.cube))
+
+-- the text of a condition at the end of a line
+abbrev pub cond_text : Task → CubeView → List ℕ
+cond_text task cond = codes " :" ++ (literals_text (written_cube task cond) ++ codes "\n")
+
+-- the text of a pair's line, part by part
+abbrev pub pair_text : Task → Pair → List ℕ
+pair_text task pair = codes "pair " ++ (group_text (act_leaves task pair.act) ++ (places_text pair ++ cond_text task pair.cond))
+
+-- the text of a rule's line, part by part
+abbrev pub rule_text : Task → Rule → List ℕ
+rule_text task rule = codes "rule " ++ (group_text (act_leaves task rule.act) ++ (chosen_text rule.targets ++ cond_text task rule.cond))
+
+-- the text of the lines of a layer
+abbrev pub layer_text : Task → List CubeView → List ℕ
+layer_text task layer = lines_text (layer_lines task layer)
+
+-- the text of pairs, rules and the reach line
+abbrev pub plan_text : Task → List Pair → List Rule → ℕ → List ℕ
+plan_text task pairs rules reach = flat_map (pair_text task) pairs ++ (flat_map (rule_text task) rules ++ fed (ReachLine (decimal reach)))
+
+-- the text of a policy, part by part
+abbrev pub policy_text : Task → List (List CubeView) → List Pair → List Rule → ℕ → List ℕ
+policy_text task layers pairs rules reach =
+    codes "dualfond 1 policy\n" ++ (flat_map (layer_text task) layers ++ (plan_text task pairs rules reach ++ codes "end\n"))
+
+-- the text of a refusal, part by part
+abbrev pub refusal_text : Task → List (List CubeView) → List ℕ
+refusal_text task layers = codes "dualfond 1 refusal\n" ++ (flat_map (layer_text task) layers ++ codes "end\n")

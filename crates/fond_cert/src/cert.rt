@@ -1,0 +1,20 @@
+//! Certificates.
+
+use fond_layers::layers::Layers;
+use fond_rules::pairs::Pairs;
+use fond_rules::rules::Rules;
+
+/// A policy as layers of losing cubes, forbidden pairs, ordered rules, and the number of states that the rules reach; or a
+/// refusal as layers of losing cubes. Whether a certificate is correct is left to the checker.
+#[derive(Drop)]
+pub enum Cert {
+    Policy {
+        layers: Layers,
+        pairs: Pairs,
+        rules: Rules,
+        reach: u64,
+    },
+    Refusal {
+        layers: Layers,
+    },
+}

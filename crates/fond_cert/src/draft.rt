@@ -1,0 +1,16 @@
+//! The parts of a certificate that were read so far.
+
+use fond_layers::layers::{Layer, Layers};
+use fond_rules::pairs::Pairs;
+use fond_rules::rules::Rules;
+
+/// The layers, pairs and rules that were read so far, and the reach number. The layer whose cubes are being read is kept
+/// apart until another line follows them.
+#[derive(Drop)]
+pub struct Draft {
+    pub layers: Layers,
+    pub current: Option<Layer>,
+    pub pairs: Pairs,
+    pub rules: Rules,
+    pub reach: Option<u64>,
+}

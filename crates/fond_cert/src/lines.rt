@@ -1,0 +1,92 @@
+//! Reading a certificate line by line.
+
+ghost use Rattle.fond_cert.specs.Drafts.{IsDraftOf};
+ghost use Rattle.fond_cert.specs.Faults.{IsCertFault, IsRefusedLine};
+ghost use Rattle.fond_cert.specs.Progress.{IsReady, IsTaken, IsWhole, IsPlaced};
+ghost use Rattle.fond_cert.specs.Refusals.{LineRefuses, CertRefuses};
+ghost use Rattle.fond_cert.specs.Stages.{due_of};
+ghost use Rattle.fond_cert.specs.declared.due.Due.TheVariants.{Nothing};
+ghost use Rattle.std.specs.Prelude.{◌≡◌, ◌+◌, ◌-◌, ◌≤◌, [], length, Decides, IfOk, IfErr};
+
+use crate::draft::Draft;
+use crate::due::Due;
+use crate::error::{CertError, LineError};
+use crate::feed::line_of;
+use crate::form::cut_line;
+use crate::place::next_due;
+use fond_task::task_index::TaskIndex;
+use std::alloc::Global;
+
+/// The refusal of a line that has no form allowed at its place.
+const FORMLESS: LineError = LineError::Refused { code: 1, at: 0 };
+
+/// Adds the line to the draft, and answers what is due after it.
+fn take(
+    alloc: Global,
+    index: &TaskIndex,
+    draft: &mut Draft,
+    due: Due,
+    piece: &[u8],
+) -> Result<Due, LineError>
+    requires { IsReady index.now due draft.old }
+    ensures taken { IfOk result (λ next. IsTaken index.now due draft.old piece.now next draft.new) }
+    ensures wrong { IfErr result (LineRefuses (λ refused. IsRefusedLine index.now (due_of due) piece.now refused.code refused.at)) }
+{
+    let Some(line) = cut_line(piece) else {
+        return Err(FORMLESS);
+    };
+    let Some(next) = next_due(due, &line) else {
+        return Err(FORMLESS);
+    };
+    draft.add(alloc, index, line)?;
+    Ok(next)
+}
+
+/// The error of a text, by the error of the line with which the rest begins.
+fn placed(text: &[u8], rest: &[u8], error: LineError) -> CertError
+    requires rest { length rest.now ≤ length text.now }
+    requires line { LineRefuses (λ refused. refused.at ≤ length rest.now) error }
+    ensures { IsPlaced (length text.now - length rest.now) error result }
+{
+    match error {
+        LineError::Refused { code, at } => CertError::Refused {
+            code,
+            byte: (text.len() - rest.len() + at) as u64,
+        },
+        LineError::NoMemory => CertError::NoMemory,
+    }
+}
+
+/// Whether nothing is due, and the text ends.
+fn is_over(due: Due, rest: &[u8]) -> bool
+    ensures { Decides result ((due ≡ Nothing) × (rest.now ≡ [])) }
+{
+    match due {
+        Due::Nothing => rest.is_empty(),
+        _ => false,
+    }
+}
+
+/// What the lines of the text make.
+pub(crate) fn read_lines(alloc: Global, index: &TaskIndex, text: &[u8]) -> Result<Draft, CertError>
+    ensures read { IfOk result (λ draft. IsDraftOf index.now draft × IsWhole index.now text.now draft) }
+    ensures refused { IfErr result (CertRefuses (IsCertFault index.now text.now)) }
+{
+    let mut draft = Draft::new(alloc);
+    let mut due = Due::Header;
+    let mut rest = text;
+    while let Some((piece, further)) = line_of(rest) {
+        match take(alloc, index, &mut draft, due, piece) {
+            Ok(next) => {
+                due = next;
+                rest = further;
+            }
+            Err(error) => return Err(placed(text, rest, error)),
+        }
+    }
+    if is_over(due, rest) {
+        Ok(draft)
+    } else {
+        Err(placed(text, rest, FORMLESS))
+    }
+}

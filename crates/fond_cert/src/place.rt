@@ -1,0 +1,125 @@
+//! The lines that are allowed at a place of a certificate.
+
+ghost use Rattle.fond_cert.specs.Faults.{due_after, after_layers, HeaderDue, LayersDue, CubesDue, RulesDue, EndDue};
+ghost use Rattle.fond_cert.specs.Stages.{kind_of, due_of, like, IsOneMore};
+ghost use Rattle.std.specs.Prelude.{◌≡◌, ◌+◌, ◌^◌, nat_lt, false, option_map, MatchOption};
+
+use crate::due::{Due, Kind};
+use crate::line::Line;
+
+/// One more than the count, if it is still below 2^32.
+fn one_more(count: u32) -> Option<u32>
+    ensures { MatchOption result (nat_lt (count + 1) (2 ^ 32) ≡ false) (IsOneMore count) }
+{
+    if count < u32::MAX {
+        Some(count + 1)
+    } else {
+        None
+    }
+}
+
+/// What is due after a line that may follow the layers.
+fn due_behind(kind: Kind, line: &Line) -> Option<Due>
+    ensures { option_map due_of result ≡ after_layers (kind_of kind) (like line.now) }
+{
+    match kind {
+        Kind::Policy => match line {
+            Line::Pair { .. } => Some(Due::Pairs),
+            Line::FairRule { .. } | Line::UnfairRule { .. } => Some(Due::Rules { rules: 1 }),
+            Line::Reach { .. } => Some(Due::End),
+            _ => None,
+        },
+        Kind::Refusal => match line {
+            Line::End => Some(Due::Nothing),
+            _ => None,
+        },
+    }
+}
+
+/// What is due after a line that follows a layer or a cube.
+fn due_in_layers(kind: Kind, layers: u32, cubes: u32, line: &Line) -> Option<Due>
+    ensures { option_map due_of result ≡ due_after (CubesDue (kind_of kind) layers cubes) (like line.now) }
+{
+    match line {
+        Line::Layer => Some(Due::Cubes {
+            kind,
+            layers: one_more(layers)?,
+            cubes: 0,
+        }),
+        Line::Cube { .. } => Some(Due::Cubes {
+            kind,
+            layers,
+            cubes: one_more(cubes)?,
+        }),
+        _ => due_behind(kind, line),
+    }
+}
+
+/// What is due after a line that follows a rule.
+fn due_in_rules(rules: u32, line: &Line) -> Option<Due>
+    ensures { option_map due_of result ≡ due_after (RulesDue rules) (like line.now) }
+{
+    match line {
+        Line::FairRule { .. } | Line::UnfairRule { .. } => Some(Due::Rules {
+            rules: one_more(rules)?,
+        }),
+        Line::Reach { .. } => Some(Due::End),
+        _ => None,
+    }
+}
+
+/// What is due after the header.
+fn due_after_header(line: &Line) -> Option<Due>
+    ensures { option_map due_of result ≡ due_after HeaderDue (like line.now) }
+{
+    match line {
+        Line::PolicyHeader => Some(Due::Layers { kind: Kind::Policy }),
+        Line::RefusalHeader => Some(Due::Layers {
+            kind: Kind::Refusal,
+        }),
+        _ => None,
+    }
+}
+
+/// What is due after a line that follows the header.
+fn due_first(kind: Kind, line: &Line) -> Option<Due>
+    ensures { option_map due_of result ≡ due_after (LayersDue (kind_of kind)) (like line.now) }
+{
+    match line {
+        Line::Layer => Some(Due::Cubes {
+            kind,
+            layers: 1,
+            cubes: 0,
+        }),
+        _ => due_behind(kind, line),
+    }
+}
+
+/// What is due after the line that is the end line.
+fn due_after_end(line: &Line) -> Option<Due>
+    ensures { option_map due_of result ≡ due_after EndDue (like line.now) }
+{
+    match line {
+        Line::End => Some(Due::Nothing),
+        _ => None,
+    }
+}
+
+/// What is due after the line, if the line is allowed.
+pub(crate) fn next_due(due: Due, line: &Line) -> Option<Due>
+    ensures { option_map due_of result ≡ due_after (due_of due) (like line.now) }
+{
+    match due {
+        Due::Header => due_after_header(line),
+        Due::Layers { kind } => due_first(kind, line),
+        Due::Cubes {
+            kind,
+            layers,
+            cubes,
+        } => due_in_layers(kind, layers, cubes, line),
+        Due::Pairs => due_behind(Kind::Policy, line),
+        Due::Rules { rules } => due_in_rules(rules, line),
+        Due::End => due_after_end(line),
+        Due::Nothing => None,
+    }
+}

@@ -1,0 +1,248 @@
+//! Printing a certificate.
+
+ghost use Rattle.fond_cert.specs.Belongs.{Belongs};
+ghost use Rattle.fond_cert.specs.Items.{IsPairOf, IsRuleOf};
+ghost use Rattle.fond_cert.specs.Lines.{CubeLine, ReachLine};
+ghost use Rattle.fond_cert.specs.Printed.{fed, chosen_text, places_text, cond_text, pair_text, rule_text, layer_text, plan_text, policy_text, refusal_text};
+ghost use Rattle.fond_cert.specs.Spellings.{written_cube, spelling};
+ghost use Rattle.std.specs.Fmt.{decimal};
+ghost use Rattle.std.specs.List.{flat_map};
+ghost use Rattle.std.specs.Prelude.{◌≡◌, ◌++◌, ℕ, List, All, codes, OnOk, OnErr};
+
+use crate::cert::Cert;
+use crate::put::{put_act, put_cube, put_target, put_targets};
+use fond_game::rule::{Pair, Rule, Targets};
+use fond_layers::layers::{Layer, Layers};
+use fond_rules::pairs::Pairs;
+use fond_rules::rules::Rules;
+use fond_state::cube::Cube;
+use fond_task::task::Task;
+use fond_text::fault::NoMemory;
+use fond_text::number::put_number;
+use std::alloc::Global;
+
+/// Appends the line of a cube.
+fn put_cube_line(task: &Task, cube: &Cube, out: &mut Vec<u8>) -> Result<(), NoMemory>
+    ensures ok { OnOk result (out.new.items ≡ out.old.items ++ fed (CubeLine (written_cube task.now cube.now))) }
+    ensures grew { (more : List ℕ) × (out.new.items ≡ out.old.items ++ more) }
+{
+    out.extend_from_slice(b"cube")?;
+    put_cube(task, cube, out)?;
+    out.extend_from_slice(b"\n")?;
+    Ok(())
+}
+
+/// Appends the lines of a layer.
+fn put_layer(task: &Task, layer: &Layer, out: &mut Vec<u8>) -> Result<(), NoMemory>
+    ensures ok { OnOk result (out.new.items ≡ out.old.items ++ layer_text task.now layer.now) }
+    ensures grew { (more : List ℕ) × (out.new.items ≡ out.old.items ++ more) }
+{
+    out.extend_from_slice(b"layer\n")?;
+    for cube in layer.as_slice() {
+        put_cube_line(task, cube, out)?;
+    }
+    Ok(())
+}
+
+/// Appends the lines of layers.
+fn put_layers(task: &Task, layers: &Layers, out: &mut Vec<u8>) -> Result<(), NoMemory>
+    ensures ok { OnOk result (out.new.items ≡ out.old.items ++ flat_map (layer_text task.now) layers.now) }
+    ensures grew { (more : List ℕ) × (out.new.items ≡ out.old.items ++ more) }
+{
+    for i in 0..layers.len() {
+        put_layer(task, layers.get(i), out)?;
+    }
+    Ok(())
+}
+
+/// Appends a number after a space.
+fn put_spaced(number: u32, out: &mut Vec<u8>) -> Result<(), NoMemory>
+    ensures ok { OnOk result (out.new.items ≡ out.old.items ++ (codes " " ++ decimal number)) }
+    ensures grew { (more : List ℕ) × (out.new.items ≡ out.old.items ++ more) }
+{
+    out.extend_from_slice(b" ")?;
+    put_number(out, number as u64)
+}
+
+/// Appends a condition at the end of a line.
+fn put_cond(task: &Task, cond: &Cube, out: &mut Vec<u8>) -> Result<(), NoMemory>
+    ensures ok { OnOk result (out.new.items ≡ out.old.items ++ cond_text task.now cond.now) }
+    ensures grew { (more : List ℕ) × (out.new.items ≡ out.old.items ++ more) }
+{
+    out.extend_from_slice(b" :")?;
+    put_cube(task, cond, out)?;
+    out.extend_from_slice(b"\n")?;
+    Ok(())
+}
+
+/// Appends the numbers of a pair, each after a space.
+fn put_places(pair: &Pair, out: &mut Vec<u8>) -> Result<(), NoMemory>
+    ensures ok { OnOk result (out.new.items ≡ out.old.items ++ places_text pair.now) }
+    ensures grew { (more : List ℕ) × (out.new.items ≡ out.old.items ++ more) }
+{
+    put_spaced(pair.outcome, out)?;
+    put_spaced(pair.layer, out)?;
+    put_spaced(pair.cube, out)
+}
+
+/// Appends the line of a pair.
+fn put_pair(task: &Task, pair: &Pair, out: &mut Vec<u8>) -> Result<(), NoMemory>
+    requires { IsPairOf task.now pair.now }
+    ensures ok { OnOk result (out.new.items ≡ out.old.items ++ pair_text task.now pair.now) }
+    ensures grew { (more : List ℕ) × (out.new.items ≡ out.old.items ++ more) }
+{
+    out.extend_from_slice(b"pair ")?;
+    put_act(task, pair.act, out)?;
+    put_places(pair, out)?;
+    put_cond(task, &pair.cond, out)
+}
+
+/// Appends the lines of pairs.
+fn put_pairs(task: &Task, pairs: &Pairs, out: &mut Vec<u8>) -> Result<(), NoMemory>
+    requires { All (IsPairOf task.now) pairs.now }
+    ensures ok { OnOk result (out.new.items ≡ out.old.items ++ flat_map (pair_text task.now) pairs.now) }
+    ensures grew { (more : List ℕ) × (out.new.items ≡ out.old.items ++ more) }
+{
+    for i in 0..pairs.len() {
+        put_pair(task, pairs.get(i), out)?;
+    }
+    Ok(())
+}
+
+/// Appends the targets of a rule, after its action.
+fn put_rule_targets(targets: &Targets, out: &mut Vec<u8>) -> Result<(), NoMemory>
+    ensures ok { OnOk result (out.new.items ≡ out.old.items ++ chosen_text targets.now) }
+    ensures grew { (more : List ℕ) × (out.new.items ≡ out.old.items ++ more) }
+{
+    match targets {
+        Targets::One { outcome, target } => {
+            out.extend_from_slice(b" fair ")?;
+            put_number(out, *outcome as u64)?;
+            out.extend_from_slice(b" ")?;
+            put_target(*target, out)
+        }
+        Targets::All(targets) => {
+            out.extend_from_slice(b" unfair")?;
+            put_targets(targets, out)
+        }
+    }
+}
+
+/// Appends the line of a rule.
+fn put_rule(task: &Task, rule: &Rule, out: &mut Vec<u8>) -> Result<(), NoMemory>
+    requires { IsRuleOf task.now rule.now }
+    ensures ok { OnOk result (out.new.items ≡ out.old.items ++ rule_text task.now rule.now) }
+    ensures grew { (more : List ℕ) × (out.new.items ≡ out.old.items ++ more) }
+{
+    out.extend_from_slice(b"rule ")?;
+    put_act(task, rule.act, out)?;
+    put_rule_targets(&rule.targets, out)?;
+    put_cond(task, &rule.cond, out)
+}
+
+/// Appends the lines of rules.
+fn put_rules(task: &Task, rules: &Rules, out: &mut Vec<u8>) -> Result<(), NoMemory>
+    requires { All (IsRuleOf task.now) rules.now }
+    ensures ok { OnOk result (out.new.items ≡ out.old.items ++ flat_map (rule_text task.now) rules.now) }
+    ensures grew { (more : List ℕ) × (out.new.items ≡ out.old.items ++ more) }
+{
+    for i in 0..rules.len() {
+        put_rule(task, rules.get(i), out)?;
+    }
+    Ok(())
+}
+
+/// Appends the reach line.
+fn put_reach(reach: u64, out: &mut Vec<u8>) -> Result<(), NoMemory>
+    ensures ok { OnOk result (out.new.items ≡ out.old.items ++ fed (ReachLine (decimal reach))) }
+    ensures grew { (more : List ℕ) × (out.new.items ≡ out.old.items ++ more) }
+{
+    out.extend_from_slice(b"reach ")?;
+    put_number(out, reach)?;
+    out.extend_from_slice(b"\n")?;
+    Ok(())
+}
+
+/// Appends the lines of pairs and rules, and the reach line.
+fn put_plan(
+    task: &Task,
+    pairs: &Pairs,
+    rules: &Rules,
+    reach: u64,
+    out: &mut Vec<u8>,
+) -> Result<(), NoMemory>
+    requires pairs { All (IsPairOf task.now) pairs.now }
+    requires rules { All (IsRuleOf task.now) rules.now }
+    ensures ok { OnOk result (out.new.items ≡ out.old.items ++ plan_text task.now pairs.now rules.now reach) }
+    ensures grew { (more : List ℕ) × (out.new.items ≡ out.old.items ++ more) }
+{
+    put_pairs(task, pairs, out)?;
+    put_rules(task, rules, out)?;
+    put_reach(reach, out)
+}
+
+/// Appends the lines of a policy.
+fn put_policy(
+    task: &Task,
+    layers: &Layers,
+    pairs: &Pairs,
+    rules: &Rules,
+    reach: u64,
+    out: &mut Vec<u8>,
+) -> Result<(), NoMemory>
+    requires pairs { All (IsPairOf task.now) pairs.now }
+    requires rules { All (IsRuleOf task.now) rules.now }
+    ensures ok { OnOk result (out.new.items ≡ out.old.items ++ policy_text task.now layers.now pairs.now rules.now reach) }
+    ensures grew { (more : List ℕ) × (out.new.items ≡ out.old.items ++ more) }
+{
+    out.extend_from_slice(b"dualfond 1 policy\n")?;
+    put_layers(task, layers, out)?;
+    put_plan(task, pairs, rules, reach, out)?;
+    out.extend_from_slice(b"end\n")?;
+    Ok(())
+}
+
+/// Appends the lines of a refusal.
+fn put_refusal(task: &Task, layers: &Layers, out: &mut Vec<u8>) -> Result<(), NoMemory>
+    ensures ok { OnOk result (out.new.items ≡ out.old.items ++ refusal_text task.now layers.now) }
+    ensures grew { (more : List ℕ) × (out.new.items ≡ out.old.items ++ more) }
+{
+    out.extend_from_slice(b"dualfond 1 refusal\n")?;
+    put_layers(task, layers, out)?;
+    out.extend_from_slice(b"end\n")?;
+    Ok(())
+}
+
+/// Appends the lines of a certificate.
+fn put_lines(task: &Task, cert: &Cert, out: &mut Vec<u8>) -> Result<(), NoMemory>
+    requires { Belongs task.now cert.now }
+    ensures ok { OnOk result (out.new.items ≡ out.old.items ++ spelling task.now cert.now) }
+    ensures grew { (more : List ℕ) × (out.new.items ≡ out.old.items ++ more) }
+{
+    match cert {
+        Cert::Policy {
+            layers,
+            pairs,
+            rules,
+            reach,
+        } => put_policy(task, layers, pairs, rules, *reach, out),
+        Cert::Refusal { layers } => put_refusal(task, layers, out),
+    }
+}
+
+/// Appends the text of a certificate, or nothing if memory runs out. Takes time in the length of the text, and in the
+/// number of the task's atoms for each cube, pair and rule; no memory but for the text.
+pub fn print_cert(task: &Task, cert: &Cert, out: &mut Vec<u8>) -> Result<(), NoMemory>
+    requires { Belongs task.now cert.now }
+    ensures ok { OnOk result (out.new.items ≡ out.old.items ++ spelling task.now cert.now) }
+    ensures err { OnErr result (out.new.items ≡ out.old.items) }
+{
+    let before = out.len();
+    match put_lines(task, cert, out) {
+        Ok(()) => Ok(()),
+        Err(e) => {
+            out.truncate(before);
+            Err(e)
+        }
+    }
+}

@@ -1,0 +1,46 @@
+//! Reading a certificate.
+
+ghost use Rattle.fond_cert.specs.Belongs.{Belongs};
+ghost use Rattle.fond_cert.specs.Faults.{IsCertFault};
+ghost use Rattle.fond_cert.specs.Progress.{cert_of};
+ghost use Rattle.fond_cert.specs.Refusals.{CertRefuses};
+ghost use Rattle.fond_cert.specs.Spellings.{spelling};
+ghost use Rattle.std.specs.Prelude.{◌≡◌, IfOk, IfErr};
+
+use crate::cert::Cert;
+use crate::draft::Draft;
+use crate::error::CertError;
+use crate::lines::read_lines;
+use fond_task::task::Task;
+use fond_task::task_index::TaskIndex;
+use std::alloc::Global;
+
+/// The certificate of a draft.
+fn finish(draft: Draft) -> Cert
+    ensures { result ≡ cert_of draft }
+{
+    match draft.reach {
+        Some(reach) => Cert::Policy {
+            layers: draft.layers,
+            pairs: draft.pairs,
+            rules: draft.rules,
+            reach,
+        },
+        None => Cert::Refusal {
+            layers: draft.layers,
+        },
+    }
+}
+
+/// The certificate that a text spells, or the text's first fault (docs/CERTIFICATES.md). Takes time linear in the length
+/// of the text, in that of the names of all actions and atoms of the task, and in the number of atoms for each cube,
+/// pair and rule; memory for the certificate and the names.
+pub fn read_cert(alloc: Global, task: &Task, text: &[u8]) -> Result<Cert, CertError>
+    ensures belongs { IfOk result (Belongs task.now) }
+    ensures read { IfOk result (λ cert. text.now ≡ spelling task.now cert) }
+    ensures refused { IfErr result (CertRefuses (IsCertFault task.now text.now)) }
+{
+    let index = TaskIndex::of(alloc, task)?;
+    let draft = read_lines(alloc, &index, text)?;
+    Ok(finish(draft))
+}
