@@ -1,30 +1,45 @@
 use crate::coin::ground_coin;
-use fond_cert::policy::read_policy;
+use fond_cert::cert::Cert;
+use fond_cert::error::CertError;
+use fond_cert::print::print_cert;
+use fond_cert::read::read_cert;
 use fond_exec::executor::Executor;
 use fond_exec::script::read_script;
 use fond_exec::step::Step;
 use fond_exec::trace::trace;
+use fond_rules::rules::Rules;
+use fond_task::task::Task;
+use std::alloc::Global;
 use std::test::Fail;
 
 const POLICY: &[u8] = b"dualfond 1 policy\nrule (flip) fair 0 goal : -(heads)\nreach 2\nend\n";
 
+/// The rules of the policy.
+fn policy_rules(alloc: Global, game: &Task) -> Result<Rules, CertError> {
+    match read_cert(alloc, game, POLICY)? {
+        Cert::Policy { rules, .. } => Ok(rules),
+        Cert::Refusal { .. } => Ok(Rules::new(alloc)),
+    }
+}
+
+#[test]
+fn a_policy_is_printed_as_it_was_read(rt: HostRuntime) -> Result<(), Fail> {
+    let coin = ground_coin(rt.alloc())?;
+    let cert = read_cert(rt.alloc(), &coin, POLICY)?;
+    let mut text = Vec::new(rt.alloc());
+    print_cert(&coin, &cert, &mut text)?;
+    assert_eq!(rt; text.as_slice(), POLICY);
+    Ok(())
+}
+
 #[test]
 fn a_policy_is_read_and_traced(rt: HostRuntime) -> Result<(), Fail> {
     let coin = ground_coin(rt.alloc())?;
-    let policy = read_policy(rt.alloc(), &coin, POLICY)?;
-    assert_eq!(rt; policy.reach, 2);
-    assert_eq!(rt; policy.rules.len(), 1);
-    assert!(rt; policy.rules.belong_to(&coin));
+    let rules = policy_rules(rt.alloc(), &coin)?;
+    assert_eq!(rt; rules.len(), 1);
+    assert!(rt; rules.belong_to(&coin));
     let mut text = Vec::new(rt.alloc());
-    assert!(rt;
-        trace(
-            rt.alloc(),
-            &coin,
-            &policy.rules,
-            [0, 7].as_slice(),
-            &mut text
-        )?
-    );
+    assert!(rt; trace(rt.alloc(), &coin, &rules, [0, 7].as_slice(), &mut text)?);
     let wanted = b"rule 0 (flip) outcome 0\ngoal left 1\nstate\n(heads)\n";
     assert_eq!(rt; text.as_slice(), wanted.as_slice());
     Ok(())
@@ -33,8 +48,9 @@ fn a_policy_is_read_and_traced(rt: HostRuntime) -> Result<(), Fail> {
 #[test]
 fn a_policy_is_stepped(rt: HostRuntime) -> Result<(), Fail> {
     let coin = ground_coin(rt.alloc())?;
-    let policy = read_policy(rt.alloc(), &coin, POLICY)?;
-    let mut run = Executor::start(rt.alloc(), &coin, &policy.rules)?;
+    let rules = policy_rules(rt.alloc(), &coin)?;
+    assert!(rt; rules.belong_to(&coin));
+    let mut run = Executor::start(rt.alloc(), &coin, &rules)?;
     assert!(rt; !run.done());
     assert_eq!(rt; run.step(2), Step::BadOutcome { count: 2 });
     assert_eq!(rt; run.step(0), Step::Took { rule: 0, act: 0 });

@@ -38,8 +38,8 @@ end_status false = refl
 run_status : {texts : TaskTexts} {cert script : List ℕ} {reply : Reply} → RunReply texts cert script reply → is_reply_status reply.status ≡ true
 run_status (RunReply.refused fault first) = refl
 run_status (RunReply.bad_cert task game code byte of fault) = refl
-run_status (RunReply.bad_script task game rules reach byte of read fault) = refl
-run_status (RunReply.ran task game rules reach numbers lines last of read spelled trace) = end_status (holds last [] task.goal)
+run_status (RunReply.bad_script task game cert byte of read fault) = refl
+run_status (RunReply.ran task game cert numbers lines last of read spelled trace) = end_status (holds last [] task.goal)
 
 command_status : (command : Command) (given contents : List (List ℕ)) (reply : Reply) → CommandReply command given contents reply → is_reply_status reply.status ≡ true
 command_status Succ (d ∷ p ∷ action ∷ []) (domain ∷ problem ∷ []) reply h = succ_status h

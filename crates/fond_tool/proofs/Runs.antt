@@ -9,8 +9,11 @@ use Rattle.fond_bridge.proofs.Places.{same_tests}
 use Rattle.fond_cert.specs.declared.error.CertError.{CertError}
 use Rattle.fond_cert.specs.declared.error.CertError.TheVariants as cert_error
 use Rattle.fond_cert.specs.Refusals.{CertRefuses}
-use Rattle.fond_cert.specs.Faults.{IsPolicyFault}
-use Rattle.fond_cert.specs.Texts.{IsPolicyText}
+use Rattle.fond_cert.specs.Belongs.{Belongs}
+use Rattle.fond_cert.specs.Faults.{IsCertFault}
+use Rattle.fond_cert.specs.declared.cert.Cert.{Cert}
+use Rattle.fond_cert.specs.declared.cert.Cert.TheVariants.{Policy, Refusal}
+use Rattle.fond_rules.specs.Belongs.{BelongTo}
 use Rattle.fond_exec.specs.Traces as steps
 use Rattle.fond_front.specs.declared.texts.TaskTexts.{TaskTexts}
 use Rattle.fond_game.specs.declared.rule.Rule.{Rule}
@@ -29,7 +32,7 @@ use Rattle.fond_tool.specs.declared.status.Status.TheVariants.{Done, Stopped}
 use Rattle.fond_tool.specs.GroundRuns.{ground_reply}
 use Rattle.fond_tool.specs.Rejections.{Rejects, of_cert, of_script}
 use Rattle.fond_tool.specs.Replies.{Reply, trace_reply}
-use Rattle.fond_tool.specs.Runs.{DescribeGround, RunReply}
+use Rattle.fond_tool.specs.Runs.{DescribeGround, IsCertText, RunReply, rules_of}
 
 -- the last state of a trace has a truth value for each atom
 last_long : (game : Task) (rules : List Rule) (values : List Bool) (numbers lines : List ℕ) (last : List Bool) → IsState game values → steps.Trace game rules values numbers lines last → IsState game last
@@ -53,21 +56,26 @@ reply_alike task game lines last is state = λ i. record {
         (λ told. (truth-is-tested (stands task last) [] task.goal).0 (((ground-tasks-play task game is).goal last state).0 told))
         (λ told. ((ground-tasks-play task game is).goal last state).1 ((truth-is-tested (stands task last) [] task.goal).1 told))
 
+-- the rules of a certificate of a task belong to it
+pub rules_belong : (game : Task) (cert : Cert) → Belongs game cert → BelongTo game (rules_of cert)
+rules_belong game (Policy layers pairs rules reach) belongs = belongs.2.belong
+rules_belong game (Refusal layers) belongs = record { over = tt; there = tt }
+
 module _ (texts : TaskTexts) (cert script : List ℕ) (task : LiftedTask) (game : Task) (of : DescribeGround texts task game) where
   -- a certificate with a fault is rejected with it
-  pub cert_rejected : (error : CertError) → CertRefuses (IsPolicyFault game cert) error → Rejects (RunReply texts cert script) (of_cert error)
+  pub cert_rejected : (error : CertError) → CertRefuses (IsCertFault game cert) error → Rejects (RunReply texts cert script) (of_cert error)
   cert_rejected (cert_error.Refused code byte) fault = RunReply.bad_cert task game code byte of fault
   cert_rejected cert_error.NoMemory fault = tt
 
-  module _ (rules : List Rule) (reach : ℕ) (read : IsPolicyText game rules reach cert) where
+  module _ (spelled_as : Cert) (read : IsCertText game spelled_as cert) where
     -- a script with a fault is rejected with it
     pub script_rejected : (error : ScriptError) → ScriptRefuses (IsScriptFault script) error → Rejects (RunReply texts cert script) (of_script error)
-    script_rejected (script_error.Refused byte) fault = RunReply.bad_script task game rules reach byte of read fault
+    script_rejected (script_error.Refused byte) fault = RunReply.bad_script task game spelled_as byte of read fault
     script_rejected script_error.NoMemory fault = tt
 
     -- the trace over the numbers of the script is the reply
     pub traced : (numbers : List ℕ) (reply : Reply) → IsScript script numbers →
-        (lines : List ℕ) × (last : List Bool) × steps.Trace game rules game.init numbers lines last × (reply ≡ ground_reply game lines last) → RunReply texts cert script reply
+        (lines : List ℕ) × (last : List Bool) × steps.Trace game (rules_of spelled_as) game.init numbers lines last × (reply ≡ ground_reply game lines last) → RunReply texts cert script reply
     traced numbers reply spelled h =
-        subst (RunReply texts cert script) (sym (h.3 ∙ reply_alike task game h.0 h.1 of.1 (last_long game rules game.init numbers h.0 h.1 game.init_long h.2)))
-        (RunReply.ran task game rules reach numbers h.0 (stands task h.1) of read spelled (traces-stand task game rules numbers h.0 h.1 of.1 h.2))
+        subst (RunReply texts cert script) (sym (h.3 ∙ reply_alike task game h.0 h.1 of.1 (last_long game (rules_of spelled_as) game.init numbers h.0 h.1 game.init_long h.2)))
+        (RunReply.ran task game spelled_as numbers h.0 (stands task h.1) of read spelled (traces-stand task game (rules_of spelled_as) numbers h.0 h.1 of.1 h.2))

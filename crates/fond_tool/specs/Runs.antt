@@ -1,13 +1,16 @@
 -- What `run` replies to the texts of its files.
-use Rattle.std.specs.Prelude.{ℕ, List}
+use Rattle.std.specs.Prelude.{◌≡◌, ℕ, List, []}
 use Rattle.fond_text.specs.declared.fault.Fault.{Fault}
 use Rattle.fond_ast.specs.declared.task.LiftedTask.{LiftedTask}
 use Rattle.fond_meaning.specs.States.{State}
 use Rattle.fond_meaning.specs.Solutions.{initial}
 use Rattle.fond_task.specs.declared.task.Task.{Task}
 use Rattle.fond_game.specs.declared.rule.Rule.{Rule}
-use Rattle.fond_cert.specs.Texts.{IsPolicyText}
-use Rattle.fond_cert.specs.Faults.{IsPolicyFault}
+use Rattle.fond_cert.specs.Belongs.{Belongs}
+use Rattle.fond_cert.specs.Faults.{IsCertFault}
+use Rattle.fond_cert.specs.Spellings.{spelling}
+use Rattle.fond_cert.specs.declared.cert.Cert.{Cert}
+use Rattle.fond_cert.specs.declared.cert.Cert.TheVariants.{Policy, Refusal}
 use Rattle.fond_exec.specs.Scripts.{IsScript, IsScriptFault}
 use Rattle.fond_ground.specs.Grounds.{IsGroundOf}
 use Rattle.fond_bridge.specs.Traces.{Trace}
@@ -19,11 +22,20 @@ use Rattle.fond_tool.specs.Replies.{Reply, fault_reply, cert_reply, script_reply
 abbrev pub DescribeGround : TaskTexts → LiftedTask → Task → Type 0
 DescribeGround texts task game = Describe texts task × IsGroundOf task game
 
+-- a text is that of a certificate of a ground task
+abbrev pub IsCertText : Task → Cert → List ℕ → Type 0
+IsCertText game cert text = Belongs game cert × (text ≡ spelling game cert)
+
+-- the rules of a certificate; a refusal has none
+abbrev pub rules_of : Cert → List Rule
+rules_of (Policy layers pairs rules reach) = rules
+rules_of (Refusal layers) = []
+
 -- what `run` replies: a refusal of its files, a rejection of its certificate or of its script, or the trace
 pub data RunReply (texts : TaskTexts) (cert script : List ℕ) : Reply → Type 0 where
   refused : (fault : Fault) → IsRefusal texts fault → RunReply texts cert script (fault_reply fault)
-  bad_cert : (task : LiftedTask) (game : Task) (code byte : ℕ) → DescribeGround texts task game → IsPolicyFault game cert code byte → RunReply texts cert script (cert_reply code byte)
-  bad_script : (task : LiftedTask) (game : Task) (rules : List Rule) (reach byte : ℕ) → DescribeGround texts task game → IsPolicyText game rules reach cert → IsScriptFault script byte
+  bad_cert : (task : LiftedTask) (game : Task) (code byte : ℕ) → DescribeGround texts task game → IsCertFault game cert code byte → RunReply texts cert script (cert_reply code byte)
+  bad_script : (task : LiftedTask) (game : Task) (read : Cert) (byte : ℕ) → DescribeGround texts task game → IsCertText game read cert → IsScriptFault script byte
       → RunReply texts cert script (script_reply byte)
-  ran : (task : LiftedTask) (game : Task) (rules : List Rule) (reach : ℕ) (numbers lines : List ℕ) (last : State) → DescribeGround texts task game → IsPolicyText game rules reach cert → IsScript script numbers
-      → Trace task game rules (initial task) numbers lines last → RunReply texts cert script (trace_reply task lines last)
+  ran : (task : LiftedTask) (game : Task) (read : Cert) (numbers lines : List ℕ) (last : State) → DescribeGround texts task game → IsCertText game read cert → IsScript script numbers
+      → Trace task game (rules_of read) (initial task) numbers lines last → RunReply texts cert script (trace_reply task lines last)

@@ -4,7 +4,7 @@ ghost use Rattle.fond_exec.specs.Traces.{Trace};
 ghost use Rattle.fond_rules.specs.Belongs.{BelongTo};
 ghost use Rattle.fond_tool.specs.Rejections.{Rejects};
 ghost use Rattle.fond_tool.specs.GroundRuns.{ground_reply};
-ghost use Rattle.fond_tool.specs.Runs.{DescribeGround, RunReply};
+ghost use Rattle.fond_tool.specs.Runs.{DescribeGround, RunReply, rules_of as all_rules_of};
 ghost use Rattle.fond_front.specs.declared.texts.TaskTexts.{TaskTexts};
 ghost use Rattle.fond_ast.specs.declared.task.LiftedTask.{LiftedTask};
 ghost use Rattle.std.specs.Prelude.{◌≡◌, ℕ, Bool, List, IfOk, IfErr};
@@ -13,7 +13,8 @@ use crate::answer::Answer;
 use crate::rejection::Rejection;
 use crate::status::Status;
 use crate::task_files::read_files;
-use fond_cert::policy::read_policy;
+use fond_cert::cert::Cert;
+use fond_cert::read::read_cert;
 use fond_exec::script::read_script;
 use fond_exec::trace::trace;
 use fond_front::texts::TaskTexts;
@@ -42,6 +43,16 @@ fn trace_answer(
     Ok(Answer::new(text, status))
 }
 
+/// The rules of a certificate. A refusal has none.
+fn rules_of(alloc: Global, cert: Cert) -> Rules
+    ensures { result ≡ all_rules_of cert }
+{
+    match cert {
+        Cert::Policy { rules, .. } => rules,
+        Cert::Refusal { .. } => Rules::new(alloc),
+    }
+}
+
 /// The trace of the certificate's rules over the script in a ground task, or why there is none.
 fn certified_trace(
     alloc: Global,
@@ -52,9 +63,10 @@ fn certified_trace(
     ensures replied { (texts : TaskTexts) (task : LiftedTask) → DescribeGround texts task game.now → IfOk result (RunReply texts cert.now script.now) }
     ensures rejected { (texts : TaskTexts) (task : LiftedTask) → DescribeGround texts task game.now → IfErr result (Rejects (RunReply texts cert.now script.now)) }
 {
-    let policy = read_policy(alloc, game, cert)?;
+    let cert = read_cert(alloc, game, cert)?;
     let numbers = read_script(alloc, script)?;
-    Ok(trace_answer(alloc, game, &policy.rules, &numbers)?)
+    let rules = rules_of(alloc, cert);
+    Ok(trace_answer(alloc, game, &rules, &numbers)?)
 }
 
 /// The answer to `run`: the trace of the certificate's rules over the script, or why there is none.
