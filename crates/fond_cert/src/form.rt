@@ -1,4 +1,5 @@
-//! The forms of lines. Each is tried in turn, so a new kind of line is one function here.
+//! The forms of lines. Each is tried in turn, so a new kind of line is one function here. Each call takes time in the
+//! length of the line, and no memory.
 
 ghost use Rattle.fond_cert.specs.Cutting.{IsCutOf};
 ghost use Rattle.fond_cert.specs.Kinds.{HasNoLineOf, IsWord, IsCube, IsPair, IsFair, IsUnfair, IsReach, IsRule, HasParts, IsAny};

@@ -67,7 +67,8 @@ fn is_over(due: Due, rest: &[u8]) -> bool
     }
 }
 
-/// What the lines of the text make.
+/// What the lines of the text make. Takes time in the length of the text, and in the number of the task's atoms for each
+/// cube, pair and rule; memory for what the lines make.
 pub(crate) fn read_lines(alloc: Global, index: &TaskIndex, text: &[u8]) -> Result<Draft, CertError>
     ensures read { IfOk result (λ draft. IsDraftOf index.now draft × IsWhole index.now text.now draft) }
     ensures refused { IfErr result (CertRefuses (IsCertFault index.now text.now)) }

@@ -1,4 +1,4 @@
-//! The lines that are allowed at a place of a certificate.
+//! The lines that are allowed at a place of a certificate. Each call takes constant time, and no memory.
 
 ghost use Rattle.fond_cert.specs.Faults.{due_after, after_layers, HeaderDue, LayersDue, CubesDue, RulesDue, EndDue};
 ghost use Rattle.fond_cert.specs.Stages.{kind_of, due_of, like, IsOneMore};
