@@ -4,7 +4,6 @@ pub mod Words
 pub mod Belongs
 pub mod Spellings
 pub mod Faults
-pub mod Laws
 pub mod Parts
 pub mod Refusals
 pub mod Checked
