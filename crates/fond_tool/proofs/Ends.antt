@@ -13,8 +13,9 @@ use Rattle.fond_tool.specs.Commands.{CommandReply}
 use Rattle.fond_tool.specs.Ends.{ToolReply, Ends, Writes}
 use Rattle.fond_tool.specs.Fetches.{Reads}
 use Rattle.fond_tool.specs.Replies.{Reply}
-use Rattle.fond_tool.specs.Runs.{RunReply}
-use Rattle.fond_tool.specs.Successors.{AnswersAction, SuccReply}
+use Rattle.fond_task.specs.declared.task.Task.{Task}
+use Rattle.fond_tool.specs.Runs.{AnswersRun, RunReply}
+use Rattle.fond_tool.specs.Successors.{AnswersAction, AnswersWord, SuccReply}
 
 -- whether a reply may have a status: not that of a write fault, and not that of memory that ran out
 abbrev pub is_reply_status : Status → Bool
@@ -26,20 +27,26 @@ answer_status : {task : LiftedTask} {action : GroundAction} {reply : Reply} → 
 answer_status (AnswersAction.inapplicable never) = refl
 answer_status (AnswersAction.successors text is) = refl
 
+word_status : {task : LiftedTask} {word : List ℕ} {reply : Reply} → AnswersWord task word reply → is_reply_status reply.status ≡ true
+word_status (AnswersWord.unknown none) = refl
+word_status (AnswersWord.named action reply names answers) = answer_status answers
+
 succ_status : {texts : TaskTexts} {action : List ℕ} {reply : Reply} → SuccReply texts action reply → is_reply_status reply.status ≡ true
 succ_status (SuccReply.refused fault first) = refl
-succ_status (SuccReply.unknown task of none) = refl
-succ_status (SuccReply.answered task action reply of names answers) = answer_status answers
+succ_status (SuccReply.answered task reply of answers) = word_status answers
 
 end_status : (is_goal : Bool) → is_reply_status (if is_goal then Done else Stopped) ≡ true
 end_status true = refl
 end_status false = refl
 
+game_status : (task : LiftedTask) {game : Task} {cert script : List ℕ} {reply : Reply} → AnswersRun task game cert script reply → is_reply_status reply.status ≡ true
+game_status task (AnswersRun.bad_cert code byte fault) = refl
+game_status task (AnswersRun.bad_script read byte is fault) = refl
+game_status task (AnswersRun.ran read numbers lines last is spelled trace) = end_status (holds last [] task.goal)
+
 run_status : {texts : TaskTexts} {cert script : List ℕ} {reply : Reply} → RunReply texts cert script reply → is_reply_status reply.status ≡ true
 run_status (RunReply.refused fault first) = refl
-run_status (RunReply.bad_cert task game code byte of fault) = refl
-run_status (RunReply.bad_script task game cert byte of read fault) = refl
-run_status (RunReply.ran task game cert numbers lines last of read spelled trace) = end_status (holds last [] task.goal)
+run_status (RunReply.answered task game reply of answers) = game_status task answers
 
 command_status : (command : Command) (given contents : List (List ℕ)) (reply : Reply) → CommandReply command given contents reply → is_reply_status reply.status ≡ true
 command_status Succ (d ∷ p ∷ action ∷ []) (domain ∷ problem ∷ []) reply h = succ_status h

@@ -1,5 +1,5 @@
 -- Rejections of what a command read, by the errors that they come from.
-use Rattle.std.proofs.Common.{◌≡◌, Result, Ok, Err, IfErr, IsErrAnd, Some, sym, subst}
+use Rattle.std.proofs.Common.{◌≡◌, Result, Ok, Err, IfErr, IfSome, IsErrAnd, Option, Some, None, sym, subst}
 use Rattle.fond_text.specs.declared.fault.Fault.{Fault}
 use Rattle.fond_text.specs.declared.fault.FrontError.{FrontError}
 use Rattle.fond_text.specs.declared.fault.FrontError.TheVariants as front
@@ -21,3 +21,11 @@ files_rejected holds faulty gives front.NoMemory h = tt
 -- the answer to a rejection has what its reply has
 pub replied : (holds : Reply → Type 0) (rejection : Rejection) (reply : Reply) → Rejects holds rejection → reply_to rejection ≡ Some reply → holds reply
 replied holds rejection reply rejects is = rw is at rejects
+
+-- a rejection has a reply of which this holds if it has one of which something stronger holds
+pub rejects_also : (strong weak : Reply → Type 0) (rejection : Rejection) → ((reply : Reply) → strong reply → weak reply) → Rejects strong rejection → Rejects weak rejection
+rejects_also strong weak rejection also rejects = by (reply_to rejection) rejects
+  where
+    by : (found : Option Reply) → IfSome found strong → IfSome found weak
+    by None has = tt
+    by (Some reply) has = also reply has

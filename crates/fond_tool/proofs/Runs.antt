@@ -15,7 +15,6 @@ use Rattle.fond_cert.specs.declared.cert.Cert.{Cert}
 use Rattle.fond_cert.specs.declared.cert.Cert.TheVariants.{Policy, Refusal}
 use Rattle.fond_rules.specs.Belongs.{BelongTo}
 use Rattle.fond_exec.specs.Traces as steps
-use Rattle.fond_front.specs.declared.texts.TaskTexts.{TaskTexts}
 use Rattle.fond_game.specs.declared.rule.Rule.{Rule}
 use Rattle.fond_ground.specs.Grounds.{IsGroundOf}
 use Rattle.fond_ground.specs.Texts.{state_text}
@@ -32,7 +31,7 @@ use Rattle.fond_tool.specs.declared.status.Status.TheVariants.{Done, Stopped}
 use Rattle.fond_tool.specs.GroundRuns.{ground_reply}
 use Rattle.fond_tool.specs.Rejections.{Rejects, of_cert, of_script}
 use Rattle.fond_tool.specs.Replies.{Reply, trace_reply}
-use Rattle.fond_tool.specs.Runs.{DescribeGround, IsCertText, RunReply, rules_of}
+use Rattle.fond_tool.specs.Runs.{AnswersRun, IsCertText, rules_of}
 
 -- the last state of a trace has a truth value for each atom
 last_long : (game : Task) (rules : List Rule) (values : List Bool) (numbers lines : List ℕ) (last : List Bool) → IsState game values → steps.Trace game rules values numbers lines last → IsState game last
@@ -61,21 +60,21 @@ pub rules_belong : (game : Task) (cert : Cert) → Belongs game cert → BelongT
 rules_belong game (Policy layers pairs rules reach) belongs = belongs.2.belong
 rules_belong game (Refusal layers) belongs = record { over = tt; there = tt }
 
-module _ (texts : TaskTexts) (cert script : List ℕ) (task : LiftedTask) (game : Task) (of : DescribeGround texts task game) where
+module _ (task : LiftedTask) (game : Task) (is : IsGroundOf task game) (cert script : List ℕ) where
   -- a certificate with a fault is rejected with it
-  pub cert_rejected : (error : CertError) → CertRefuses (IsCertFault game cert) error → Rejects (RunReply texts cert script) (of_cert error)
-  cert_rejected (cert_error.Refused code byte) fault = RunReply.bad_cert task game code byte of fault
+  pub cert_rejected : (error : CertError) → CertRefuses (IsCertFault game cert) error → Rejects (AnswersRun task game cert script) (of_cert error)
+  cert_rejected (cert_error.Refused code byte) fault = AnswersRun.bad_cert code byte fault
   cert_rejected cert_error.NoMemory fault = tt
 
-  module _ (spelled_as : Cert) (read : IsCertText game spelled_as cert) where
+  module _ (read : Cert) (spelled_as : IsCertText game read cert) where
     -- a script with a fault is rejected with it
-    pub script_rejected : (error : ScriptError) → ScriptRefuses (IsScriptFault script) error → Rejects (RunReply texts cert script) (of_script error)
-    script_rejected (script_error.Refused byte) fault = RunReply.bad_script task game spelled_as byte of read fault
+    pub script_rejected : (error : ScriptError) → ScriptRefuses (IsScriptFault script) error → Rejects (AnswersRun task game cert script) (of_script error)
+    script_rejected (script_error.Refused byte) fault = AnswersRun.bad_script read byte spelled_as fault
     script_rejected script_error.NoMemory fault = tt
 
     -- the trace over the numbers of the script is the reply
     pub traced : (numbers : List ℕ) (reply : Reply) → IsScript script numbers →
-        (lines : List ℕ) × (last : List Bool) × steps.Trace game (rules_of spelled_as) game.init numbers lines last × (reply ≡ ground_reply game lines last) → RunReply texts cert script reply
+        (lines : List ℕ) × (last : List Bool) × steps.Trace game (rules_of read) game.init numbers lines last × (reply ≡ ground_reply game lines last) → AnswersRun task game cert script reply
     traced numbers reply spelled h =
-        subst (RunReply texts cert script) (sym (h.3 ∙ reply_alike task game h.0 h.1 of.1 (last_long game (rules_of spelled_as) game.init numbers h.0 h.1 game.init_long h.2)))
-        (RunReply.ran task game spelled_as numbers h.0 (stands task h.1) of read spelled (traces-stand task game (rules_of spelled_as) numbers h.0 h.1 of.1 h.2))
+        subst (AnswersRun task game cert script) (sym (h.3 ∙ reply_alike task game h.0 h.1 is (last_long game (rules_of read) game.init numbers h.0 h.1 game.init_long h.2)))
+        (AnswersRun.ran read numbers h.0 (stands task h.1) spelled_as spelled (traces-stand task game (rules_of read) numbers h.0 h.1 is h.2))

@@ -31,11 +31,14 @@ abbrev pub rules_of : Cert → List Rule
 rules_of (Policy layers pairs rules reach) = rules
 rules_of (Refusal layers) = []
 
--- what `run` replies: a refusal of its files, a rejection of its certificate or of its script, or the trace
+-- what `run` replies in a task with this ground task: a rejection of its certificate or of its script, or the trace
+pub data AnswersRun (task : LiftedTask) (game : Task) (cert script : List ℕ) : Reply → Type 0 where
+  bad_cert : (code byte : ℕ) → IsCertFault game cert code byte → AnswersRun task game cert script (cert_reply code byte)
+  bad_script : (read : Cert) (byte : ℕ) → IsCertText game read cert → IsScriptFault script byte → AnswersRun task game cert script (script_reply byte)
+  ran : (read : Cert) (numbers lines : List ℕ) (last : State) → IsCertText game read cert → IsScript script numbers
+      → Trace task game (rules_of read) (initial task) numbers lines last → AnswersRun task game cert script (trace_reply task lines last)
+
+-- what `run` replies: a refusal of its files, or the reply in the task that they describe
 pub data RunReply (texts : TaskTexts) (cert script : List ℕ) : Reply → Type 0 where
   refused : (fault : Fault) → IsRefusal texts fault → RunReply texts cert script (fault_reply fault)
-  bad_cert : (task : LiftedTask) (game : Task) (code byte : ℕ) → DescribeGround texts task game → IsCertFault game cert code byte → RunReply texts cert script (cert_reply code byte)
-  bad_script : (task : LiftedTask) (game : Task) (read : Cert) (byte : ℕ) → DescribeGround texts task game → IsCertText game read cert → IsScriptFault script byte
-      → RunReply texts cert script (script_reply byte)
-  ran : (task : LiftedTask) (game : Task) (read : Cert) (numbers lines : List ℕ) (last : State) → DescribeGround texts task game → IsCertText game read cert → IsScript script numbers
-      → Trace task game (rules_of read) (initial task) numbers lines last → RunReply texts cert script (trace_reply task lines last)
+  answered : (task : LiftedTask) (game : Task) (reply : Reply) → DescribeGround texts task game → AnswersRun task game cert script reply → RunReply texts cert script reply

@@ -16,9 +16,13 @@ pub data AnswersAction (task : LiftedTask) (action : GroundAction) : Reply → T
   inapplicable : ¬ IsApplicable task (initial task) action → AnswersAction task action (line_reply (codes "applicable no") Done)
   successors : (text : List ℕ) → IsSuccessorsText task action text → AnswersAction task action (record { text = codes "applicable yes\n" ++ text; status = Done })
 
--- what `succ` replies, over an empty side list and a word that is an action: a refusal of its files, a rejection of its
--- action, or the reply to the ground action that the word names
+-- the reply to a word that is an action: it names no ground action of the task, or this is the reply to the one that it names
+pub data AnswersWord (task : LiftedTask) (word : List ℕ) : Reply → Type 0 where
+  unknown : NamesNone task word → AnswersWord task word action_reply
+  named : (action : GroundAction) (reply : Reply) → NamesAction task word action → AnswersAction task action reply → AnswersWord task word reply
+
+-- what `succ` replies, over an empty side list: a refusal of its files, or the reply to its action word in the task that they
+-- describe
 pub data SuccReply (texts : TaskTexts) (word : List ℕ) : Reply → Type 0 where
   refused : (fault : Fault) → IsRefusal texts fault → SuccReply texts word (fault_reply fault)
-  unknown : (task : LiftedTask) → Describe texts task → NamesNone task word → SuccReply texts word action_reply
-  answered : (task : LiftedTask) (action : GroundAction) (reply : Reply) → Describe texts task → NamesAction task word action → AnswersAction task action reply → SuccReply texts word reply
+  answered : (task : LiftedTask) (reply : Reply) → Describe texts task → AnswersWord task word reply → SuccReply texts word reply

@@ -4,15 +4,14 @@ ghost use Rattle.fond_exec.specs.Traces.{Trace};
 ghost use Rattle.fond_rules.specs.Belongs.{BelongTo};
 ghost use Rattle.fond_tool.specs.Rejections.{Rejects};
 ghost use Rattle.fond_tool.specs.GroundRuns.{ground_reply};
-ghost use Rattle.fond_tool.specs.Runs.{DescribeGround, RunReply, rules_of as all_rules_of};
-ghost use Rattle.fond_front.specs.declared.texts.TaskTexts.{TaskTexts};
-ghost use Rattle.fond_ast.specs.declared.task.LiftedTask.{LiftedTask};
+ghost use Rattle.fond_ground.specs.Grounds.{IsGroundOf};
+ghost use Rattle.fond_tool.specs.Runs.{AnswersRun, RunReply, rules_of as all_rules_of};
 ghost use Rattle.std.specs.Prelude.{◌≡◌, ℕ, Bool, List, IfOk, IfErr};
 
 use crate::answer::Answer;
 use crate::rejection::Rejection;
 use crate::status::Status;
-use crate::task_files::read_files;
+use crate::task_files::{TaskFiles, read_files};
 use fond_cert::cert::Cert;
 use fond_cert::read::read_cert;
 use fond_exec::script::read_script;
@@ -53,20 +52,21 @@ fn rules_of(alloc: Global, cert: Cert) -> Rules
     }
 }
 
-/// The trace of the certificate's rules over the script in a ground task, or why there is none.
+/// The trace of the certificate's rules over the script in a task, or why there is none.
 fn certified_trace(
     alloc: Global,
-    game: &Task,
+    files: &TaskFiles,
     cert: &[u8],
     script: &[u8],
 ) -> Result<Answer, Rejection>
-    ensures replied { (texts : TaskTexts) (task : LiftedTask) → DescribeGround texts task game.now → IfOk result (RunReply texts cert.now script.now) }
-    ensures rejected { (texts : TaskTexts) (task : LiftedTask) → DescribeGround texts task game.now → IfErr result (Rejects (RunReply texts cert.now script.now)) }
+    requires { IsGroundOf files.now.task files.now.game }
+    ensures replied { IfOk result (AnswersRun files.now.task files.now.game cert.now script.now) }
+    ensures rejected { IfErr result (Rejects (AnswersRun files.now.task files.now.game cert.now script.now)) }
 {
-    let cert = read_cert(alloc, game, cert)?;
+    let cert = read_cert(alloc, &files.game, cert)?;
     let numbers = read_script(alloc, script)?;
     let rules = rules_of(alloc, cert);
-    Ok(trace_answer(alloc, game, &rules, &numbers)?)
+    Ok(trace_answer(alloc, &files.game, &rules, &numbers)?)
 }
 
 /// The answer to `run`: the trace of the certificate's rules over the script, or why there is none.
@@ -80,5 +80,5 @@ pub fn run(
     ensures rejected { IfErr result (Rejects (RunReply texts.now cert.now script.now)) }
 {
     let files = read_files(alloc, texts)?;
-    certified_trace(alloc, &files.game, cert, script)
+    certified_trace(alloc, &files, cert, script)
 }

@@ -3,9 +3,7 @@
 ghost use Rattle.fond_ground.specs.Grounds.{IsGroundOf};
 ghost use Rattle.fond_succ.specs.Actions.{IsAction};
 ghost use Rattle.fond_tool.specs.Rejections.{Rejects};
-ghost use Rattle.fond_tool.specs.Successors.{AnswersAction, SuccReply};
-ghost use Rattle.fond_tool.specs.Tasks.{Describe};
-ghost use Rattle.fond_front.specs.declared.texts.TaskTexts.{TaskTexts};
+ghost use Rattle.fond_tool.specs.Successors.{AnswersAction, AnswersWord, SuccReply};
 ghost use Rattle.std.specs.Prelude.{IfOk, IfErr};
 
 use crate::answer::{Answer, line};
@@ -49,8 +47,8 @@ fn named_successors(
 ) -> Result<Answer, Rejection>
     requires action { IsAction action.now }
     requires ground { IsGroundOf task.now game.now }
-    ensures replied { (texts : TaskTexts) → Describe texts task.now → IfOk result (SuccReply texts action.now) }
-    ensures rejected { (texts : TaskTexts) → Describe texts task.now → IfErr result (Rejects (SuccReply texts action.now)) }
+    ensures replied { IfOk result (AnswersWord task.now action.now) }
+    ensures rejected { IfErr result (Rejects (AnswersWord task.now action.now)) }
 {
     let Some(named) = find_action(alloc, task, action)? else {
         return Err(Rejection::UnknownAction);

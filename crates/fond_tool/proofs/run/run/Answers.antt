@@ -1,8 +1,10 @@
-use Rattle.fond_tool.specs.Tasks.{IsRefusal}
+use Rattle.std.proofs.lemmas.Result.{IfErr-weaker, IfOk-weaker}
 use Rattle.fond_text.specs.declared.fault.Fault.{Fault}
 use Rattle.fond_tool.specs.Rejections.{of_files}
+use Rattle.fond_tool.specs.Replies.{Reply}
 use Rattle.fond_tool.specs.Runs.{RunReply}
-use Rattle.fond_tool.proofs.Rejections.{files_rejected, rejected_by}
+use Rattle.fond_tool.specs.Tasks.{IsRefusal}
+use Rattle.fond_tool.proofs.Rejections.{files_rejected, rejected_by, rejects_also}
 use Rattle.fond_tool.proofs.run.run.Goals as goal
 
 pub returns-in_err-files-clause-rejected : goal.returns-in_err-files-clause-rejected
@@ -12,8 +14,14 @@ returns-in_err-files-clause-rejected c =
     rejected_by _ (of_files error) holds c.from_residual.ensures.1
     (files_rejected holds (IsRefusal c.args.texts.now) (λ (fault : Fault) first. RunReply.refused fault first) error c.in_err-files.ensures.refused)
 
+pub certified_trace-requires : goal.certified_trace-requires
+certified_trace-requires c = c.in_ok-files.ensures.read.1
+
 pub returns-clause-replied : goal.returns-clause-replied
-returns-clause-replied c = c.certified_trace.ensures.replied c.args.texts.now c.in_ok-files.files.task c.in_ok-files.ensures.read
+returns-clause-replied c =
+    IfOk-weaker c.certified_trace.result _ _ (λ (reply : Reply) answers. RunReply.answered c.in_ok-files.files.task c.in_ok-files.files.game reply c.in_ok-files.ensures.read answers) c.certified_trace.ensures.replied
 
 pub returns-clause-rejected : goal.returns-clause-rejected
-returns-clause-rejected c = c.certified_trace.ensures.rejected c.args.texts.now c.in_ok-files.files.task c.in_ok-files.ensures.read
+returns-clause-rejected c =
+    IfErr-weaker c.certified_trace.result _ _
+    (λ rejection. rejects_also _ _ rejection (λ (reply : Reply) answers. RunReply.answered c.in_ok-files.files.task c.in_ok-files.files.game reply c.in_ok-files.ensures.read answers)) c.certified_trace.ensures.rejected

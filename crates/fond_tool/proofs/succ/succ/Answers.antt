@@ -1,8 +1,10 @@
-use Rattle.fond_tool.specs.Tasks.{IsRefusal}
+use Rattle.std.proofs.lemmas.Result.{IfErr-weaker, IfOk-weaker}
 use Rattle.fond_text.specs.declared.fault.Fault.{Fault}
 use Rattle.fond_tool.specs.Rejections.{of_files}
+use Rattle.fond_tool.specs.Replies.{Reply}
 use Rattle.fond_tool.specs.Successors.{SuccReply}
-use Rattle.fond_tool.proofs.Rejections.{files_rejected, rejected_by}
+use Rattle.fond_tool.specs.Tasks.{IsRefusal}
+use Rattle.fond_tool.proofs.Rejections.{files_rejected, rejected_by, rejects_also}
 use Rattle.fond_tool.proofs.succ.succ.Goals as goal
 
 pub returns-in_err-files-clause-rejected : goal.returns-in_err-files-clause-rejected
@@ -16,7 +18,10 @@ pub named_successors-requires-clause-ground : goal.named_successors-requires-cla
 named_successors-requires-clause-ground c = c.in_ok-files.ensures.read.1
 
 pub returns-clause-replied : goal.returns-clause-replied
-returns-clause-replied c = c.named_successors.ensures.replied c.args.texts.now c.in_ok-files.ensures.read.0
+returns-clause-replied c =
+    IfOk-weaker c.named_successors.result _ _ (λ (reply : Reply) answers. SuccReply.answered c.in_ok-files.files.task reply c.in_ok-files.ensures.read.0 answers) c.named_successors.ensures.replied
 
 pub returns-clause-rejected : goal.returns-clause-rejected
-returns-clause-rejected c = c.named_successors.ensures.rejected c.args.texts.now c.in_ok-files.ensures.read.0
+returns-clause-rejected c =
+    IfErr-weaker c.named_successors.result _ _
+    (λ rejection. rejects_also _ _ rejection (λ (reply : Reply) answers. SuccReply.answered c.in_ok-files.files.task reply c.in_ok-files.ensures.read.0 answers)) c.named_successors.ensures.rejected
