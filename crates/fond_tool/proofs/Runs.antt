@@ -1,5 +1,6 @@
 -- What `run` replies where it does not end with a refusal of its files.
-use Rattle.std.proofs.Common.{◌≡◌, ℕ, ◌∙◌, ◌++◌, Bool, true, false, List, [], length, refl, sym, ap, subst, true≢false}
+use Rattle.std.proofs.Common.{◌≡◌, ℕ, ◌<◌, ◌∙◌, ◌++◌, Bool, true, false, List, [], length, refl, sym, ap, subst, true≢false}
+use Rattle.std.proofs.lemmas.List.Elements.{All-nil}
 use Rattle.std.specs.Prelude.{if◌then◌else◌}
 use Rattle.fond_ast.specs.declared.task.LiftedTask.{LiftedTask}
 use Rattle.fond_bridge.specs.Games.{IsState}
@@ -58,7 +59,10 @@ reply_alike task game lines last is state = λ i. record {
 -- the rules of a certificate of a task belong to it
 pub rules_belong : (game : Task) (cert : Cert) → Belongs game cert → BelongTo game (rules_of cert)
 rules_belong game (Policy layers pairs rules reach) belongs = belongs.2.belong
-rules_belong game (Refusal layers) belongs = record { over = tt; there = tt }
+rules_belong game (Refusal layers) belongs = record {
+  over = All-nil (λ (rule : Rule). length rule.cond ≡ length game.atoms);
+  there = All-nil (λ (rule : Rule). rule.act < length game.acts);
+}
 
 module _ (task : LiftedTask) (game : Task) (is : IsGroundOf task game) (cert script : List ℕ) where
   -- a certificate with a fault is rejected with it

@@ -23,10 +23,10 @@ returns-in_err-numbers-clause-rejected c =
     (script_rejected task game c.requires c.args.cert.now c.args.script.now c.in_ok-cert.cert (c.in_ok-cert.ensures.belongs, c.in_ok-cert.ensures.read) error c.in_err-numbers.ensures.refused)
 
 pub trace_answer-requires : goal.trace_answer-requires
-trace_answer-requires c = subst (BelongTo c.args.files.now.game) (sym c.rules_of.ensures) (rules_belong c.args.files.now.game c.in_ok-cert.cert c.in_ok-cert.ensures.belongs)
+trace_answer-requires c = subst (BelongTo c.args.files.now.game) (sym c.rules_of-rules.ensures) (rules_belong c.args.files.now.game c.in_ok-cert.cert c.in_ok-cert.ensures.belongs)
 
 pub returns-clause-replied : goal.returns-clause-replied
 returns-clause-replied c =
     let numbers = c.in_ok-numbers.numbers.items in
     traced c.args.files.now.task c.args.files.now.game c.requires c.args.cert.now c.args.script.now c.in_ok-cert.cert (c.in_ok-cert.ensures.belongs, c.in_ok-cert.ensures.read)
-    numbers c.in_ok-trace_answer.field-0 c.in_ok-numbers.ensures.read (rw (c.deref.ensures.value, c.rules_of.ensures) at c.in_ok-trace_answer.ensures)
+    numbers c.in_ok-trace_answer.field-0 c.in_ok-numbers.ensures.read (rw (c.deref.ensures.value, c.rules_of-rules.ensures) at c.in_ok-trace_answer.ensures)
