@@ -60,7 +60,7 @@ const SIDES: [(&str, [&str; 3], &str); 6] = [
 ];
 
 /// The texts of three files, each with the line of their first fault of names.
-const FIRST: [(&str, [&str; 2], &str); 17] = [
+const FIRST: [(&str, [&str; 3], &str); 16] = [
     (
         "a late fault of the domain comes before an early one of the problem",
         [
