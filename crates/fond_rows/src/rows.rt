@@ -170,25 +170,6 @@ pub fn check_pairs(
     Ok(())
 }
 
-/// Each domain, problem and action of a table is answered by `succ` with the status and the text beside them.
-pub fn check_actions(
-    rt: &impl Abort,
-    alloc: Global,
-    table: &[(&str, &str, &str, u8, &str)],
-) -> Result<(), Fail> {
-    for &(domain, problem, action, status, text) in table {
-        let row = Row {
-            name: domain,
-            words: &["succ", "domain", "problem", action],
-            files: &[("domain", domain), ("problem", problem)],
-            status,
-            text,
-        };
-        check(rt, alloc, row)?;
-    }
-    Ok(())
-}
-
 /// Each domain, problem and side list of a table is answered by `run` with this status and with the answer beside them,
 /// over a certificate and a script that are none.
 pub fn check_runs(
