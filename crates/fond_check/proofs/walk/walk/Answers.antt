@@ -1,0 +1,70 @@
+use Rattle.std.proofs.Common.{◌≡◌, ◌∙◌, ◌+◌, ◌<◌, ◌≤◌, ℕ, List, Bool, Some, None, length, slice_get, sym, ap, refl, subst, arith}
+use Rattle.std.proofs.lemmas.Option.{slice_get_within}
+use Rattle.fond_game.specs.Policies.{selected}
+use Rattle.fond_game.proofs.Lists.{Contains_numbered}
+use Rattle.fond_game.proofs.Reached.{reached_long}
+use Rattle.fond_check.specs.Walks.{IsOpenAmong}
+use Rattle.fond_check.proofs.Walking.{begun_states, grown_keeps, open_below, open_more, open_one, walk_all, walk_begun, walk_more}
+use Rattle.fond_check.proofs.walk.walk.Goals as goal
+
+pub copy_from-requires : goal.copy_from-requires
+copy_from-requires c =
+    let reached = c.loop-at.invariant.walk.reached c.get.result.now (Contains_numbered c.loop-at.states c.loop-at.at c.get.result.now c.get.ensures) in
+    c.loop-at.invariant.long ∙ sym (reached_long c.args.t.now (selected c.args.rules.now) c.get.result.now reached)
+
+pub visit-requires-clause-long : goal.visit-requires-clause-long
+visit-requires-clause-long c =
+    let reached = c.loop-at.invariant.walk.reached c.get.result.now (Contains_numbered c.loop-at.states c.loop-at.at c.get.result.now c.get.ensures) in
+    ap length c.copy_from.ensures ∙ reached_long c.args.t.now (selected c.args.rules.now) c.get.result.now reached
+
+pub copy_numbered-requires : goal.copy_numbered-requires
+copy_numbered-requires c = open_below c.args.t.now c.args.rules.now c.loop-at.states c.loop-at.at c.loop-at.unruled c.loop-at.invariant.unruled
+
+pub loop-at-init : goal.loop-at-init
+loop-at-init c = record {
+  long = ap length c.in_ok-state.ensures ∙ c.args.t.now.init_long;
+  next_long = ap length c.in_ok-next.ensures ∙ c.args.t.now.init_long;
+  done = omega arith;
+  walk = walk_begun c.args.t.now c.args.rules.now c.add.new.self
+      (begun_states c.args.t.now.init c.new-states.result c.in_ok-copy.field-0 c.in_ok-add.field-0 c.add.new.self c.new-states.ensures c.in_ok-copy.ensures c.in_ok-add.ensures.ok);
+  unruled = λ number state small. absurd (omega (arith, small));
+}
+
+pub loop-at-preserved : goal.loop-at-preserved
+loop-at-preserved c =
+    let task = c.args.t.now in
+    let rules = c.args.rules.now in
+    let old = c.loop-at.states in
+    let new = c.visit.new.states in
+    let at = c.loop-at.at in
+    let state = c.copy_from.new.self in
+    let walk = c.loop-at.invariant.walk in
+    let there : slice_get old at ≡ Some state = subst (λ (s : List Bool). slice_get old at ≡ Some s) (sym c.copy_from.ensures) c.get.ensures in
+    let visits = c.in_ok-ruled.ensures.visits in
+    let reached = walk.reached state (Contains_numbered old at state there) in
+    let kept = grown_keeps _ old new visits.grows at state there in
+    record {
+      long = reached_long task (selected rules) state reached;
+      next_long = c.in_ok-ruled.ensures.same_length ∙ c.loop-at.invariant.next_long;
+      done = (let within = slice_get_within new at state kept in omega (arith, within));
+      walk = walk_more task rules old new at state c.in_ok-ruled.ruled there visits walk;
+      unruled = subst (IsOpenAmong task rules new (at + 1)) (sym c.first_of-unruled.ensures) (open_more task rules old new at state c.in_ok-ruled.ruled c.loop-at.unruled there visits walk c.loop-at.invariant.unruled);
+    }
+
+pub returns : goal.returns
+returns c =
+    let task = c.args.t.now in
+    let rules = c.args.rules.now in
+    let states = c.loop-at.states in
+    let end : length states ≤ c.loop-at.at = omega (arith, c.loop-at-test.false, c.len.ensures.counted) in
+    let walk = c.loop-at.invariant.walk in (
+      record {
+        states = states;
+        once = c.len.ensures.distinct;
+        reached = walk.reached;
+        all = walk_all task rules states c.loop-at.at end walk;
+        counted = sym c.len-3.ensures.counted;
+      },
+      omega (arith, c.if-from-bound-2.false, c.from-2.ensures, c.len-2.ensures.counted, c.len-3.ensures.counted),
+      open_one task rules states c.loop-at.at c.loop-at.unruled c.in_ok-copy_numbered.field-0 end walk c.loop-at.invariant.unruled c.in_ok-copy_numbered.ensures,
+    )

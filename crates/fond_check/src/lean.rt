@@ -1,0 +1,68 @@
+//! Whether all pairs and rules of a certificate are lean.
+
+ghost use Rattle.fond_check.specs.Verdicts.{AreLean};
+ghost use Rattle.fond_game.specs.Rules.{IsLeanPair, IsLeanRule};
+ghost use Rattle.fond_game.specs.declared.rule.Pair.{Pair};
+ghost use Rattle.fond_game.specs.declared.rule.Rule.{Rule};
+ghost use Rattle.fond_layers.specs.Over.{AreOver};
+ghost use Rattle.fond_rules.specs.Belongs.{ArePairsOver, BelongTo};
+ghost use Rattle.std.specs.Prelude.{◌≡◌, ℕ, length, slice_get, Some, Contains, Decides};
+
+use crate::parts::is_lean_pair;
+use fond_layers::layers::Layers;
+use fond_rules::pad::Pad;
+use fond_rules::pairs::Pairs;
+use fond_rules::rules::Rules;
+use fond_rules::sure_rules::lean_rule;
+use fond_task::task::Task;
+
+/// Whether all pairs are lean.
+fn are_pairs_lean(t: &Task, layers: &Layers, pairs: &Pairs, pad: &mut Pad) -> bool
+    requires over { AreOver (length t.now.atoms) layers.now }
+    requires pairs_over { ArePairsOver (length t.now.atoms) pairs.now }
+    requires pad { pad.old ≡ length t.now.atoms }
+    ensures same_pad { pad.new ≡ pad.old }
+    ensures decides { Decides result ((pair : Pair) → Contains pairs.now pair → IsLeanPair t.now layers.now pair) }
+{
+    for at in 0..pairs.len() {
+        if !is_lean_pair(t, layers, pairs.get(at), pad) {
+            return false;
+        }
+    }
+    true
+}
+
+/// Whether all rules are lean.
+fn are_rules_lean(t: &Task, pairs: &Pairs, rules: &Rules, pad: &mut Pad) -> bool
+    requires pairs_over { ArePairsOver (length t.now.atoms) pairs.now }
+    requires belong { BelongTo t.now rules.now }
+    requires pad { pad.old ≡ length t.now.atoms }
+    ensures same_pad { pad.new ≡ pad.old }
+    ensures decides { Decides result ((number : ℕ) (rule : Rule) → slice_get rules.now number ≡ Some rule → IsLeanRule t.now pairs.now rules.now number rule) }
+{
+    for at in 0..rules.len() {
+        if !lean_rule(t, pairs, rules, at, rules.get(at), pad) {
+            return false;
+        }
+    }
+    true
+}
+
+/// Whether all pairs and rules are lean. Takes, for each pair and rule, the time of its test once for each of its
+/// literals.
+pub(crate) fn are_lean(
+    t: &Task,
+    layers: &Layers,
+    pairs: &Pairs,
+    rules: &Rules,
+    pad: &mut Pad,
+) -> bool
+    requires over { AreOver (length t.now.atoms) layers.now }
+    requires pairs_over { ArePairsOver (length t.now.atoms) pairs.now }
+    requires belong { BelongTo t.now rules.now }
+    requires pad { pad.old ≡ length t.now.atoms }
+    ensures same_pad { pad.new ≡ pad.old }
+    ensures decides { Decides result (AreLean t.now layers.now pairs.now rules.now) }
+{
+    are_pairs_lean(t, layers, pairs, pad) && are_rules_lean(t, pairs, rules, pad)
+}
