@@ -6,5 +6,6 @@
 pub mod check;
 mod lean;
 mod parts;
+pub mod text;
 pub mod verdict;
 mod walk;

@@ -1,0 +1,36 @@
+-- How verdicts are written.
+use Rattle.std.specs.Prelude.{ℕ, List, [], ◌++◌, Bool, true, false, codes, slice_get}
+use Rattle.std.specs.Fmt.{decimal}
+use Rattle.std.specs.Option.{option_map_or}
+use Rattle.fond_task.specs.declared.task.Task.{Task}
+use Rattle.fond_task.specs.Texts.{action_text, state_text}
+use Rattle.fond_cert.specs.declared.cert.Cert.{Cert}
+use Rattle.fond_cert.specs.declared.cert.Cert.TheVariants.{Policy, Refusal}
+use Rattle.fond_check.specs.declared.verdict.Verdict.{Verdict}
+use Rattle.fond_check.specs.declared.verdict.Verdict.TheVariants.{Accepted, Rule, Pair, LayerGoal, LayerAct, NoRule, Count, Outside}
+
+-- the line for a certificate that is accepted: a refusal, or a policy that is lean or not
+abbrev pub accepted_text : Cert → Bool → List ℕ
+accepted_text (Refusal layers) lean = codes "accepted refusal\n"
+accepted_text (Policy layers pairs rules reach) true = codes "accepted policy lean\n"
+accepted_text (Policy layers pairs rules reach) false = codes "accepted policy plain\n"
+
+-- the text of the action of this number
+abbrev pub numbered_text : Task → ℕ → List ℕ
+numbered_text task number = option_map_or (λ act. action_text task.labels act.ground) (slice_get task.acts number) []
+
+-- the line for a cube that is not sure, up to what is wrong with it
+abbrev pub cube_text : ℕ → ℕ → List ℕ
+cube_text layer cube = codes "rejected V3 layer " ++ decimal layer ++ codes " cube " ++ decimal cube ++ codes " "
+
+-- the text of a verdict on a certificate
+abbrev pub verdict_text : Task → Cert → Verdict → List ℕ
+verdict_text task cert (Accepted lean) = accepted_text cert lean
+verdict_text task cert (LayerGoal layer cube) = cube_text layer cube ++ codes "goal\n"
+verdict_text task cert (LayerAct layer cube act) = cube_text layer cube ++ numbered_text task act ++ codes "\n"
+verdict_text task cert (Pair number) = codes "rejected V2 pair " ++ decimal number ++ codes "\n"
+verdict_text task cert (Rule number) = codes "rejected V1 rule " ++ decimal number ++ codes "\n"
+verdict_text task cert (Count true) = codes "rejected V5 more\n"
+verdict_text task cert (Count false) = codes "rejected V5 fewer\n"
+verdict_text task cert (NoRule state) = codes "rejected V4\n" ++ state_text task state
+verdict_text task cert Outside = codes "rejected V6\n"
