@@ -8,9 +8,13 @@ mod argument_tests;
 #[cfg(test)]
 mod atom_tests;
 #[cfg(test)]
+mod check_tests;
+#[cfg(test)]
 mod domain_tests;
 #[cfg(test)]
 mod ground_tests;
+#[cfg(test)]
+mod line_tests;
 #[cfg(test)]
 mod name_tests;
 #[cfg(test)]
@@ -29,6 +33,8 @@ mod run_tests;
 mod side_tests;
 #[cfg(test)]
 mod succ_tests;
+#[cfg(test)]
+mod tasks;
 #[cfg(test)]
 mod term_tests;
 #[cfg(test)]

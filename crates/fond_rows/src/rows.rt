@@ -25,6 +25,9 @@ pub const FLIP: [&str; 4] = ["succ", "domain", "problem", "(flip)"];
 /// The words of `run` over five files.
 pub const RUN: [&str; 6] = ["run", "domain", "problem", "side", "cert", "script"];
 
+/// The words of `check` over four files.
+pub const CHECK: [&str; 5] = ["check", "domain", "problem", "side", "cert"];
+
 /// A worked example: the words, the files of the shelf by name and text, and the status and the text of the answer.
 #[derive(Clone, Copy)]
 pub struct Row<'a> {

@@ -8,12 +8,16 @@ use Rattle.fond_meaning.specs.Truths.{holds}
 use Rattle.fond_tool.specs.declared.status.Status.{Status}
 use Rattle.fond_tool.specs.declared.status.Status.TheVariants.{Done, Unsolvable, Undecided, Refused, BadWords, ReadFault, WriteFault, Rejected, Stopped, NoMemory}
 use Rattle.fond_tool.specs.declared.words.Command.{Command}
-use Rattle.fond_tool.specs.declared.words.Command.TheVariants.{Succ, Run}
+use Rattle.fond_tool.specs.declared.words.Command.TheVariants.{Succ, Run, Check}
 use Rattle.fond_tool.specs.Commands.{CommandReply}
 use Rattle.fond_tool.specs.Ends.{ToolReply, Ends, Writes}
 use Rattle.fond_tool.specs.Fetches.{Reads}
 use Rattle.fond_tool.specs.Replies.{Reply}
 use Rattle.fond_task.specs.declared.task.Task.{Task}
+use Rattle.fond_check.specs.declared.verdict.Verdict.{Verdict}
+use Rattle.fond_check.specs.declared.verdict.Verdict.TheVariants.{Accepted, Rule, Pair, LayerGoal, LayerAct, NoRule, Count, Outside}
+use Rattle.fond_tool.specs.Certified.{TaskReply}
+use Rattle.fond_tool.specs.Checks.{AnswersCheck, CheckReply, verdict_status}
 use Rattle.fond_tool.specs.Runs.{AnswersRun, RunReply}
 use Rattle.fond_tool.specs.Successors.{AnswersAction, AnswersWord, SuccReply}
 
@@ -45,8 +49,27 @@ game_status task (AnswersRun.bad_script read byte is fault) = refl
 game_status task (AnswersRun.ran read numbers lines last is spelled trace) = end_status (holds last [] task.goal)
 
 run_status : {texts : TaskTexts} {cert script : List ℕ} {reply : Reply} → RunReply texts cert script reply → is_reply_status reply.status ≡ true
-run_status (RunReply.refused fault first) = refl
-run_status (RunReply.answered task game reply of answers) = game_status task answers
+run_status (TaskReply.refused fault first) = refl
+run_status (TaskReply.answered task game reply of answers) = game_status task answers
+
+fault_status : (verdict : Verdict) → is_reply_status (verdict_status verdict) ≡ true
+fault_status (Accepted lean) = refl
+fault_status (LayerGoal layer cube) = refl
+fault_status (LayerAct layer cube act) = refl
+fault_status (Pair number) = refl
+fault_status (Rule number) = refl
+fault_status (Count more) = refl
+fault_status (NoRule state) = refl
+fault_status Outside = refl
+
+judged_status : {task : LiftedTask} {game : Task} {cert : List ℕ} {reply : Reply} → AnswersCheck task game cert reply → is_reply_status reply.status ≡ true
+judged_status (AnswersCheck.bad_cert code byte fault) = refl
+judged_status (AnswersCheck.accepted read lean spelled found claim) = refl
+judged_status (AnswersCheck.rejected read verdict spelled found fault) = fault_status verdict
+
+check_status : {texts : TaskTexts} {cert : List ℕ} {reply : Reply} → CheckReply texts cert reply → is_reply_status reply.status ≡ true
+check_status (TaskReply.refused fault first) = refl
+check_status (TaskReply.answered task game reply of answers) = judged_status answers
 
 command_status : (command : Command) (given contents : List (List ℕ)) (reply : Reply) → CommandReply command given contents reply → is_reply_status reply.status ≡ true
 command_status Succ (d ∷ p ∷ action ∷ []) (domain ∷ problem ∷ []) reply h = succ_status h
@@ -64,6 +87,12 @@ command_status Run given (domain ∷ problem ∷ side ∷ []) reply h = absurd h
 command_status Run given (domain ∷ problem ∷ side ∷ cert ∷ []) reply h = absurd h
 command_status Run given (domain ∷ problem ∷ side ∷ cert ∷ script ∷ []) reply h = run_status h
 command_status Run given (domain ∷ problem ∷ side ∷ cert ∷ script ∷ other ∷ others) reply h = absurd h
+command_status Check given [] reply h = absurd h
+command_status Check given (domain ∷ []) reply h = absurd h
+command_status Check given (domain ∷ problem ∷ []) reply h = absurd h
+command_status Check given (domain ∷ problem ∷ side ∷ []) reply h = absurd h
+command_status Check given (domain ∷ problem ∷ side ∷ cert ∷ []) reply h = check_status h
+command_status Check given (domain ∷ problem ∷ side ∷ cert ∷ other ∷ others) reply h = absurd h
 
 -- no reply has the status of a write fault, or of memory that ran out
 pub reply_status : {words : List (List ℕ)} {reads : Reads} {reply : Reply} → ToolReply words reads reply → is_reply_status reply.status ≡ true

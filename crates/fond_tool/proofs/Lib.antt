@@ -1,4 +1,5 @@
 mod Answered
+mod Checks
 mod Ends
 mod Fitting
 mod Lists

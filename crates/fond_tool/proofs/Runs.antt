@@ -32,7 +32,8 @@ use Rattle.fond_tool.specs.declared.status.Status.TheVariants.{Done, Stopped}
 use Rattle.fond_tool.specs.GroundRuns.{ground_reply}
 use Rattle.fond_tool.specs.Rejections.{Rejects, of_cert, of_script}
 use Rattle.fond_tool.specs.Replies.{Reply, trace_reply}
-use Rattle.fond_tool.specs.Runs.{AnswersRun, IsCertText, rules_of}
+use Rattle.fond_tool.specs.Certified.{IsCertText, rules_of}
+use Rattle.fond_tool.specs.Runs.{AnswersRun}
 
 -- the last state of a trace has a truth value for each atom
 last_long : (game : Task) (rules : List Rule) (values : List Bool) (numbers lines : List ℕ) (last : List Bool) → IsState game values → steps.Trace game rules values numbers lines last → IsState game last

@@ -1,7 +1,8 @@
 -- What each command replies.
 use Rattle.std.specs.Prelude.{ℕ, List, [], ◌∷◌}
 use Rattle.fond_tool.specs.declared.words.Command.{Command}
-use Rattle.fond_tool.specs.declared.words.Command.TheVariants.{Succ, Run}
+use Rattle.fond_tool.specs.declared.words.Command.TheVariants.{Succ, Run, Check}
+use Rattle.fond_tool.specs.Checks.{CheckReply}
 use Rattle.fond_tool.specs.Replies.{Reply}
 use Rattle.fond_tool.specs.Runs.{RunReply}
 use Rattle.fond_tool.specs.Successors.{SuccReply}
@@ -11,4 +12,5 @@ use Rattle.fond_tool.specs.Successors.{SuccReply}
 abbrev pub CommandReply : Command → List (List ℕ) → List (List ℕ) → Reply → Type 0
 CommandReply Succ (d ∷ p ∷ action ∷ []) (domain ∷ problem ∷ []) = SuccReply (record { domain = domain; problem = problem; side = [] }) action
 CommandReply Run given (domain ∷ problem ∷ side ∷ cert ∷ script ∷ []) = RunReply (record { domain = domain; problem = problem; side = side }) cert script
+CommandReply Check given (domain ∷ problem ∷ side ∷ cert ∷ []) = CheckReply (record { domain = domain; problem = problem; side = side }) cert
 CommandReply command given contents = λ reply. ⊥

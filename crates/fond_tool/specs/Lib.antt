@@ -1,3 +1,5 @@
+pub mod Certified
+pub mod Checks
 pub mod Commands
 pub mod Ends
 pub mod Fetches

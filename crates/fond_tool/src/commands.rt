@@ -7,6 +7,7 @@ ghost use Rattle.std.specs.List.{AllZip};
 ghost use Rattle.std.specs.Prelude.{◌≡◌, length, IfOk, IfErr};
 
 use crate::answer::Answer;
+use crate::check::check_cert;
 use crate::fetch::Content;
 use crate::rejection::Rejection;
 use crate::run::run;
@@ -56,6 +57,10 @@ pub fn do_command(
         Command::Run => {
             let texts = task_texts(alloc, domain, problem, contents[2].bytes())?;
             run(alloc, &texts, contents[3].bytes(), contents[4].bytes())
+        }
+        Command::Check => {
+            let texts = task_texts(alloc, domain, problem, contents[2].bytes())?;
+            check_cert(alloc, &texts, contents[3].bytes())
         }
     }
 }

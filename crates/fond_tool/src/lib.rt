@@ -4,6 +4,7 @@
 #![tactic(auto)]
 
 mod answer;
+mod check;
 mod commands;
 mod fetch;
 mod rejection;

@@ -5,7 +5,8 @@ ghost use Rattle.fond_rules.specs.Belongs.{BelongTo};
 ghost use Rattle.fond_tool.specs.Rejections.{Rejects};
 ghost use Rattle.fond_tool.specs.GroundRuns.{ground_reply};
 ghost use Rattle.fond_ground.specs.Grounds.{IsGroundOf};
-ghost use Rattle.fond_tool.specs.Runs.{AnswersRun, RunReply, rules_of as all_rules_of};
+ghost use Rattle.fond_tool.specs.Certified.{rules_of as all_rules_of};
+ghost use Rattle.fond_tool.specs.Runs.{AnswersRun, RunReply};
 ghost use Rattle.std.specs.Prelude.{◌≡◌, ℕ, Bool, List, IfOk, IfErr};
 
 use crate::answer::Answer;

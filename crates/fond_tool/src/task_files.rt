@@ -1,7 +1,7 @@
 //! Reading a task and grounding it.
 
 ghost use Rattle.fond_text.specs.Faults.{Refuses};
-ghost use Rattle.fond_tool.specs.Runs.{DescribeGround};
+ghost use Rattle.fond_tool.specs.Certified.{DescribeGround};
 ghost use Rattle.fond_tool.specs.Tasks.{IsRefusal};
 ghost use Rattle.std.specs.Prelude.{IfOk, IfErr};
 

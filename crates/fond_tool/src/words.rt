@@ -15,6 +15,7 @@ use std::alloc::Global;
 pub enum Command {
     Succ,
     Run,
+    Check,
 }
 
 /// What a word after a command's own has to be.
@@ -38,6 +39,14 @@ const RUN: [WordKind; 5] = [
     WordKind::File,
 ];
 
+/// The kinds of the words of `check`.
+const CHECK: [WordKind; 4] = [
+    WordKind::File,
+    WordKind::File,
+    WordKind::File,
+    WordKind::File,
+];
+
 impl Command {
     /// The command of a word.
     fn of_word(word: &Word) -> Option<Command>
@@ -46,6 +55,7 @@ impl Command {
         match word.bytes() {
             b"succ" => Some(Command::Succ),
             b"run" => Some(Command::Run),
+            b"check" => Some(Command::Check),
             _ => None,
         }
     }
@@ -57,6 +67,7 @@ impl Command {
         match self {
             Command::Succ => &SUCC,
             Command::Run => &RUN,
+            Command::Check => &CHECK,
         }
     }
 
@@ -67,6 +78,7 @@ impl Command {
         match self {
             Command::Succ => 2,
             Command::Run => 5,
+            Command::Check => 4,
         }
     }
 }

@@ -2,6 +2,7 @@ use Rattle.std.proofs.lemmas.Result.{IfErr-weaker, IfOk-weaker}
 use Rattle.fond_text.specs.declared.fault.Fault.{Fault}
 use Rattle.fond_tool.specs.Rejections.{of_files}
 use Rattle.fond_tool.specs.Replies.{Reply}
+use Rattle.fond_tool.specs.Certified.{TaskReply}
 use Rattle.fond_tool.specs.Runs.{RunReply}
 use Rattle.fond_tool.specs.Tasks.{IsRefusal}
 use Rattle.fond_tool.proofs.Rejections.{files_rejected, rejected_by, rejects_also}
@@ -12,16 +13,16 @@ returns-in_err-files-clause-rejected c =
     let holds = RunReply c.args.texts.now c.args.cert.now c.args.script.now in
     let error = c.in_err-files.field-0.0 in
     rejected_by _ (of_files error) holds c.from_residual.ensures.1
-    (files_rejected holds (IsRefusal c.args.texts.now) (λ (fault : Fault) first. RunReply.refused fault first) error c.in_err-files.ensures.refused)
+    (files_rejected holds (IsRefusal c.args.texts.now) (λ (fault : Fault) first. TaskReply.refused fault first) error c.in_err-files.ensures.refused)
 
 pub certified_trace-requires : goal.certified_trace-requires
 certified_trace-requires c = c.in_ok-files.ensures.read.1
 
 pub returns-clause-replied : goal.returns-clause-replied
 returns-clause-replied c =
-    IfOk-weaker c.certified_trace.result _ _ (λ (reply : Reply) answers. RunReply.answered c.in_ok-files.files.task c.in_ok-files.files.game reply c.in_ok-files.ensures.read answers) c.certified_trace.ensures.replied
+    IfOk-weaker c.certified_trace.result _ _ (λ (reply : Reply) answers. TaskReply.answered c.in_ok-files.files.task c.in_ok-files.files.game reply c.in_ok-files.ensures.read answers) c.certified_trace.ensures.replied
 
 pub returns-clause-rejected : goal.returns-clause-rejected
 returns-clause-rejected c =
     IfErr-weaker c.certified_trace.result _ _
-    (λ rejection. rejects_also _ _ rejection (λ (reply : Reply) answers. RunReply.answered c.in_ok-files.files.task c.in_ok-files.files.game reply c.in_ok-files.ensures.read answers)) c.certified_trace.ensures.rejected
+    (λ rejection. rejects_also _ _ rejection (λ (reply : Reply) answers. TaskReply.answered c.in_ok-files.files.task c.in_ok-files.files.game reply c.in_ok-files.ensures.read answers)) c.certified_trace.ensures.rejected

@@ -1,0 +1,67 @@
+//! Small tasks, each by its domain, problem and side list, and the check of certificates over them.
+
+use crate::rows::{CHECK, COIN, COIN_P, Row, check};
+use std::alloc::Global;
+use std::process::Abort;
+use std::test::Fail;
+
+const WON_P: &str = "(define (problem w) (:domain coin) (:init (heads)) (:goal (heads)))\n";
+
+const MIX: &str =
+    "(define (domain mix) (:predicates (ready) (left) (right) (done))\n(:action try :effect (oneof (ready) (and)))\n(:action split :precondition (ready) :effect (oneof\n(and (not (ready)) (left)) (and (not (ready)) (right))))\n(:action fixl :precondition (left) :effect (oneof (done) (and)))\n(:action fixr :precondition (right) :effect (oneof (done) (and))))\n";
+
+const MIX_P: &str = "(define (problem m) (:domain mix) (:goal (done)))\n";
+
+const PIT: &str =
+    "(define (domain pit) (:predicates (g) (pit))\n(:action jump :precondition (not (pit)) :effect (oneof (g) (pit))))\n";
+
+const PIT_P: &str = "(define (problem p) (:domain pit) (:goal (g)))\n";
+
+const DETOUR: &str =
+    "(define (domain detour) (:predicates (g) (pit) (near))\n(:action jump :precondition (not (pit)) :effect (oneof (g) (pit)))\n(:action walk :precondition (not (pit)) :effect (oneof (near) (and)))\n(:action enter :precondition (near) :effect (g)))\n";
+
+const DETOUR_P: &str = "(define (problem d) (:domain detour) (:goal (g)))\n";
+
+const SWAP: &str =
+    "(define (domain swap) (:predicates (p) (q))\n(:action left :precondition (q) :effect (and (p) (not (q))))\n(:action right :precondition (p) :effect (and (q) (not (p)))))\n";
+
+const SWAP_P: &str = "(define (problem s) (:domain swap) (:init (p)) (:goal (and (p) (q))))\n";
+
+/// The coin with a fair action.
+pub const COIN_FILES: [&str; 3] = [COIN, COIN_P, ""];
+/// The coin with an unfair action.
+pub const UNFAIR_FILES: [&str; 3] = [COIN, COIN_P, "flip\n"];
+/// The coin at a goal.
+pub const WON_FILES: [&str; 3] = [COIN, WON_P, ""];
+/// A fair action, and one for which an opponent picks.
+pub const MIX_FILES: [&str; 3] = [MIX, MIX_P, "split\n"];
+/// A jump that may end in a pit.
+pub const PIT_FILES: [&str; 3] = [PIT, PIT_P, ""];
+/// The pit with a way around it.
+pub const DETOUR_FILES: [&str; 3] = [DETOUR, DETOUR_P, ""];
+/// Two states that lead into each other.
+pub const SWAP_FILES: [&str; 3] = [SWAP, SWAP_P, ""];
+
+/// Certificates with their names and files are answered with these statuses and texts.
+pub fn check_all(
+    rt: &impl Abort,
+    alloc: Global,
+    table: &[(&str, [&str; 3], &str, u8, &str)],
+) -> Result<(), Fail> {
+    for &(name, [domain, problem, side], cert, status, text) in table {
+        let row = Row {
+            name,
+            words: &CHECK,
+            files: &[
+                ("domain", domain),
+                ("problem", problem),
+                ("side", side),
+                ("cert", cert),
+            ],
+            status,
+            text,
+        };
+        check(rt, alloc, row)?;
+    }
+    Ok(())
+}

@@ -1,0 +1,39 @@
+-- Certificates of the task that three texts describe, and what a correct one claims of it.
+use Rattle.std.specs.Prelude.{◌≡◌, ℕ, List, []}
+use Rattle.fond_text.specs.declared.fault.Fault.{Fault}
+use Rattle.fond_ast.specs.declared.task.LiftedTask.{LiftedTask}
+use Rattle.fond_meaning.specs.Solutions.{IsSolution, IsSolvable}
+use Rattle.fond_task.specs.declared.task.Task.{Task}
+use Rattle.fond_game.specs.declared.rule.Rule.{Rule}
+use Rattle.fond_cert.specs.Belongs.{Belongs}
+use Rattle.fond_cert.specs.Spellings.{spelling}
+use Rattle.fond_cert.specs.declared.cert.Cert.{Cert}
+use Rattle.fond_cert.specs.declared.cert.Cert.TheVariants.{Policy, Refusal}
+use Rattle.fond_ground.specs.Grounds.{IsGroundOf}
+use Rattle.fond_bridge.specs.Solutions.{rules_policy}
+use Rattle.fond_front.specs.declared.texts.TaskTexts.{TaskTexts}
+use Rattle.fond_tool.specs.Tasks.{Describe, IsRefusal}
+use Rattle.fond_tool.specs.Replies.{Reply, fault_reply}
+
+-- three texts describe a task, and this is its ground task, over whose numbered atoms and actions certificates are written
+abbrev pub DescribeGround : TaskTexts → LiftedTask → Task → Type 0
+DescribeGround texts task game = Describe texts task × IsGroundOf task game
+
+-- a text is that of a certificate of a ground task
+abbrev pub IsCertText : Task → Cert → List ℕ → Type 0
+IsCertText game cert text = Belongs game cert × (text ≡ spelling game cert)
+
+-- the rules of a certificate; a refusal has none
+abbrev pub rules_of : Cert → List Rule
+rules_of (Policy layers pairs rules reach) = rules
+rules_of (Refusal layers) = []
+
+-- what a certificate claims of a task with this ground task: that its rules are a solution, or that no policy is one
+abbrev pub Claim : LiftedTask → Task → Cert → Type 0
+Claim task game (Policy layers pairs rules reach) = IsSolution task (rules_policy task game rules)
+Claim task game (Refusal layers) = ¬ IsSolvable task
+
+-- the reply of a command that works on a task: a refusal of its files, or an answer in the task that they describe
+pub data TaskReply (texts : TaskTexts) (Answers : LiftedTask → Task → Reply → Type 0) : Reply → Type 0 where
+  refused : (fault : Fault) → IsRefusal texts fault → TaskReply texts Answers (fault_reply fault)
+  answered : (task : LiftedTask) (game : Task) (reply : Reply) → DescribeGround texts task game → Answers task game reply → TaskReply texts Answers reply
