@@ -1,0 +1,4 @@
+pub mod Members
+pub mod Kept
+pub mod Found
+pub mod Searched
