@@ -2,3 +2,4 @@ pub mod First
 pub mod Linked
 pub mod SureTargets
 pub mod Earlier
+pub mod Joined
