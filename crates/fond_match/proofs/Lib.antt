@@ -2,3 +2,5 @@ pub mod Members
 pub mod Kept
 pub mod Found
 pub mod Searched
+pub mod Joined
+pub mod Grown

@@ -1,30 +1,28 @@
-use Rattle.std.proofs.Common.{◌≡◌, ◌∙◌, ℕ, ◌<◌, List, Bool, true, false, Option, Some, None, length, map, cond, ap, sym}
-use Rattle.std.specs.Prelude.{Contains, nat_lt, slice_get}
-use Rattle.std.proofs.lemmas.Bool.{lt-ltb, le-ltb}
-use Rattle.std.proofs.lemmas.Option.{slice_get_within}
-use Rattle.fond_match.specs.Visits.{visits}
-use Rattle.fond_match.proofs.Found.{VisitsPassing, first_found}
-use Rattle.fond_match.proofs.Members.{range_member}
+use Rattle.std.proofs.Common.{◌≡◌, ◌∙◌, ◌+◌, ◌++◌, List, Bool, Some, length, ap, refl, sym}
+use Rattle.std.specs.Prelude.{position}
+use Rattle.fond_match.proofs.Joined.{found_front, found_back, found_none, parts_joined}
 use Rattle.fond_match.proofs.matcher.Matcher.first.Goals as goal
 
-pub returns-then-found-count : goal.returns-then-found-count
-returns-then-found-count g c =
-    let items = c.args.items.now in
-    let query = c.args.query.now in
-    let has = g.Q.Query.has query in
-    let found = c.search-found.result in
-    let cubes = map g.T.HasCube.cube items in
-    let complete : VisitsPassing g.T.HasCube.cube (g.Q.Query.lies query) (visits has c.args.self.now.root) items = λ number own at lies.
-    c.requires.of.complete has number own at (λ atom sign is. g.met.Q.Query.has_each query own atom sign lies is) (range_member (length cubes) number (slice_get_within cubes number own at)) in
-    ap (λ b. cond b (Some found) None) (sym (lt-ltb found (length items) c.if-found-count.true)) ∙ sym (first_found g.T.HasCube.cube (g.Q.Query.lies query) (visits has c.args.self.now.root) items found complete c.search-found.ensures.least)
+pub returns-in-Some : goal.returns-in-Some
+returns-in-Some g c =
+    let test = λ (item : g.row.T.Denot). g.Q.Query.lies c.args.query.now (g.T.HasCube.cube item) in
+    let front = c.split_at.result.0.now in
+    let back = c.split_at.result.1.now in
+    let joined = parts_joined c.args.self.now.count front back c.args.items.now c.args.items.now c.split_at.ensures.front c.split_at.ensures.back refl in
+    sym (found_front test front back c.in-Some.number (sym c.in-Some.ensures)) ∙ ap (position test) joined
 
-pub returns-else-found-count : goal.returns-else-found-count
-returns-else-found-count g c =
-    let items = c.args.items.now in
-    let query = c.args.query.now in
-    let has = g.Q.Query.has query in
-    let found = c.search-found.result in
-    let cubes = map g.T.HasCube.cube items in
-    let complete : VisitsPassing g.T.HasCube.cube (g.Q.Query.lies query) (visits has c.args.self.now.root) items = λ number own at lies.
-    c.requires.of.complete has number own at (λ atom sign is. g.met.Q.Query.has_each query own atom sign lies is) (range_member (length cubes) number (slice_get_within cubes number own at)) in
-    ap (λ b. cond b (Some found) None) (sym (le-ltb found (length items) c.if-found-count.false)) ∙ sym (first_found g.T.HasCube.cube (g.Q.Query.lies query) (visits has c.args.self.now.root) items found complete c.search-found.ensures.least)
+pub returns-in_err-number : goal.returns-in_err-number
+returns-in_err-number g c =
+    let test = λ (item : g.row.T.Denot). g.Q.Query.lies c.args.query.now (g.T.HasCube.cube item) in
+    let front = c.split_at.result.0.now in
+    let back = c.split_at.result.1.now in
+    let joined = parts_joined c.args.self.now.count front back c.args.items.now c.args.items.now c.split_at.ensures.front c.split_at.ensures.back refl in
+    c.from_residual.ensures ∙ sym (found_none test front back (sym c.in_default.ensures) (sym c.in_err-number.ensures)) ∙ ap (position test) joined
+
+pub returns : goal.returns
+returns g c =
+    let test = λ (item : g.row.T.Denot). g.Q.Query.lies c.args.query.now (g.T.HasCube.cube item) in
+    let front = c.split_at.result.0.now in
+    let back = c.split_at.result.1.now in
+    let joined = parts_joined c.args.self.now.count front back c.args.items.now c.args.items.now c.split_at.ensures.front c.split_at.ensures.back refl in
+    sym (found_back test front back c.in_ok-number.number (sym c.in_default.ensures) (sym c.in_ok-number.ensures)) ∙ ap (position test) joined
