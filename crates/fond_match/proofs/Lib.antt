@@ -3,4 +3,3 @@ pub mod Kept
 pub mod Found
 pub mod Searched
 pub mod Joined
-pub mod Grown

@@ -2,4 +2,3 @@ pub mod First
 pub mod Linked
 pub mod SureTargets
 pub mod Earlier
-pub mod Joined

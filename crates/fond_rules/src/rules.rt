@@ -36,20 +36,16 @@ impl HasCube for Item {
     }
 }
 
-/// How many rules are gone through without an index.
-const FEW: usize = 32;
-
 /// Fewer than 2^32 rules, in order. In a state, the first rule whose literals all hold counts. The conditions of the
 /// first rules are indexed.
 #[derive(Drop)]
 pub struct Rules {
     items: Vec<Item>,
-    indexed: usize,
     matcher: Matcher,
 }
 
 impl Model for Rules {
-    ghost use Rattle.std.specs.Prelude.{List, ◌<◌, ◌≤◌, ◌^◌, length, map, take};
+    ghost use Rattle.std.specs.Prelude.{List, ◌<◌, ◌^◌, length, map};
     ghost use Rattle.fond_game.specs.declared.rule.Rule.{Rule};
     ghost use Rattle.fond_match.specs.Matchers.{IsMatcherOf};
 
@@ -57,16 +53,7 @@ impl Model for Rules {
 
     ghost view = { λ l. l.items.items };
 
-    ghost invariant = { λ l. (length l.items.items < 2 ^ 32) × (l.indexed ≤ length l.items.items)
-        × IsMatcherOf (map (λ rule. rule.cond) (take l.indexed l.items.items)) l.matcher };
-}
-
-/// The index of the first of the rules whose literals all hold in the state.
-fn first_of(rules: &[Item], s: &State) -> Option<usize>
-    requires { AreOver (length s.now) rules.now }
-    ensures { result ≡ selected_rule rules.now s.now }
-{
-    rules.iter().position(|item| item.rule.cond.holds(s))
+    ghost invariant = { λ l. (length l.items.items < 2 ^ 32) × IsMatcherOf (map (λ rule. rule.cond) l.items.items) l.matcher };
 }
 
 impl Rules {
@@ -76,7 +63,6 @@ impl Rules {
     {
         Rules {
             items: Vec::new(alloc),
-            indexed: 0,
             matcher: Matcher::new(alloc),
         }
     }
@@ -88,13 +74,7 @@ impl Rules {
     {
         let alloc = *self.items.allocator();
         self.matcher = Matcher::build(alloc, self.items.as_slice())?;
-        self.indexed = self.items.len();
         Ok(())
-    }
-
-    /// Whether more rules are not indexed than are.
-    fn is_behind(&self) -> bool {
-        self.items.len() - self.indexed > FEW.max(self.indexed)
     }
 
     /// Adds a rule at the end. Indexes the rules before it once more of them are not indexed than are, so that adding
@@ -104,7 +84,7 @@ impl Rules {
         ensures ok { OnOk result (self.new ≡ self.old ++ rule ∷ []) }
         ensures err { OnErr result (self.new ≡ self.old) }
     {
-        if self.is_behind() {
+        if self.matcher.is_behind(self.items.len()) {
             self.index()?;
         }
         self.items.push(Item { rule })?;
@@ -167,11 +147,6 @@ impl Rules {
         requires { AreOver (length s.now) self.now }
         ensures { result ≡ selected_rule self.now s.now }
     {
-        let (known, rest) = self.items.split_at(self.indexed);
-        if let Some(number) = self.matcher.first(known, s) {
-            return Some(number);
-        }
-        let number = first_of(rest, s)?;
-        Some((self.indexed + number) as u32)
+        self.matcher.first(self.items.as_slice(), s)
     }
 }
