@@ -1,7 +1,7 @@
 -- What queries still visit after numbers are sorted further.
-use Rattle.std.proofs.Common.{◌≡◌, ℕ, ◌+◌, ◌<◌, List, [], ◌∷◌, ◌++◌, Bool, true, false, Option, Some, All, length, cond, map, take, get_or, append_assoc, refl, sym, ap, ◌∙◌, subst, arith}
+use Rattle.std.proofs.Common.{◌≡◌, ℕ, ◌+◌, ◌<◌, List, [], ◌∷◌, ◌++◌, Bool, true, Option, Some, All, length, cond, map, take, get_or, append_assoc, refl, sym, ap, ◌∙◌, subst, arith}
 use Rattle.std.specs.Prelude.{Contains, slice_get}
-use Rattle.std.specs.List.{flat_map, concat}
+use Rattle.std.specs.List.{concat}
 use Rattle.std.specs.List.Sorted.{IsPermutation}
 use Rattle.std.proofs.lemmas.List.{append-nil, map-append, take_more}
 use Rattle.std.proofs.lemmas.List.Folds.{concat-append}
@@ -16,7 +16,7 @@ use Rattle.fond_match.specs.declared.node.Node.TheOpen.{Node-F}
 use Rattle.fond_match.specs.declared.node.Node.TheViews.{roll-Node}
 use Rattle.fond_match.specs.declared.part.Entry.{Entry}
 use Rattle.fond_match.specs.declared.part.Run.{Run}
-use Rattle.fond_match.specs.Visits.{Keeps, HasEach, enters, entered, visits, visits_of_all}
+use Rattle.fond_match.specs.Visits.{Keeps, enters, entered, visits, visits_of_all}
 use Rattle.fond_match.specs.Runs.{first_visits, picked, run_visits}
 use Rattle.fond_match.proofs.Members.{All-from_members, only_member, both_members, swapped_member, member_if, both_if, permuted}
 use Rattle.fond_match.proofs.Searched.{visits_roll}

@@ -1,5 +1,5 @@
 -- Members of lists that are joined, moved or made from other lists.
-use Rattle.std.proofs.Common.{◌≡◌, ℕ, zero, suc, ◌+◌, ◌<◌, List, [], ◌∷◌, ◌++◌, Bool, true, false, All, length, cond, refl, sym, ap, ◌∙◌, subst, inl, inr, ⊎_elim, arith, add-one}
+use Rattle.std.proofs.Common.{◌≡◌, ℕ, zero, suc, ◌+◌, ◌<◌, List, [], ◌∷◌, ◌++◌, Bool, true, false, All, cond, refl, sym, ap, ◌∙◌, subst, inl, inr, ⊎_elim, arith, add-one}
 use Rattle.std.specs.Prelude.{◌⊎◌, Contains}
 use Rattle.std.specs.List.{flat_map, range_with_len}
 use Rattle.std.specs.List.Sorted.{IsPermutation}

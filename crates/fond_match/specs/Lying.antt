@@ -1,11 +1,10 @@
 -- What lies in a cube has each literal of it.
-use Rattle.std.proofs.Common.{◌≡◌, ℕ, zero, suc, List, [], ◌∷◌, Bool, true, false, not, Option, Some, None, refl, sym, ap, ◌∙◌}
-use Rattle.std.specs.Prelude.{◌&&◌}
+use Rattle.std.proofs.Common.{◌≡◌, ℕ, zero, suc, List, [], ◌∷◌, Bool, true, false, Option, Some, None, refl, ap, ◌∙◌}
 use Rattle.std.specs.Bool.{Decides}
-use Rattle.std.proofs.lemmas.Bool.{and_parts, and_from, false≢true, not-true, not_from_false}
-use Rattle.std.proofs.lemmas.Option.{none-some, same_Some}
+use Rattle.std.proofs.lemmas.Bool.{and_parts, and_from, false≢true}
+use Rattle.std.proofs.lemmas.Option.{none-some}
 use Rattle.fond_text.specs.Bools.{is_same}
-use Rattle.fond_state.specs.Cubes.{LiesIn, CubeLiesIn, truth_at, literal_at, lies_in}
+use Rattle.fond_state.specs.Cubes.{CubeLiesIn, truth_at, literal_at, lies_in}
 use Rattle.fond_state.proofs.Tested.{lies_in-Decides}
 use Rattle.fond_match.specs.Lies.{is_sign, allows, cube_lies_in}
 

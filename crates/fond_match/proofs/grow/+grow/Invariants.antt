@@ -1,4 +1,4 @@
-use Rattle.std.proofs.Common.{◌<◌, ◌++◌, All, length, map, vec_len}
+use Rattle.std.proofs.Common.{◌++◌, map, vec_len}
 use Rattle.fond_match.specs.Runs.{run_visits}
 use Rattle.fond_match.specs.Visits.{Keeps, visits_of_all}
 use Rattle.fond_match.proofs.grow.+grow.Given as goal

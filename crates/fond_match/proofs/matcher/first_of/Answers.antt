@@ -1,4 +1,4 @@
-use Rattle.std.proofs.Common.{◌≡◌, ◌∙◌, ap, sym, arith}
+use Rattle.std.proofs.Common.{◌∙◌, ap, sym, arith}
 use Rattle.fond_match.proofs.Joined.{found_at, found_nowhere}
 use Rattle.fond_match.proofs.matcher.first_of.Goals as goal
 

@@ -1,4 +1,4 @@
-use Rattle.std.proofs.Common.{◌≡◌, ◌∙◌, ◌+◌, ◌++◌, List, Bool, Some, length, ap, refl, sym}
+use Rattle.std.proofs.Common.{◌∙◌, ap, refl, sym}
 use Rattle.std.specs.Prelude.{position}
 use Rattle.fond_match.proofs.Joined.{found_front, found_back, found_none, parts_joined}
 use Rattle.fond_match.proofs.matcher.Matcher.first.Goals as goal

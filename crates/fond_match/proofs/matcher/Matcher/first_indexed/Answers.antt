@@ -1,5 +1,4 @@
-use Rattle.std.proofs.Common.{◌≡◌, ◌∙◌, ℕ, ◌<◌, List, Bool, true, false, Option, Some, None, length, map, fold, cond, ap, sym, arith}
-use Rattle.std.specs.Prelude.{Contains, nat_lt, slice_get}
+use Rattle.std.proofs.Common.{◌∙◌, Some, None, length, map, fold, cond, ap, sym, arith}
 use Rattle.std.proofs.lemmas.Bool.{lt-ltb, le-ltb}
 use Rattle.std.proofs.lemmas.Option.{slice_get_within}
 use Rattle.fond_match.specs.Visits.{better, visits}

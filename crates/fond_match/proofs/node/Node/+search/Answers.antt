@@ -1,4 +1,4 @@
-use Rattle.std.proofs.Common.{◌+◌, drop, map, refl, sym, arith}
+use Rattle.std.proofs.Common.{◌+◌, drop, map, sym, arith}
 use Rattle.fond_match.specs.Visits.{better, visits, visits_of_all}
 use Rattle.fond_match.proofs.Searched.{visits_next, searched_first, searched_more}
 use Rattle.fond_match.proofs.node.Node.+search.Goals as goal
