@@ -6,31 +6,18 @@ ghost use Rattle.fond_layers.specs.Leads.{LiesInSome};
 ghost use Rattle.fond_task.specs.Within.{is_act_within};
 ghost use Rattle.std.specs.Prelude.{◌≡◌, length, Decides, IsTrue};
 
-use crate::layers::Layer;
+use crate::indexed::Indexed;
 use fond_state::cube::Cube;
 use fond_task::image::image_of;
 use fond_task::task::Act;
 
-/// Whether the cube lies in one of the layer's cubes. Takes time in their number times that of the atoms.
-fn lies_in_layer(cube: &Cube, layer: &Layer) -> bool
-    requires { IsOver (length cube.now) layer.now }
-    ensures { Decides result (LiesInLayer cube.now layer.now) }
-{
-    for other in layer.as_slice() {
-        if other.covers(cube) {
-            return true;
-        }
-    }
-    false
-}
-
 /// Whether the cube lies in a cube of one of the layers.
-fn lies_in_some(cube: &Cube, layers: &[Layer]) -> bool
+fn lies_in_some(cube: &Cube, layers: &[Indexed]) -> bool
     requires { AreOver (length cube.now) layers.now }
     ensures { Decides result (LiesInSome cube.now layers.now) }
 {
     for layer in layers {
-        if lies_in_layer(cube, layer) {
+        if layer.has_around(cube) {
             return true;
         }
     }
@@ -40,8 +27,8 @@ fn lies_in_some(cube: &Cube, layers: &[Layer]) -> bool
 /// Whether taking the action in the cube may lead into the layer again or into an earlier one. Computes the image under
 /// each outcome once, in `image`.
 pub(crate) fn forces(
-    earlier: &[Layer],
-    layer: &Layer,
+    earlier: &[Indexed],
+    layer: &Indexed,
     cube: &Cube,
     act: &Act,
     image: &mut Cube,
@@ -60,7 +47,7 @@ pub(crate) fn forces(
         if lies_in_some(image, earlier) {
             return true;
         }
-        let leads = lies_in_layer(image, layer);
+        let leads = layer.has_around(image);
         some_leads |= leads;
         each_leads &= leads;
     }

@@ -2,13 +2,14 @@
 
 ghost use Rattle.fond_game.specs.Certificates.{LiesInLayers};
 ghost use Rattle.fond_game.specs.Layers.{CubeView, IsSureLayer, AreSureLayers};
-ghost use Rattle.fond_layers.specs.Deads.{IsFirstCube, IsFirstDead};
+ghost use Rattle.fond_layers.specs.Deads.{IsFirstDead};
 ghost use Rattle.fond_layers.specs.Faults.{IsSpot, IsLayerFault};
 ghost use Rattle.fond_layers.specs.Over.{IsOver, AreOver};
 ghost use Rattle.fond_state.specs.Cubes.{LiesIn};
 ghost use Rattle.std.specs.Prelude.{◌≡◌, ◌<◌, ◌-◌, ◌^◌, List, [], ◌∷◌, ◌++◌, length, take, slice_get, Some, Contains, Decides, MatchOption, IfErr, OnOk, OnErr};
 
 use crate::fault::{LayerFault, Spot};
+use crate::indexed::Indexed;
 use crate::sure::spot;
 use fond_state::cube::Cube;
 use fond_state::state::State;
@@ -21,11 +22,11 @@ use std::marker::Model;
 /// The cubes of a layer, in order.
 pub type Layer = List<Cube>;
 
-/// Fewer than 2^32 layers, each of fewer than 2^32 cubes, in order. Contracts see them as the list of the lists of their
-/// cubes.
+/// Fewer than 2^32 layers, each of fewer than 2^32 cubes, in order, with an index of each layer's cubes. Contracts see
+/// them as the list of the lists of their cubes.
 #[derive(Drop)]
 pub struct Layers {
-    items: Vec<Layer>,
+    items: Vec<Indexed>,
 }
 
 impl Model for Layers {
@@ -51,20 +52,6 @@ pub fn is_over(layer: &Layer, atoms: usize) -> bool
     true
 }
 
-/// The number of the layer's first cube in which the state lies, if there is one.
-fn first_cube(layer: &Layer, s: &State) -> Option<u32>
-    requires few { length layer.now < 2 ^ 32 }
-    requires over { IsOver (length s.now) layer.now }
-    ensures { MatchOption result ((cube : CubeView) → Contains layer.now cube → ¬ LiesIn s.now cube) (IsFirstCube s.now layer.now) }
-{
-    for (number, cube) in layer.as_slice().iter().enumerate() {
-        if cube.holds(s) {
-            return Some(number as u32);
-        }
-    }
-    None
-}
-
 impl Layers {
     /// A list of no layers. It takes no memory until a layer is added.
     pub fn new(alloc: Global) -> Layers
@@ -88,18 +75,38 @@ impl Layers {
         ensures layer { slice_get self.now i ≡ Some result.now }
         ensures few { length result.now < 2 ^ 32 }
     {
+        self.layer(i).cubes()
+    }
+
+    /// The layer of this number with its index.
+    fn layer(&self, i: u32) -> &Indexed
+        requires { i < length self.now }
+        ensures layer { slice_get self.now i ≡ Some result.now }
+        ensures few { length result.now < 2 ^ 32 }
+    {
         &self.items[i as usize]
     }
 
-    /// Appends a layer, which may be any.
+    /// Appends a layer with its index.
+    fn add(&mut self, layer: Indexed) -> Result<(), NoMemory>
+        requires few_layers { length self.old < 2 ^ 32 - 1 }
+        requires few_cubes { length layer < 2 ^ 32 }
+        ensures ok { OnOk result (self.new ≡ self.old ++ layer ∷ []) }
+        ensures err { OnErr result (self.new ≡ self.old) }
+    {
+        self.items.push(layer)?;
+        Ok(())
+    }
+
+    /// Appends a layer, which may be any, and indexes its cubes. Takes time in their number times that of the atoms.
     pub fn add_raw(&mut self, l: Layer) -> Result<(), NoMemory>
         requires few_layers { length self.old < 2 ^ 32 - 1 }
         requires few_cubes { length l < 2 ^ 32 }
         ensures ok { OnOk result (self.new ≡ self.old ++ l ∷ []) }
         ensures err { OnErr result (self.new ≡ self.old) }
     {
-        self.items.push(l)?;
-        Ok(())
+        let alloc = *self.items.allocator();
+        self.add(Indexed::new(alloc, l))
     }
 
     /// Whether the cubes of all layers are over this many atoms. Takes time in their number.
@@ -107,7 +114,7 @@ impl Layers {
         ensures { Decides result (AreOver atoms self.now) }
     {
         for layer in self.items.as_slice() {
-            if !is_over(layer, atoms) {
+            if !is_over(layer.cubes(), atoms) {
                 return false;
             }
         }
@@ -115,13 +122,13 @@ impl Layers {
     }
 
     /// The numbers of the first layer with a cube in which the state lies, and of the first such cube of it. Takes time
-    /// in the number of cubes times that of the atoms.
+    /// in the number of cubes that share their first literals with the state, times that of the atoms.
     pub fn dead(&self, s: &State) -> Option<(u32, u32)>
         requires { AreOver (length s.now) self.now }
         ensures { MatchOption result (¬ LiesInLayers s.now self.now) (λ r. IsFirstDead s.now self.now r.0 r.1) }
     {
         for (number, layer) in self.items.as_slice().iter().enumerate() {
-            if let Some(cube) = first_cube(layer, s) {
+            if let Some(cube) = layer.first_with(s) {
                 return Some((number as u32, cube));
             }
         }
@@ -140,7 +147,7 @@ impl Layers {
         ensures spot { (layer : List CubeView) → slice_get self.now at ≡ Some layer →
             MatchOption result (IsSureLayer t.now (take at self.now) layer) (IsSpot t.now (take at self.now) layer) }
     {
-        spot(t, &self.items[..at as usize], self.get(at), image)
+        spot(t, &self.items[..at as usize], self.layer(at), image)
     }
 
     /// Appends a layer that is sure above those that are there. Takes the time of `fault`. `image` is overwritten.
@@ -156,10 +163,12 @@ impl Layers {
         ensures err { OnErr result (self.new ≡ self.old) }
         ensures sure { AreSureLayers t.now self.old → AreSureLayers t.now self.new }
     {
-        if let Some(spot) = spot(t, self.items.as_slice(), &l, image) {
+        let alloc = *self.items.allocator();
+        let layer = Indexed::new(alloc, l);
+        if let Some(spot) = spot(t, self.items.as_slice(), &layer, image) {
             return Err(LayerFault::from(spot));
         }
-        self.add_raw(l)?;
+        self.add(layer)?;
         Ok(())
     }
 }

@@ -4,5 +4,6 @@
 
 pub mod fault;
 mod force;
+mod indexed;
 pub mod layers;
 mod sure;

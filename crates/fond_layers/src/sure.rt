@@ -11,14 +11,14 @@ ghost use Rattle.std.specs.Prelude.{◌≡◌, ◌<◌, ◌^◌, length, Contain
 
 use crate::fault::Spot;
 use crate::force::forces;
-use crate::layers::Layer;
+use crate::indexed::Indexed;
 use fond_state::cube::Cube;
 use fond_task::form::Kleene;
 use fond_task::task::{Act, Task};
 use fond_task::value::value;
 
 /// Whether the action escapes from the cube of the layer.
-fn escapes(earlier: &[Layer], layer: &Layer, cube: &Cube, act: &Act, image: &mut Cube) -> bool
+fn escapes(earlier: &[Indexed], layer: &Indexed, cube: &Cube, act: &Act, image: &mut Cube) -> bool
     requires within { IsTrue (is_act_within (length cube.now) act.now) }
     requires earlier_over { AreOver (length cube.now) earlier.now }
     requires layer_over { IsOver (length cube.now) layer.now }
@@ -35,8 +35,8 @@ fn escapes(earlier: &[Layer], layer: &Layer, cube: &Cube, act: &Act, image: &mut
 /// The number of the first action that escapes from the cube of the layer, if there is one.
 fn first_escape(
     t: &Task,
-    earlier: &[Layer],
-    layer: &Layer,
+    earlier: &[Indexed],
+    layer: &Indexed,
     cube: &Cube,
     image: &mut Cube,
 ) -> Option<u32>
@@ -59,8 +59,8 @@ fn first_escape(
 /// What is wrong with the cube of this number, if it is not sure. Tries the goal before the actions.
 fn wrong(
     t: &Task,
-    earlier: &[Layer],
-    layer: &Layer,
+    earlier: &[Indexed],
+    layer: &Indexed,
     number: u32,
     cube: &Cube,
     image: &mut Cube,
@@ -85,7 +85,7 @@ fn wrong(
 /// What is wrong with the layer, if it is not sure above the earlier ones. Takes, for each cube, time in the size of
 /// the goal and the preconditions, and for each outcome of an action that may be applicable, time in its size and in
 /// that of all layers.
-pub(crate) fn spot(t: &Task, earlier: &[Layer], layer: &Layer, image: &mut Cube) -> Option<Spot>
+pub(crate) fn spot(t: &Task, earlier: &[Indexed], layer: &Indexed, image: &mut Cube) -> Option<Spot>
     requires few { length layer.now < 2 ^ 32 }
     requires earlier_over { AreOver (length t.now.atoms) earlier.now }
     requires layer_over { IsOver (length t.now.atoms) layer.now }

@@ -5,27 +5,55 @@ ghost use Rattle.fond_rules.specs.Select.{selected_rule, AreOver};
 ghost use Rattle.std.specs.Prelude.{◌≡◌, ◌<◌, ◌-◌, ◌^◌, List, [], ◌∷◌, ◌++◌, length, slice_get, Some, true, All, IfSome, OnOk, OnErr};
 
 use fond_game::rule::Rule;
+use fond_match::matcher::Matcher;
+use fond_match::query::HasCube;
+use fond_state::cube::Cube;
 use fond_state::state::State;
 use fond_task::task::Task;
 use fond_text::fault::NoMemory;
 use std::alloc::Global;
 use std::marker::Model;
 
-/// Fewer than 2^32 rules, in order. In a state, the first rule whose literals all hold counts.
+/// A rule of a list, indexed by its condition.
+#[derive(Drop)]
+struct Item {
+    rule: Rule,
+}
+
+impl Model for Item {
+    ghost use Rattle.fond_game.specs.declared.rule.Rule.{Rule};
+
+    ghost Value = { Rule };
+
+    ghost view = { λ item. item.rule };
+}
+
+impl HasCube for Item {
+    ghost cube = { λ rule. rule.cond };
+
+    fn cube(&self) -> &Cube {
+        &self.rule.cond
+    }
+}
+
+/// Fewer than 2^32 rules, in order. In a state, the first rule whose literals all hold counts. The conditions of the
+/// first rules are indexed.
 #[derive(Drop)]
 pub struct Rules {
-    items: Vec<Rule>,
+    items: Vec<Item>,
+    matcher: Matcher,
 }
 
 impl Model for Rules {
-    ghost use Rattle.std.specs.Prelude.{List, ◌<◌, ◌^◌, length};
+    ghost use Rattle.std.specs.Prelude.{List, ◌<◌, ◌^◌, length, map};
     ghost use Rattle.fond_game.specs.declared.rule.Rule.{Rule};
+    ghost use Rattle.fond_match.specs.Matchers.{IsMatcherOf};
 
     ghost Value = { List Rule };
 
     ghost view = { λ l. l.items.items };
 
-    ghost invariant = { λ l. length l.items.items < 2 ^ 32 };
+    ghost invariant = { λ l. (length l.items.items < 2 ^ 32) × IsMatcherOf (map (λ rule. rule.cond) l.items.items) l.matcher };
 }
 
 impl Rules {
@@ -35,16 +63,31 @@ impl Rules {
     {
         Rules {
             items: Vec::new(alloc),
+            matcher: Matcher::new(alloc),
         }
     }
 
-    /// Adds a rule at the end.
+    /// Indexes all rules, which makes `select` fast for those that were added since the last time, or leaves the list as
+    /// it was if memory runs out. Takes time in the number of rules times that of atoms.
+    pub fn index(&mut self) -> Result<(), NoMemory>
+        ensures { self.new ≡ self.old }
+    {
+        let alloc = *self.items.allocator();
+        self.matcher = Matcher::build(alloc, self.items.as_slice())?;
+        Ok(())
+    }
+
+    /// Adds a rule at the end. Indexes the rules before it once more of them are not indexed than are, so that adding
+    /// many takes time in their number times that of atoms.
     pub fn push(&mut self, rule: Rule) -> Result<(), NoMemory>
         requires { length self.old < 2 ^ 32 - 1 }
         ensures ok { OnOk result (self.new ≡ self.old ++ rule ∷ []) }
         ensures err { OnErr result (self.new ≡ self.old) }
     {
-        self.items.push(rule)?;
+        if self.matcher.is_behind(self.items.len()) {
+            self.index()?;
+        }
+        self.items.push(Item { rule })?;
         Ok(())
     }
 
@@ -60,7 +103,7 @@ impl Rules {
         requires { i < length self.now }
         ensures { slice_get self.now i ≡ Some result.now }
     {
-        &self.items[i as usize]
+        &self.items[i as usize].rule
     }
 
     /// Whether the conditions of all rules are over this many atoms. Takes time in the number of rules.
@@ -68,8 +111,8 @@ impl Rules {
         ensures yes { result ≡ true → AreOver atoms self.now }
         ensures no { AreOver atoms self.now → result ≡ true }
     {
-        for rule in self.items.as_slice() {
-            if rule.cond.len() != atoms {
+        for item in self.items.as_slice() {
+            if item.rule.cond.len() != atoms {
                 return false;
             }
         }
@@ -81,8 +124,8 @@ impl Rules {
         ensures yes { result ≡ true → All (λ rule. rule.act < acts) self.now }
         ensures no { All (λ rule. rule.act < acts) self.now → result ≡ true }
     {
-        for rule in self.items.as_slice() {
-            if rule.act as usize >= acts {
+        for item in self.items.as_slice() {
+            if item.rule.act as usize >= acts {
                 return false;
             }
         }
@@ -98,24 +141,12 @@ impl Rules {
         self.are_over(task.atoms.len()) && self.are_acts_below(task.acts.len())
     }
 
-    /// The index of the first rule whose literals all hold in the state.
-    fn first(&self, s: &State) -> Option<usize>
-        requires { AreOver (length s.now) self.now }
-        ensures selected { result ≡ selected_rule self.now s.now }
-        ensures within { IfSome result (λ i. i < 2 ^ 32) }
-    {
-        self.items
-            .as_slice()
-            .iter()
-            .position(|rule| rule.cond.holds(s))
-    }
-
     /// The number of the first rule whose literals all hold in the state, if there is one. Takes time in the number of
-    /// rules times that of atoms.
+    /// conditions that share their first literals with the state, times that of the atoms.
     pub fn select(&self, s: &State) -> Option<u32>
         requires { AreOver (length s.now) self.now }
         ensures { result ≡ selected_rule self.now s.now }
     {
-        Some(self.first(s)? as u32)
+        self.matcher.first(self.items.as_slice(), s)
     }
 }

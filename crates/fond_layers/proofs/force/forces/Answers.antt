@@ -29,15 +29,15 @@ loop-outcome-preserved c =
     let outcome = c.outcome-item.result in
     let Misses : List Entry → Type 0 = λ outcome. ¬ LiesInSome (image cube outcome) earlier in
     let InLayer : List Entry → Type 0 = λ outcome. Leads cube outcome layer in
-    let Q : CubeView → Type 0 = λ cube. Decides c.lies_in_layer-leads.result (LiesInLayer cube layer) in
+    let Q : CubeView → Type 0 = λ cube. Decides c.has_around-leads.result (LiesInLayer cube layer) in
     let R : CubeView → Type 0 = λ cube. ¬ LiesInSome cube earlier in
-    let tested = subst Q c.image_of.ensures.image c.lies_in_layer-leads.ensures in
+    let tested = subst Q c.image_of.ensures.image c.has_around-leads.ensures in
     let missed = subst R c.image_of.ensures.image (λ lies. false≢true (c.if-lies_in_some.ensures.1 lies)) in
     record {
       long = c.image_of.ensures.same_length;
       misses = all_more items Misses i outcome c.loop-outcome-test.true c.outcome-item.is missed c.loop-outcome.invariant.misses;
-      some_tried = some_more items InLayer i outcome c.loop-outcome-test.true c.outcome-item.is c.loop-outcome.some_leads c.lies_in_layer-leads.result tested c.loop-outcome.invariant.some_tried;
-      each_tried = each_more items InLayer i outcome c.loop-outcome-test.true c.outcome-item.is c.loop-outcome.each_leads c.lies_in_layer-leads.result tested c.loop-outcome.invariant.each_tried;
+      some_tried = some_more items InLayer i outcome c.loop-outcome-test.true c.outcome-item.is c.loop-outcome.some_leads c.has_around-leads.result tested c.loop-outcome.invariant.some_tried;
+      each_tried = each_more items InLayer i outcome c.loop-outcome-test.true c.outcome-item.is c.loop-outcome.each_leads c.has_around-leads.result tested c.loop-outcome.invariant.each_tried;
     }
 
 pub returns-then-act-clause-decides : goal.returns-then-act-clause-decides

@@ -1,0 +1,10 @@
+use Rattle.std.proofs.Common.{◌≡◌, ◌∙◌, ◌+◌, ◌++◌, ◌∷◌, [], ap, sym, arith}
+use Rattle.std.specs.List.{range_with_len}
+use Rattle.fond_match.proofs.Members.{range_with_len_more}
+use Rattle.fond_match.proofs.matcher.numbers_below.Goals as goal
+
+pub loop-number-preserved : goal.loop-number-preserved
+loop-number-preserved c =
+    let number = c.loop-number.number in
+    let same : number ≡ 0 + number = omega arith in
+    c.in_ok-push.ensures.items ∙ ap (λ ns. ns ++ number ∷ []) c.loop-number.invariant ∙ ap (λ n. range_with_len 0 number ++ n ∷ []) same ∙ sym (range_with_len_more 0 number)

@@ -1,0 +1,5 @@
+pub mod Lies
+pub mod Visits
+pub mod Runs
+pub mod Matchers
+pub mod Lying

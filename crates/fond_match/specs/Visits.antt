@@ -1,0 +1,47 @@
+-- The numbers that a query visits in a tree over literals.
+use Rattle.std.specs.Prelude.{◌≡◌, ◌&&◌, ◌++◌, ℕ, List, [], Bool, true, Option, Some, None, map, Contains, slice_get, slice_index_or, nat_lt, if◌then◌else◌}
+use Rattle.std.specs.List.{concat}
+use Rattle.fond_state.specs.Cubes.{literal_at}
+use Rattle.fond_match.specs.declared.node.Literal.{Literal}
+use Rattle.fond_match.specs.declared.node.Node.{Node}
+use Rattle.fond_match.specs.declared.node.Node.TheOpen.{Node-F}
+use Rattle.fond_match.specs.declared.node.Node.TheFolds.{fold-Node}
+
+-- whether a query with these literals has the literal of a node, if the node has one
+abbrev pub enters : (ℕ → Bool → Bool) → Option Literal → Bool
+enters has None = true
+enters has (Some literal) = has literal.atom literal.sign
+
+-- the numbers behind a literal, if the query has it, or else none
+abbrev pub entered : (ℕ → Bool → Bool) → Option Literal → List ℕ → List ℕ
+entered has literal numbers = if enters has literal then numbers else []
+
+-- one node, with what is visited in its branches
+abbrev pub visits_step : (ℕ → Bool → Bool) → Node-F (List ℕ) → List ℕ
+visits_step has node = entered has node.literal (node.numbers.items ++ concat node.branches.items)
+
+-- the numbers that a query visits in a node: if it has the literal of the node, those at the node and those in its
+-- branches
+abbrev pub visits : (ℕ → Bool → Bool) → Node → List ℕ
+visits has = fold-Node (List ℕ) (visits_step has)
+
+-- the numbers that a query visits in some nodes
+abbrev pub visits_of_all : (ℕ → Bool → Bool) → List Node → List ℕ
+visits_of_all has nodes = concat (map (visits has) nodes)
+
+-- the cube of a number
+abbrev pub cube_at : List (List (Option Bool)) → ℕ → List (Option Bool)
+cube_at cubes number = slice_index_or cubes number []
+
+-- a number if it is below the best one and its cube passes the test, or else the best one
+abbrev pub better : (List (Option Bool) → Bool) → List (List (Option Bool)) → ℕ → ℕ → ℕ
+better lies cubes best number = if nat_lt number best && lies (cube_at cubes number) then number else best
+
+-- a query with these literals has each literal of a cube
+abbrev pub HasEach : (ℕ → Bool → Bool) → List (Option Bool) → Type 0
+HasEach has cube = (atom : ℕ) (sign : Bool) → literal_at cube atom ≡ Some sign → has atom sign ≡ true
+
+-- of the numbers before, each query still visits those of the cubes of which it has each literal, and visits no others
+pub record Keeps (cubes : List (List (Option Bool))) (before after : (ℕ → Bool → Bool) → List ℕ) : Type 0 where
+  pub complete : (has : ℕ → Bool → Bool) (number : ℕ) (cube : List (Option Bool)) → slice_get cubes number ≡ Some cube → HasEach has cube → Contains (before has) number → Contains (after has) number
+  pub within : (has : ℕ → Bool → Bool) (number : ℕ) → Contains (after has) number → Contains (before has) number

@@ -1,0 +1,76 @@
+//! How the tree of an index is built: the numbers at a node are sorted by the first literals of their cubes past the
+//! atoms at which all of these agree. Each cube is gone through row by row, and about once.
+
+ghost use Rattle.fond_match.specs.Visits.{Keeps, entered, visits};
+ghost use Rattle.std.specs.Prelude.{◌≡◌, ◌<◌, All, map, length, IfOk};
+
+use crate::node::{Literal, Node};
+use crate::part::{Parts, part};
+use crate::query::HasCube;
+use fond_state::cube::Cube;
+use fond_text::fault::NoMemory;
+use std::alloc::Global;
+
+/// How many numbers a node keeps without sorting them.
+const FEW: usize = 8;
+
+/// The first of these atoms at which the two cubes differ, or else `end`.
+fn first_difference(cube: &Cube, other: &Cube, from: u32, end: u32) -> u32 {
+    for atom in from..end {
+        if cube.literal(atom) != other.literal(atom) {
+            return atom;
+        }
+    }
+    end
+}
+
+/// The first atom from `from` on at which the cubes of the numbers differ, or the number of atoms. Only how fast a
+/// search is depends on it.
+fn first_split<T: HasCube>(items: &[T], numbers: &[u32], from: u32) -> u32
+    requires { All (λ number. number < length items.now) numbers.now }
+{
+    let Some(first) = numbers.first() else {
+        return from;
+    };
+    let cube = items[*first as usize].cube();
+    let mut end = cube.len() as u32;
+    for number in numbers {
+        end = first_difference(cube, items[*number as usize].cube(), from, end);
+    }
+    end
+}
+
+/// The node of a literal over these numbers, sorted by the literals of their cubes from this atom on, along at most
+/// this many branches.
+pub(crate) fn grow<T: HasCube>(
+    alloc: Global,
+    items: &[T],
+    literal: Option<Literal>,
+    numbers: Vec<u32>,
+    from: u32,
+    depth: u32,
+) -> Result<Node, NoMemory>
+    requires { All (λ number. number < length items.now) numbers.items }
+    ensures { IfOk result (λ node. Keeps (map T.cube items.now) (λ has. entered has literal numbers.items) (λ has. visits has node)) }
+{
+    if numbers.len() <= FEW || depth == 0 {
+        let branches = Vec::new(alloc);
+        return Ok(Node {
+            literal,
+            numbers,
+            branches,
+        });
+    }
+    let split = first_split(items, &numbers, from);
+    let Parts { rest, mut runs } = part(alloc, items, numbers, split)?;
+    let mut branches = Vec::new(alloc);
+    while let Some(run) = runs.pop() {
+        let at = run.literal.atom;
+        branches.push(grow(alloc, items, Some(run.literal), run.numbers, at, depth - 1)?)?;
+    }
+    Ok(Node {
+        literal,
+        numbers: rest,
+        branches,
+    })
+}

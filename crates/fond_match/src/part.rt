@@ -1,0 +1,117 @@
+//! Numbers, sorted by the first literals of their cubes.
+
+ghost use Rattle.fond_match.specs.Runs.{first_visits, picked, run_visits};
+ghost use Rattle.fond_match.specs.Visits.{Keeps, entered};
+ghost use Rattle.fond_state.specs.Cubes.{literal_at};
+ghost use Rattle.std.specs.Prelude.{◌≡◌, ◌<◌, ◌++◌, ℕ, Bool, Some, All, map, length, IfOk, IfSome, OnOk};
+
+use crate::node::Literal;
+use crate::query::HasCube;
+use fond_state::cube::Cube;
+use fond_text::fault::NoMemory;
+use std::alloc::Global;
+
+/// A number, with a literal of its cube.
+#[derive(Clone, Copy, PartialEq, Eq, PartialOrd, Ord)]
+struct Entry {
+    literal: Literal,
+    number: u32,
+}
+
+/// Numbers whose cubes have a literal.
+#[derive(Drop)]
+pub(crate) struct Run {
+    pub(crate) literal: Literal,
+    pub(crate) numbers: Vec<u32>,
+}
+
+/// Numbers in runs by the first literals of their cubes from some atom on, and those whose cubes have none there.
+#[derive(Drop)]
+pub(crate) struct Parts {
+    pub(crate) rest: Vec<u32>,
+    pub(crate) runs: Vec<Run>,
+}
+
+/// The cube's first literal from this atom on.
+fn first_literal(cube: &Cube, from: u32) -> Option<Literal>
+    ensures { IfSome result (λ literal. literal_at cube.now literal.atom ≡ Some literal.sign) }
+{
+    for atom in from..cube.len() as u32 {
+        if let Some(sign) = cube.literal(atom) {
+            return Some(Literal { atom, sign });
+        }
+    }
+    None
+}
+
+/// The numbers whose cubes have no literal from this atom on, and the others, with the first such literals.
+fn entries_of<T: HasCube>(
+    alloc: Global,
+    items: &[T],
+    numbers: &[u32],
+    from: u32,
+) -> Result<(Vec<u32>, Vec<Entry>), NoMemory>
+    requires { All (λ number. number < length items.now) numbers.now }
+    ensures { IfOk result (λ parts. Keeps (map T.cube items.now) (λ _. numbers.now) (λ has. parts.0.items ++ picked has parts.1.items)) }
+{
+    let mut rest = Vec::new(alloc);
+    let mut entries = Vec::new(alloc);
+    for number in numbers {
+        match first_literal(items[*number as usize].cube(), from) {
+            Some(literal) => entries.push(Entry {
+                literal,
+                number: *number,
+            })?,
+            None => rest.push(*number)?,
+        }
+    }
+    Ok((rest, entries))
+}
+
+/// Adds the entry to the last run if that has its literal, and as a run of its own if not.
+fn add(alloc: Global, runs: &mut Vec<Run>, entry: Entry) -> Result<(), NoMemory>
+    ensures { OnOk result ((has : ℕ → Bool → Bool) → run_visits has runs.new.items ≡ run_visits has runs.old.items ++ first_visits has entry) }
+{
+    if let Some(mut run) = runs.pop() {
+        if run.literal == entry.literal {
+            run.numbers.push(entry.number)?;
+            runs.push(run)?;
+            return Ok(());
+        }
+        runs.push(run)?;
+    }
+    let mut numbers = Vec::new(alloc);
+    numbers.push(entry.number)?;
+    runs.push(Run {
+        literal: entry.literal,
+        numbers,
+    })?;
+    Ok(())
+}
+
+/// The entries in runs, where equal literals follow each other.
+fn runs_of(alloc: Global, entries: &[Entry]) -> Result<Vec<Run>, NoMemory>
+    ensures { IfOk result (λ runs. (has : ℕ → Bool → Bool) → run_visits has runs.items ≡ picked has entries.now) }
+{
+    let mut runs = Vec::new(alloc);
+    for entry in entries {
+        add(alloc, &mut runs, *entry)?;
+    }
+    Ok(runs)
+}
+
+/// Sorts the numbers by the first literals of their cubes from this atom on.
+pub(crate) fn part<T: HasCube>(
+    alloc: Global,
+    items: &[T],
+    numbers: Vec<u32>,
+    from: u32,
+) -> Result<Parts, NoMemory>
+    requires { All (λ number. number < length items.now) numbers.items }
+    ensures { IfOk result (λ parts. Keeps (map T.cube items.now) (λ _. numbers.items) (λ has. parts.rest.items ++ run_visits has parts.runs.items)) }
+{
+    let (rest, mut entries) = entries_of(alloc, items, &numbers, from)?;
+    entries.sort()?;
+    let runs = runs_of(alloc, &entries)?;
+    Ok(Parts { rest, runs })
+}
