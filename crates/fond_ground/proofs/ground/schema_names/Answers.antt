@@ -1,4 +1,4 @@
-use Rattle.std.proofs.Common.{◌∙◌, sym, subst, All, List, ℕ, ◌++◌, ◌∷◌, [], ap}
+use Rattle.std.proofs.Common.{◌∙◌, sym, subst, All, ◌++◌, ◌∷◌, [], ap}
 use Rattle.fond_text.specs.Name.{IsName}
 use Rattle.std.proofs.lemmas.List.Elements.{All-cons, All-nil, All-append}
 use Rattle.fond_ground.proofs.Counts.{mapped_more}
