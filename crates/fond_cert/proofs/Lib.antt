@@ -20,3 +20,7 @@ pub mod Steps
 pub mod Wholes
 pub mod Counts
 pub mod Printed
+pub mod SameLines
+pub mod FeedSplits
+pub mod OneFault
+pub mod TaskNames

@@ -146,7 +146,7 @@ pub within_rest : (task : Task) (rest piece further : List ℕ) (due : Due) (err
 within_rest task rest piece further due NoMemory e h = tt
 within_rest task rest piece further due (RefusedLine code at) e h = omega (arith, line_within task due piece code at h, ap length e, length-append piece (codes "\n" ++ further))
 
-nothing_allowed : (line : WrittenLine) (next : Due) → ¬ due_after NothingDue line ≡ Some next
+pub nothing_allowed : (line : WrittenLine) (next : Due) → ¬ due_after NothingDue line ≡ Some next
 nothing_allowed PolicyHeader next e = absurd (cc)
 nothing_allowed RefusalHeader next e = absurd (cc)
 nothing_allowed LayerLine next e = absurd (cc)

@@ -14,3 +14,4 @@ pub mod Stages
 pub mod Drafts
 pub mod Progress
 pub mod Printed
+pub mod Laws
