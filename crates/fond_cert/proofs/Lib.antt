@@ -24,3 +24,4 @@ pub mod SameLines
 pub mod FeedSplits
 pub mod OneFault
 pub mod TaskNames
+pub mod OwnLines

@@ -1,5 +1,5 @@
 -- The texts of a task's atoms and actions have one number each.
-use Rattle.std.proofs.Common.{◌≡◌, ℕ, zero, suc, ◌+◌, ◌<◌, ◌&&◌, ◌∙◌, nat_lt, nat_le, Bool, true, false, not, cond, IsTrue, List, [], ◌∷◌, ◌++◌, All, Some, length, map, get_or, position, slice_get, refl, sym, ap, arith}
+use Rattle.std.proofs.Common.{◌≡◌, ℕ, zero, suc, ◌+◌, ◌<◌, ◌&&◌, ◌||◌, ◌∙◌, nat_lt, nat_le, Bool, true, false, not, cond, IsTrue, List, [], ◌∷◌, ◌++◌, All, Some, length, map, get_or, position, slice_get, refl, sym, ap, arith}
 use Rattle.std.specs.List.{list_all, list_any, position_from}
 use Rattle.std.specs.Option.{option_map_or}
 use Rattle.std.specs.Str.{bytes_eq}
@@ -58,7 +58,7 @@ mapped_long : {X Y : Type 0} (f : X → Y) (xs : List X) → length (map f xs) �
 mapped_long f [] = refl
 mapped_long f (x ∷ xs) = ap (λ n. suc n) (mapped_long f xs)
 
-or_right : (a b : Bool) → b ≡ true → (cond a true b) ≡ true
+or_right : (a b : Bool) → b ≡ true → (a || b) ≡ true
 or_right true b h = refl
 or_right false b h = h
 
@@ -142,13 +142,14 @@ only_first : {X : Type 0} (test : X → Bool) (xs : List X) (from k : ℕ) (d : 
     position_from test from xs ≡ Some (from + k)
 only_first test [] from k d lt here only = absurd (omega (arith, lt))
 only_first test (x ∷ xs) from zero d lt here only = let none : from + 0 ≡ from = omega arith in rw (here, none) refl
-only_first test (x ∷ xs) from (suc k) d lt here only = by (test x) refl
+only_first test (x ∷ xs) from (suc k) d lt here only =
+    by (test x) refl
+    (only_first test xs (from + 1) k d (omega (arith, lt)) here (λ j less passes. let same = only (suc j) (omega (arith, less)) passes in omega (arith, same))
+    ∙ ap (λ n. Some n) (omega arith))
   where
-    by : (b : Bool) → test x ≡ b → cond b (Some from) (position_from test (from + 1) xs) ≡ Some (from + suc k)
-    by true is = let clash = only 0 (omega arith) is in absurd (omega (arith, clash))
-    by false is =
-        only_first test xs (from + 1) k d (omega (arith, lt)) here (λ j less passes. let same = only (suc j) (omega (arith, less)) passes in omega (arith, same))
-        ∙ ap (λ n. Some n) (omega arith)
+    by : (b : Bool) → test x ≡ b → position_from test (from + 1) xs ≡ Some (from + suc k) → cond b (Some from) (position_from test (from + 1) xs) ≡ Some (from + suc k)
+    by true is later = let clash = only 0 (omega arith) is in absurd (omega (arith, clash))
+    by false is later = later
 
 -- of items with different numbers, the one with a text is found by the text, if items with one text have one list of numbers
 found : {X : Type 0} (written numbers : X → List ℕ) (xs : List X) (k : ℕ) (d : X) (text : List ℕ) → are_distinct_texts (map numbers xs) ≡ true →

@@ -1,6 +1,11 @@
 //! The laws of the texts of certificates, each the contract of a function with an empty body.
 
-ghost use Rattle.fond_cert.specs.Laws.{FaultsAreOne};
+ghost use Rattle.fond_cert.specs.Laws.{FaultsAreOne, SpellingsAreClean};
+
+/// The spelling of a certificate that belongs to a task has no fault.
+pub fn spellings_are_clean()
+    ensures { SpellingsAreClean }
+{}
 
 /// A text has one fault at most: `read_cert` can refuse it with one code and at one byte only.
 pub fn faults_are_one()
