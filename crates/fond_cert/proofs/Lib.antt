@@ -25,3 +25,4 @@ pub mod FeedSplits
 pub mod OneFault
 pub mod TaskNames
 pub mod OwnLines
+pub mod OneCert

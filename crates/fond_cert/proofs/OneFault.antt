@@ -54,14 +54,14 @@ stands task due end line lines text rest code at lead is h =
     (refused_rest task due lead.2.0 line text code at lead.2.1 h)
 
 -- one line is the first of two leads to equal texts, and the rests are equal
-record SameFirst (task : Task) (due end other_end : Due) (line other : WrittenLine) (lines others : List WrittenLine) (rest other_rest : List ℕ) : Type 0 where
+pub record SameFirst (task : Task) (due end other_end : Due) (line other : WrittenLine) (lines others : List WrittenLine) (rest other_rest : List ℕ) : Type 0 where
   pub same : line ≡ other
   pub next : Due
   pub lead : Lead task next lines end
   pub other_lead : Lead task next others other_end
   pub texts : lines_text lines ++ rest ≡ lines_text others ++ other_rest
 
-same_first : (task : Task) (due end other_end : Due) (line other : WrittenLine) (lines others : List WrittenLine) (rest other_rest : List ℕ) → Lead task due (line ∷ lines) end → Lead task due (other ∷ others) other_end →
+pub same_first : (task : Task) (due end other_end : Due) (line other : WrittenLine) (lines others : List WrittenLine) (rest other_rest : List ℕ) → Lead task due (line ∷ lines) end → Lead task due (other ∷ others) other_end →
     lines_text (line ∷ lines) ++ rest ≡ lines_text (other ∷ others) ++ other_rest → SameFirst task due end other_end line other lines others rest other_rest
 same_first task due end other_end line other lines others rest other_rest lead other_lead e =
     let split = same_split (line_text line) (line_text other) (lines_text lines ++ rest) (lines_text others ++ other_rest) (line_no_feed line lead.0) (line_no_feed other other_lead.0)

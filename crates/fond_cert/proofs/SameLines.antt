@@ -150,7 +150,7 @@ fair_or_unfair a b o t u l m h k e =
     absurd (omega (arith, letter))
 
 -- the number of the kind of a line, where all rules are of one kind
-abbrev kind_number : WrittenLine → ℕ
+abbrev pub kind_number : WrittenLine → ℕ
 kind_number PolicyHeader = 0
 kind_number RefusalHeader = 1
 kind_number LayerLine = 2
