@@ -1,5 +1,5 @@
 -- Certificates of one text are the same.
-use Rattle.std.proofs.Common.{◌≡◌, ◌≢◌, ℕ, ◌+◌, ◌<◌, ◌≤◌, ◌^◌, ◌∙◌, Bool, List, [], ◌∷◌, ◌++◌, Option, Some, None, All as Each, length, map, codes, refl, sym, ap, subst, arith, append_assoc, length-append}
+use Rattle.std.proofs.Common.{◌≡◌, ◌≢◌, ℕ, ◌+◌, ◌<◌, ◌^◌, ◌∙◌, Bool, List, [], ◌∷◌, ◌++◌, Some, None, All as Each, length, map, codes, refl, sym, ap, arith, append_assoc, length-append}
 use Rattle.std.specs.Fmt.{decimal}
 use Rattle.std.specs.List.{flat_map}
 use Rattle.std.proofs.lemmas.Fmt.{decimal_injective}
@@ -21,7 +21,7 @@ use Rattle.fond_cert.specs.declared.cert.Cert.TheVariants.{Policy, Refusal}
 use Rattle.fond_cert.specs.Belongs.{Belongs}
 use Rattle.fond_cert.specs.Faults.{Due, HeaderDue, NothingDue, Lead}
 use Rattle.fond_cert.specs.Items.{IsPairOf, IsRuleOf}
-use Rattle.fond_cert.specs.Lines.{group_text, WrittenTarget, GoalWord, NumberWord, WrittenLiteral, WrittenLine, PolicyHeader, RefusalHeader, LayerLine, CubeLine, PairLine, FairRule, UnfairRule, ReachLine, EndLine, line_text}
+use Rattle.fond_cert.specs.Lines.{group_text, WrittenLiteral, WrittenLine, CubeLine, ReachLine, EndLine, line_text}
 use Rattle.fond_cert.specs.Sizes.{IsSmallPair, IsSmallTarget, AreSmallTargets, HasSmallNumbers}
 use Rattle.fond_cert.specs.Spellings.{act_leaves, written_literal, written_cube, written_target, layer_lines, pair_line, targets_line, rule_line, cert_lines, lines_text, spelling}
 use Rattle.fond_cert.specs.Words.{atom_numbers}

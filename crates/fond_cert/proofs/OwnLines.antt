@@ -1,16 +1,15 @@
 -- The lines of a certificate that belongs to a task lead from the header to the end, and none is refused.
-use Rattle.std.proofs.Common.{◌≡◌, ℕ, zero, suc, ◌+◌, ◌<◌, ◌≤◌, ◌^◌, ◌==◌, ◌&&◌, ◌||◌, not, ◌∙◌, nat_lt, Bool, true, false, IsTrue, List, [], ◌∷◌, ◌++◌, Option, Some, None, All as Each, length, map, get_or, if◌then◌else◌, codes, refl, sym, ap, arith}
+use Rattle.std.proofs.Common.{◌≡◌, ℕ, zero, suc, ◌+◌, ◌<◌, ◌^◌, ◌==◌, ◌||◌, not, ◌∙◌, nat_lt, Bool, true, false, List, [], ◌∷◌, ◌++◌, Option, Some, None, All as Each, length, map, get_or, codes, refl, sym, ap, arith}
 use Rattle.std.specs.Prelude.{⊤}
 use Rattle.std.specs.Char.{is_ascii_digit}
 use Rattle.std.specs.Fmt.{decimal}
 use Rattle.std.specs.List.{cons_option, flat_map, list_all}
-use Rattle.std.specs.Str.Parse.{digits_value}
 use Rattle.std.proofs.lemmas.Bool.{and_parts}
 use Rattle.std.proofs.lemmas.Bool.Decides.{nat_tests}
 use Rattle.std.proofs.lemmas.Fmt.{decimal_nonempty, digits_decimal, first_decimal, length-decimal-le_succ}
 use Rattle.std.proofs.lemmas.List.Elements.{All-head, All-tail, All-cons, All-nil}
 use Rattle.fond_text.specs.declared.atom.Atom.{Atom}
-use Rattle.fond_task.specs.Numbers.{act_number, atom_number}
+use Rattle.fond_task.specs.Numbers.{atom_number}
 use Rattle.fond_task.specs.declared.task.Task.{Task}
 use Rattle.fond_game.specs.Layers.{CubeView}
 use Rattle.fond_game.specs.declared.rule.Pair.{Pair}
@@ -26,7 +25,7 @@ use Rattle.fond_cert.specs.Belongs.{Belongs, BelongAsLayers}
 use Rattle.fond_cert.specs.Checked.{rises}
 use Rattle.fond_cert.specs.Faults.{Kind, OfPolicy, OfRefusal, Due, HeaderDue, LayersDue, CubesDue, PairsDue, RulesDue, EndDue, NothingDue, if_few, due_after, Lead}
 use Rattle.fond_cert.specs.Items.{IsPairOf, IsRuleOf}
-use Rattle.fond_cert.specs.Lines.{IsGroup, group_text, is_number, WrittenTarget, IsProperTarget, WrittenLiteral, AreProper, sign_text, WrittenLine, LayerLine, CubeLine, PairLine, FairRule, UnfairRule, ReachLine, EndLine, Piece, Fixed, Below, piece_text, target_piece, target_pieces, literal_pieces, line_pieces, IsProper}
+use Rattle.fond_cert.specs.Lines.{IsGroup, group_text, is_number, IsProperTarget, WrittenLiteral, AreProper, WrittenLine, LayerLine, CubeLine, FairRule, UnfairRule, ReachLine, EndLine, Piece, Fixed, Below, piece_text, target_piece, target_pieces, literal_pieces, line_pieces, IsProper}
 use Rattle.fond_cert.specs.Sizes.{IsSmallPair, IsSmallTarget, AreSmallTargets, HasSmallNumbers}
 use Rattle.fond_cert.specs.Spellings.{atom_leaves, act_leaves, written_literal, written_cube, written_target, layer_lines, pair_line, targets_line, rule_line, cert_lines}
 use Rattle.fond_cert.specs.Words.{piece_code, unknown, refused_or, first_refused, atom_numbers, is_increasing, refusal_or_order, is_ordered, line_refusal}
@@ -354,8 +353,7 @@ module _ (task : Task) where
   rules_lead due count (rule ∷ rules) after room of small =
       let more = rules_lead (RulesDue (count + 1)) (count + 1) rules refl (omega (arith, room)) (All-tail (IsRuleOf task) rule rules of) (All-tail IsSmallRule rule rules small) in
       let own = All-head (IsRuleOf task) rule rules of in
-      let good = targets_good rule.act rule.targets rule.cond own.1 own.2 (All-head IsSmallRule rule rules small) in
-      (
+      let good = targets_good rule.act rule.targets rule.cond own.1 own.2 (All-head IsSmallRule rule rules small) in (
         more.0,
         more.1,
         more.2,
@@ -397,8 +395,7 @@ module _ (task : Task) where
       let of_rules = rules_lead of_pairs.0 0 rules (pairs_before_rules of_pairs.0 of_pairs.1) (omega (arith, size)) (rules_of task rules h.2) small.1 in
       let last = good_lead of_rules.0 EndDue NothingDue (ReachLine (decimal reach)) (EndLine ∷ []) (reach_good reach small.2) (reach_allowed of_rules.0 of_rules.1 (decimal reach) of_rules.2) (end_lead EndDue refl) in
       let plan = lead_more task (map (rule_line task) rules) (ReachLine (decimal reach) ∷ EndLine ∷ []) of_pairs.0 of_rules.0 NothingDue of_rules.3 last in
-      let rest = lead_more task (map (pair_line task) pairs) (map (rule_line task) rules ++ (ReachLine (decimal reach) ∷ EndLine ∷ [])) of_layers.0 of_pairs.0 NothingDue of_pairs.2 plan in
-      (
+      let rest = lead_more task (map (pair_line task) pairs) (map (rule_line task) rules ++ (ReachLine (decimal reach) ∷ EndLine ∷ [])) of_layers.0 of_pairs.0 NothingDue of_pairs.2 plan in (
         tt,
         refl,
         (
@@ -408,8 +405,7 @@ module _ (task : Task) where
         ),
       )
   cert_leads (Refusal layers) h small =
-      let of_layers = layers_lead OfRefusal layers h in
-      (
+      let of_layers = layers_lead OfRefusal layers h in (
         tt,
         refl,
         (

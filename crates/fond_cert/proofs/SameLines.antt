@@ -1,12 +1,11 @@
 -- Lines of one text are the same line.
-use Rattle.std.proofs.Common.{◌≡◌, ℕ, ◌==◌, List, [], ◌∷◌, ◌++◌, All, Bool, true, false, IsTrue, get_or, if◌then◌else◌, length, map, codes, refl, sym, ap, subst, ◌∙◌, arith, append_assoc}
+use Rattle.std.proofs.Common.{◌≡◌, ℕ, ◌==◌, List, [], ◌∷◌, ◌++◌, All, true, false, IsTrue, get_or, if◌then◌else◌, codes, refl, sym, ap, ◌∙◌, arith, append_assoc}
 use Rattle.std.specs.Prelude.{⊤}
 use Rattle.std.specs.List.{flat_map, list_all}
 use Rattle.std.proofs.lemmas.Bool.{and_parts}
-use Rattle.std.proofs.lemmas.Grind.{flat_map-append}
 use Rattle.std.proofs.lemmas.List.{append_cancel_left, append-nil}
 use Rattle.std.proofs.lemmas.List.Elements.{All-head, All-tail}
-use Rattle.fond_cert.specs.Lines.{is_plain_byte, IsPlainLeaf, IsGroup, spaced, group_text, is_number, WrittenTarget, GoalWord, NumberWord, IsProperTarget, WrittenLiteral, AreProper, sign_text, WrittenLine, PolicyHeader, RefusalHeader, LayerLine, CubeLine, PairLine, FairRule, UnfairRule, ReachLine, EndLine, line_text, IsProper}
+use Rattle.fond_cert.specs.Lines.{is_plain_byte, IsPlainLeaf, IsGroup, spaced, group_text, is_number, WrittenTarget, GoalWord, NumberWord, IsProperTarget, WrittenLiteral, AreProper, WrittenLine, PolicyHeader, RefusalHeader, LayerLine, CubeLine, PairLine, FairRule, UnfairRule, ReachLine, EndLine, line_text, IsProper}
 use Rattle.fond_cert.specs.Parts.{EndsWord, literal_text}
 use Rattle.fond_cert.specs.Cutting.{target_text, targets_text, literals_text}
 use Rattle.fond_cert.proofs.Afters.{target_right}

@@ -1,5 +1,5 @@
 -- The texts of a task's atoms and actions have one number each.
-use Rattle.std.proofs.Common.{◌≡◌, ℕ, zero, suc, ◌+◌, ◌<◌, ◌&&◌, ◌||◌, ◌∙◌, nat_lt, nat_le, Bool, true, false, not, cond, IsTrue, List, [], ◌∷◌, ◌++◌, All, Some, length, map, get_or, position, slice_get, refl, sym, ap, arith}
+use Rattle.std.proofs.Common.{◌≡◌, ℕ, zero, suc, ◌+◌, ◌<◌, ◌&&◌, ◌||◌, ◌∙◌, nat_lt, nat_le, Bool, true, false, not, cond, IsTrue, List, [], ◌∷◌, ◌++◌, All, Some, length, map, get_or, position, refl, sym, ap, arith}
 use Rattle.std.specs.List.{list_all, list_any, position_from}
 use Rattle.std.specs.Option.{option_map_or}
 use Rattle.std.specs.Str.{bytes_eq}

@@ -1,5 +1,5 @@
 -- The sizes of the numbers of a certificate.
-use Rattle.std.specs.Prelude.{ℕ, ◌<◌, ◌^◌, List, All as Each, ⊤}
+use Rattle.std.specs.Prelude.{◌<◌, ◌^◌, All as Each, ⊤}
 use Rattle.fond_game.specs.declared.rule.Pair.{Pair}
 use Rattle.fond_game.specs.declared.rule.Target.{Target}
 use Rattle.fond_game.specs.declared.rule.Target.TheVariants.{Goal, Rule as ToRule}
