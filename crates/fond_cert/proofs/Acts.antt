@@ -17,7 +17,7 @@ use Rattle.fond_cert.specs.Lines.{group_text}
 use Rattle.fond_cert.specs.Spellings.{action_leaves, act_leaves}
 use Rattle.fond_cert.proofs.CubeTexts.{spaced_names}
 
-no_act : Act
+pub no_act : Act
 no_act = record { ground = record { schema = 0; objects = [] }; pre = Truth true; unfair = true; outcomes = [] }
 
 -- the text of an action is that of its leaves

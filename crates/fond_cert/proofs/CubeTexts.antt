@@ -114,7 +114,7 @@ literal_last a wl lit lits same =
     ∙ ap (λ t. t ++ flat_map literal_text (lit ∷ lits)) (spelled a)
     ∙ ap (λ t. literals_text a ++ t) (spelled (lit ∷ lits))
 
-no_atom : Atom
+pub no_atom : Atom
 no_atom = record { predicate = 0; objects = [] }
 
 -- the atom of this number has this text

@@ -72,7 +72,7 @@ all_left task at text h cube new = record {
   order_is = rises_at_first (atom_numbers task h.0);
 }
 
-same_sign : (a b : Bool) (s t : List ℕ) → sign_text a ++ s ≡ sign_text b ++ t → a ≡ b
+pub same_sign : (a b : Bool) (s t : List ℕ) → sign_text a ++ s ≡ sign_text b ++ t → a ≡ b
 same_sign true true s t e = refl
 same_sign true false s t e = let h = same_head 43 45 s t e in absurd (omega (arith, h))
 same_sign false true s t e = let h = same_head 45 43 s t e in absurd (omega (arith, h))

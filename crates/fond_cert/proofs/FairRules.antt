@@ -14,7 +14,7 @@ use Rattle.fond_cert.specs.Parts.{AreLiterals, is_target}
 use Rattle.fond_cert.specs.Words.{Refused, unknown, piece_code, refused_or, first_refused, refusal_or_order, line_refusal, atom_numbers, is_increasing}
 use Rattle.fond_cert.specs.Checked.{as_target, ReadsAct, IsActRefused, ReadsNumber, IsNumberRefused, ReadsTarget, IsTargetTooLarge, ReadsCube, IsCubeRefused, cube_refusal}
 use Rattle.fond_cert.specs.Cutting.{target_text, literals_text, IsRightCut, IsMade, IsRefusedBy}
-use Rattle.fond_cert.specs.Items.{IsRuleOf}
+use Rattle.fond_cert.specs.Items.{IsReadRule}
 use Rattle.fond_cert.specs.Refusals.{LineRefuses}
 use Rattle.fond_cert.specs.Spellings.{rule_line, written_target}
 use Rattle.fond_cert.proofs.Acts.{act_there}
@@ -107,11 +107,11 @@ module _ (action outcome target literals : Part) (h : IsRightCut (FairParts acti
           literals_error NoMemory r = tt
 
           pub made : (cond : List (Option Bool)) → ReadsCube task literals.at literals.text.now cond →
-              IsRuleOf task (record { cond = cond; act = act; targets = One picked named })
+              IsReadRule task (record { cond = cond; act = act; targets = One picked named })
               × IsMade task line (rule_line task (record { cond = cond; act = act; targets = One picked named }))
           made cond r =
               let there = act_there task action.text.now act some in (
-                (r.long, there.0, tt),
+                (r.long, there.0, tt, (one.2, two.2)),
                 record {
                   written = FairRule a outcome.text.now (as_target target.text.now) r.literals;
                   proper = (proper.0, proper.1, written.0, r.proper);

@@ -25,7 +25,7 @@ over_spaced (leaf ∷ leaves) rest h =
     ∙ over_spaced leaves rest (All-tail IsPlainLeaf leaf leaves h)
 
 -- the text of an atom or action, followed by a rest
-group_apart : (leaf : List ℕ) (leaves : List (List ℕ)) (rest : List ℕ) → group_text (leaf ∷ leaves) ++ rest ≡ 40 ∷ (leaf ++ (spaced leaves ++ (41 ∷ rest)))
+pub group_apart : (leaf : List ℕ) (leaves : List (List ℕ)) (rest : List ℕ) → group_text (leaf ∷ leaves) ++ rest ≡ 40 ∷ (leaf ++ (spaced leaves ++ (41 ∷ rest)))
 group_apart leaf leaves rest = ap (λ t. 40 ∷ t) (append_assoc leaf (spaced leaves ++ (41 ∷ [])) rest ∙ ap (λ t. leaf ++ t) (append_assoc (spaced leaves) (41 ∷ []) rest))
 
 -- the rest after the parenthesis of an atom or action

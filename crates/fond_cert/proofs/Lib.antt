@@ -20,3 +20,9 @@ pub mod Steps
 pub mod Wholes
 pub mod Counts
 pub mod Printed
+pub mod SameLines
+pub mod FeedSplits
+pub mod OneFault
+pub mod TaskNames
+pub mod OwnLines
+pub mod OneCert

@@ -26,7 +26,7 @@ tells = record {
   more = λ c cs k e. rw (from_range c k) e;
 }
 
-model : IsNumeralModel (λ ds. list_all is_ascii_digit ds ≡ true) (digits_value 10)
+pub model : IsNumeralModel (λ ds. list_all is_ascii_digit ds ≡ true) (digits_value 10)
 model = numerals_by_value (λ ds. list_all is_ascii_digit ds ≡ true) tells
 
 pub number_digits : (digits : List ℕ) → is_number digits ≡ true → list_all is_ascii_digit digits ≡ true

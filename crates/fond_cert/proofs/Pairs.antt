@@ -13,7 +13,7 @@ use Rattle.fond_cert.specs.Parts.{AreLiterals}
 use Rattle.fond_cert.specs.Words.{Refused, unknown, piece_code, refused_or, first_refused, refusal_or_order, line_refusal, atom_numbers, is_increasing}
 use Rattle.fond_cert.specs.Checked.{ReadsAct, IsActRefused, ReadsNumber, IsNumberRefused, ReadsCube, IsCubeRefused, cube_refusal}
 use Rattle.fond_cert.specs.Cutting.{literals_text, IsRightCut, IsMade, IsRefusedBy}
-use Rattle.fond_cert.specs.Items.{IsPairOf}
+use Rattle.fond_cert.specs.Items.{IsReadPair}
 use Rattle.fond_cert.specs.Refusals.{LineRefuses}
 use Rattle.fond_cert.specs.Spellings.{pair_line}
 use Rattle.fond_cert.proofs.Acts.{act_there}
@@ -123,12 +123,12 @@ module _ (action outcome layer cube literals : Part) (h : IsRightCut (PairParts 
             literals_error NoMemory r = tt
 
             pub made : (cond : List (Option Bool)) → ReadsCube task literals.at literals.text.now cond →
-                IsPairOf task (record { cond = cond; act = act; outcome = picked; layer = layer_is; cube = cube_is })
+                IsReadPair task (record { cond = cond; act = act; outcome = picked; layer = layer_is; cube = cube_is })
                 × IsMade task line (pair_line task (record { cond = cond; act = act; outcome = picked; layer = layer_is; cube = cube_is }))
             made cond r =
                 let there = act_there task action.text.now act some in
                 let pair : Pair = record { cond = cond; act = act; outcome = picked; layer = layer_is; cube = cube_is } in (
-                  (r.long, there.0),
+                  (r.long, there.0, (one.2, two.2, three.2)),
                   record {
                     written = PairLine a outcome.text.now layer.text.now cube.text.now r.literals;
                     proper = (proper.0, proper.1, proper.2, proper.3, r.proper);

@@ -18,7 +18,7 @@ use Rattle.fond_cert.specs.Belongs.{BelongAsLayers}
 use Rattle.fond_cert.specs.Cutting.{IsLineOf, IsMade}
 use Rattle.fond_cert.specs.Drafts.{opened, all_layers, reach_lines, draft_lines, IsDraftOf, with_open, closed, with_pair, with_rule, with_reach, IsGrown, header, HasLayersAlone, FitsDue, HasRoom}
 use Rattle.fond_cert.specs.Faults.{Due, due_after}
-use Rattle.fond_cert.specs.Items.{IsPairOf, IsRuleOf}
+use Rattle.fond_cert.specs.Items.{IsReadPair, IsReadRule}
 use Rattle.fond_cert.specs.Lines.{WrittenLine, PolicyHeader, RefusalHeader, LayerLine, CubeLine, PairLine, ReachLine, EndLine, IsProper}
 use Rattle.fond_cert.specs.Spellings.{written_cube, layer_lines, pair_line, rule_line}
 use Rattle.fond_cert.specs.Stages.{like}
@@ -62,7 +62,7 @@ module _ (task : Task) (draft : Draft) where
   closed_lines = ap (λ l. layers_lines l ++ (map (pair_line task) draft.pairs ++ (map (rule_line task) draft.rules ++ reach_lines draft.reach))) closed_layers
 
   closed_draft : IsDraftOf task draft → IsDraftOf task (closed draft)
-  closed_draft h = record { layers = subst (BelongAsLayers task) (sym closed_layers) h.layers; pairs = h.pairs; rules = h.rules; few = h.few }
+  closed_draft h = record { layers = subst (BelongAsLayers task) (sym closed_layers) h.layers; pairs = h.pairs; rules = h.rules; few = h.few; reach = h.reach }
 
   alone_lines : HasLayersAlone draft → draft_lines task draft ≡ layers_lines (all_layers draft)
   alone_lines h = rw (h.0, h.1, h.2) (append-nil (layers_lines (all_layers draft)))
@@ -159,6 +159,7 @@ module _ (task : Task) (due next : Due) (before after : Draft) (lines : List Wri
               pairs = draft.pairs;
               rules = draft.rules;
               few = draft.few;
+              reach = draft.reach;
             });
       }
 
@@ -194,10 +195,11 @@ module _ (task : Task) (due next : Due) (before after : Draft) (lines : List Wri
               pairs = draft.pairs;
               rules = draft.rules;
               few = draft.few;
+              reach = draft.reach;
             });
       }
 
-  pair_step : (line : Line) (pair : OnePair) → due_after due (PairLine [] [] [] [] []) ≡ Some next → IsPairOf task pair → IsMade task line (pair_line task pair) → after ≡ with_pair before pair →
+  pair_step : (line : Line) (pair : OnePair) → due_after due (PairLine [] [] [] [] []) ≡ Some next → IsReadPair task pair → IsMade task line (pair_line task pair) → after ≡ with_pair before pair →
       IsStepped task line next after lines
   pair_step line pair e of made is =
       let h = before_pair task due next before lines fits e in
@@ -205,10 +207,10 @@ module _ (task : Task) (due next : Due) (before after : Draft) (lines : List Wri
         own = pair_line task pair;
         made = made;
         fits = rw (h.3, is) (refl, h.0, h.1, lines_more lines _ _ PolicyHeader (pair_line task pair) h.2 (pair_more task before pair h.0 h.1));
-        draft = rw is (record { layers = whole.layers; pairs = all_more (IsPairOf task) before.pairs pair draft.pairs of; rules = draft.rules; few = draft.few });
+        draft = rw is (record { layers = whole.layers; pairs = all_more (IsReadPair task) before.pairs pair draft.pairs of; rules = draft.rules; few = draft.few; reach = draft.reach });
       }
 
-  rule_step : (line : Line) (rule : Rule) → IsBeforeRule task next before lines → IsRuleOf task rule → IsMade task line (rule_line task rule) → after ≡ with_rule before rule →
+  rule_step : (line : Line) (rule : Rule) → IsBeforeRule task next before lines → IsReadRule task rule → IsMade task line (rule_line task rule) → after ≡ with_rule before rule →
       IsStepped task line next after lines
   rule_step line rule h of made is =
       let whole = closed_draft task before draft in
@@ -216,17 +218,17 @@ module _ (task : Task) (due next : Due) (before after : Draft) (lines : List Wri
         own = rule_line task rule;
         made = made;
         fits = rw (h.3, is) (refl, count, h.0, lines_more lines _ _ PolicyHeader (rule_line task rule) h.1 (rule_more task before rule h.0));
-        draft = rw is (record { layers = whole.layers; pairs = draft.pairs; rules = all_more (IsRuleOf task) before.rules rule draft.rules of; few = omega (arith, count, h.2) });
+        draft = rw is (record { layers = whole.layers; pairs = draft.pairs; rules = all_more (IsReadRule task) before.rules rule draft.rules of; few = omega (arith, count, h.2); reach = draft.reach });
       }
 
-  reach_step : (line : Line) (reach : ℕ) → due_after due (ReachLine []) ≡ Some next → IsMade task line (ReachLine (decimal reach)) → after ≡ with_reach before reach → IsStepped task line next after lines
-  reach_step line reach e made is =
+  reach_step : (line : Line) (reach : ℕ) → due_after due (ReachLine []) ≡ Some next → IsMade task line (ReachLine (decimal reach)) → after ≡ with_reach before reach → reach < 2 ^ 64 → IsStepped task line next after lines
+  reach_step line reach e made is small =
       let h = before_reach task due next before lines fits e in
       let whole = closed_draft task before draft in record {
         own = ReachLine (decimal reach);
         made = made;
         fits = rw (h.2, is) (refl, (reach, refl), lines_more lines _ _ PolicyHeader (ReachLine (decimal reach)) h.1 (reach_more task before reach h.0));
-        draft = rw is (record { layers = whole.layers; pairs = draft.pairs; rules = draft.rules; few = draft.few });
+        draft = rw is (record { layers = whole.layers; pairs = draft.pairs; rules = draft.rules; few = draft.few; reach = small });
       }
 
   end_step : due_after due EndLine ≡ Some next → after ≡ closed before → IsStepped task End next after lines
@@ -253,7 +255,7 @@ module _ (task : Task) (due next : Due) (before after : Draft) (lines : List Wri
   step (Pair action outcome layer cube literals) e grown = pair_step _ grown.0 e grown.1 grown.2 grown.3
   step (CutFair action outcome target literals) e grown = rule_step _ grown.0 (before_rule task due next before lines fits e) grown.1 grown.2 grown.3
   step (CutUnfair action targets literals) e grown = rule_step _ grown.0 (before_rule task due next before lines fits (unfair_due due ∙ e)) grown.1 grown.2 grown.3
-  step (Reach count) e grown = reach_step _ grown.0 e grown.1 grown.2
+  step (Reach count) e grown = reach_step _ grown.0 e grown.1 grown.2 grown.3
   step End e grown = end_step e grown
 
 -- there is room for what a line makes that is allowed

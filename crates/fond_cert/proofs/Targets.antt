@@ -3,12 +3,13 @@ use Rattle.std.proofs.Common.{◌≡◌, ◌≢◌, ℕ, ◌+◌, ◌-◌, ◌�
 use Rattle.std.specs.List.{flat_map}
 use Rattle.std.specs.Str.{bytes_eq}
 use Rattle.std.proofs.lemmas.Slice.Eq.{bytes_eq-Decides}
-use Rattle.std.proofs.lemmas.List.Elements.{All-head, All-tail, All-cons, All-nil}
+use Rattle.std.proofs.lemmas.List.Elements.{All-head, All-tail, All-cons, All-nil, All-append}
 use Rattle.fond_task.specs.declared.task.Task.{Task}
 use Rattle.fond_game.specs.declared.rule.Target.{Target}
 use Rattle.fond_cert.specs.Lines.{is_number, spaced, WrittenTarget, IsProperTarget, piece_text, target_piece, target_pieces}
 use Rattle.fond_cert.specs.Parts.{is_target, AreTargets, IsCut, EndsWord}
 use Rattle.fond_cert.specs.Words.{piece_code, refused_or, first_refused}
+use Rattle.fond_cert.specs.Sizes.{IsSmallTarget}
 use Rattle.fond_cert.specs.Spellings.{written_target}
 use Rattle.fond_cert.specs.Checked.{as_target, AreTargetsText, AreTargetsAt, IsTargetRefused}
 use Rattle.fond_cert.proofs.Cuts.{same_word, target_no_space}
@@ -55,6 +56,7 @@ pub record LeftTargets (at : ℕ) (text rest : List ℕ) (targets : List Target)
   pub short : length rest ≤ length text
   pub refusal : (task : Task) → first_refused task at (target_pieces (map as_target whole)) ≡ first_refused task (at + (length text - length rest)) (target_pieces (map as_target left))
   pub named : map as_target whole ≡ map written_target targets ++ map as_target left
+  pub small : All IsSmallTarget targets
 
 pub all_left : (at : ℕ) (text : List ℕ) → AreTargetsText text → LeftTargets at text text []
 all_left at text h = record {
@@ -67,6 +69,7 @@ all_left at text h = record {
   short = omega arith;
   refusal = λ task. let none : at + (length text - length text) ≡ at = omega arith in rw none refl;
   named = refl;
+  small = All-nil IsSmallTarget;
 }
 
 ends_spaced : (words : List (List ℕ)) → EndsWord (spaced words)
@@ -114,8 +117,8 @@ past : (at : ℕ) (text rest inner word further : List ℕ) → rest ≡ 32 ∷ 
 past at text rest inner word further e f short = omega (arith, ap length e, ap length f, length-append word further)
 
 pub one_read : (at : ℕ) (text rest inner word further : List ℕ) (targets : List Target) (target : Target) → LeftTargets at text rest targets → rest ≡ 32 ∷ inner → IsCut inner word further →
-    ((task : Task) → piece_code task (target_piece (as_target word)) ≡ None) → as_target word ≡ written_target target → LeftTargets at text further (targets ++ (target ∷ []))
-one_read at text rest inner word further targets target h e cut right named =
+    ((task : Task) → piece_code task (target_piece (as_target word)) ≡ None) → as_target word ≡ written_target target → IsSmallTarget target → LeftTargets at text further (targets ++ (target ∷ []))
+one_read at text rest inner word further targets target h e cut right named small =
     let next = next_is at text rest inner word further targets h e cut in record {
       whole = h.whole;
       left = next.more;
@@ -133,6 +136,7 @@ one_read at text rest inner word further targets target h e cut right named =
       named =
           h.named ∙ ap (λ l. map written_target targets ++ map as_target l) next.left_is
           ∙ ap (λ t. map written_target targets ++ (t ∷ map as_target next.more)) named ∙ sym (written_more targets target (map as_target next.more));
+      small = All-append IsSmallTarget targets (target ∷ []) h.small (All-cons IsSmallTarget target [] small (All-nil IsSmallTarget));
     }
 
 pub one_refused : (at : ℕ) (text rest inner word further : List ℕ) (targets : List Target) → LeftTargets at text rest targets → rest ≡ 32 ∷ inner → IsCut inner word further →
@@ -168,4 +172,5 @@ all_read at text rest targets h none task =
       spelled = h.whole_is ∙ spelled h.whole h.whole_right;
       right = h.refusal task ∙ ap (λ l. first_refused task (at + (length text - length rest)) (target_pieces (map as_target l))) end;
       named = h.named ∙ ap (λ l. map written_target targets ++ map as_target l) end ∙ append_nil (map written_target targets);
+      small = h.small;
     }

@@ -15,7 +15,7 @@ use Rattle.fond_cert.specs.Parts.{AreLiterals}
 use Rattle.fond_cert.specs.Words.{Refused, unknown, refused_or, first_refused, refusal_or_order, line_refusal, atom_numbers, is_increasing}
 use Rattle.fond_cert.specs.Checked.{AreTargetsText, AreTargetsAt, IsTargetRefused, ReadsAct, IsActRefused, ReadsCube, IsCubeRefused, cube_refusal}
 use Rattle.fond_cert.specs.Cutting.{targets_text, literals_text, IsRightCut, IsMade, IsRefusedBy}
-use Rattle.fond_cert.specs.Items.{IsRuleOf}
+use Rattle.fond_cert.specs.Items.{IsReadRule}
 use Rattle.fond_cert.specs.Refusals.{LineRefuses}
 use Rattle.fond_cert.specs.Spellings.{rule_line, written_target}
 use Rattle.fond_cert.proofs.Acts.{act_there}
@@ -124,12 +124,12 @@ module _ (action targets literals : Part) (h : IsRightCut (UnfairParts action ta
         literals_error NoMemory r = tt
 
         pub made : (cond : List (Option Bool)) → ReadsCube task literals.at literals.text.now cond →
-            IsRuleOf task (record { cond = cond; act = act; targets = Each named })
+            IsReadRule task (record { cond = cond; act = act; targets = Each named })
             × IsMade task line (rule_line task (record { cond = cond; act = act; targets = Each named }))
         made cond r =
             let there = act_there task action.text.now act some in
             let several = some_targets read_targets.written (rw read_targets.spelled at long) in (
-              (r.long, there.0, some_named named read_targets.written read_targets.named several),
+              (r.long, there.0, some_named named read_targets.written read_targets.named several, read_targets.small),
               record {
                 written = UnfairRule a read_targets.written r.literals;
                 proper = (proper.0, several, read_targets.proper, r.proper);

@@ -1,6 +1,7 @@
 -- Texts that were read line by line.
 use Rattle.std.proofs.Common.{◌≡◌, ◌≢◌, ◌⊎◌, inl, inr, ℕ, ◌+◌, ◌-◌, ◌≤◌, ◌<◌, ◌^◌, List, [], ◌∷◌, ◌++◌, All, Option, Some, None, length, map, codes, refl, sym, ap, ◌∙◌, subst, arith, length-append, append_assoc}
 use Rattle.std.specs.List.{flat_map}
+use Rattle.std.specs.Prelude.{IfSome}
 use Rattle.std.specs.Fmt.{decimal}
 use Rattle.std.proofs.lemmas.Grind.{flat_map-append}
 use Rattle.std.proofs.lemmas.List.{append-nil}
@@ -20,11 +21,12 @@ use Rattle.fond_cert.specs.Cutting.{IsLineOf, IsCutOf, IsRefusedBy}
 use Rattle.fond_cert.specs.Drafts.{all_layers, draft_lines, opened, IsDraftOf, HasLayersAlone, FitsDue}
 use Rattle.fond_cert.specs.Faults.{Due, HeaderDue, LayersDue, CubesDue, PairsDue, RulesDue, EndDue, NothingDue, due_after, Lead, IsRefusedLine, IsRefusedAt, IsCertFault}
 use Rattle.fond_cert.specs.Feeds.{HasNoFeed}
-use Rattle.fond_cert.specs.Items.{IsPairOf, IsRuleOf}
+use Rattle.fond_cert.specs.Items.{IsReadPair, IsReadRule}
 use Rattle.fond_cert.specs.Lines.{WrittenLine, PolicyHeader, RefusalHeader, LayerLine, CubeLine, PairLine, FairRule, UnfairRule, ReachLine, EndLine, line_text}
 use Rattle.fond_cert.specs.Progress.{IsReady, IsTaken, IsWhole, cert_by, cert_of, IsPlaced}
 use Rattle.fond_cert.specs.Refusals.{LineRefuses, CertRefuses}
 use Rattle.fond_cert.specs.Spellings.{layer_lines, pair_line, rule_line, lines_text, spelling}
+use Rattle.fond_cert.specs.Sizes.{HasSmallNumbers}
 use Rattle.fond_cert.specs.Stages.{due_of, like}
 use Rattle.fond_cert.specs.Words.{Refused}
 use Rattle.fond_cert.proofs.Dues.{like_due}
@@ -88,9 +90,10 @@ nothing_read task text draft e = record {
           few_cubes = All-nil (λ (layer : List CubeView). length layer < 2 ^ 32);
           over = All-nil (λ (layer : List CubeView). All (λ (cube : CubeView). length cube ≡ length task.atoms) layer);
         };
-        pairs = All-nil (IsPairOf task);
-        rules = All-nil (IsRuleOf task);
+        pairs = All-nil (IsReadPair task);
+        rules = All-nil (IsReadRule task);
         few = omega arith;
+        reach = tt;
       });
 }
 
@@ -146,7 +149,7 @@ pub within_rest : (task : Task) (rest piece further : List ℕ) (due : Due) (err
 within_rest task rest piece further due NoMemory e h = tt
 within_rest task rest piece further due (RefusedLine code at) e h = omega (arith, line_within task due piece code at h, ap length e, length-append piece (codes "\n" ++ further))
 
-nothing_allowed : (line : WrittenLine) (next : Due) → ¬ due_after NothingDue line ≡ Some next
+pub nothing_allowed : (line : WrittenLine) (next : Due) → ¬ due_after NothingDue line ≡ Some next
 nothing_allowed PolicyHeader next e = absurd (cc)
 nothing_allowed RefusalHeader next e = absurd (cc)
 nothing_allowed LayerLine next e = absurd (cc)
@@ -251,6 +254,13 @@ module _ (task : Task) (text : List ℕ) (draft : Draft) (belongs : IsDraftOf ta
   spelled_by (Some reach) e (inr k) = let none : Some reach ≡ None = sym e ∙ k.0.2 in absurd (cc)
   spelled_by None e (inl k) = let none : Some k.0.0 ≡ None = sym k.0.1 ∙ e in absurd (cc)
   spelled_by None e (inr k) = (as_layers, k.1 ∙ ap (λ l. lines_text (RefusalHeader ∷ l)) (refusal_lines k.0))
+
+  small_by : (r : Option ℕ) → draft.reach ≡ r → HasSmallNumbers (cert_by draft r)
+  small_by (Some reach) e = ((λ k d lt. (belongs.pairs k d lt).2), (λ k d lt. (belongs.rules k d lt).3), subst (λ (r : Option ℕ). IfSome r (λ n. n < 2 ^ 64)) e belongs.reach)
+  small_by None e = tt
+
+  pub cert_small : HasSmallNumbers (cert_of draft)
+  cert_small = small_by draft.reach refl
 
   pub cert_read : Belongs task (cert_of draft) × (text ≡ spelling task (cert_of draft))
   cert_read = spelled_by draft.reach refl whole.1

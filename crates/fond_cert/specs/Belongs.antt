@@ -15,7 +15,7 @@ pub record BelongAsLayers (task : Task) (layers : List (List CubeView)) : Type 0
   pub few_cubes : All (λ layer. length layer < 2 ^ 32) layers
   pub over : AreOver (length task.atoms) layers
 
--- pairs belong to a task: their cubes are over its atoms, it has their actions, and their numbers are below 2^32
+-- pairs belong to a task: their cubes are over its atoms, and it has their actions
 pub record BelongAsPairs (task : Task) (pairs : List Pair) : Type 0 where
   pub over : ArePairsOver (length task.atoms) pairs
   pub there : All (λ pair. pair.act < length task.acts) pairs

@@ -13,6 +13,7 @@ use Rattle.fond_cert.specs.declared.part.Part.{Part}
 use Rattle.fond_cert.specs.Cutting.{literals_text}
 use Rattle.fond_cert.specs.Lines.{IsGroup, group_text, spaced, WrittenTarget, GoalWord, NumberWord, IsProperTarget, WrittenLiteral, AreProper, piece_text, target_piece, target_pieces, literal_pieces}
 use Rattle.fond_cert.specs.Parts.{AreTargets}
+use Rattle.fond_cert.specs.Sizes.{IsSmallTarget}
 use Rattle.fond_cert.specs.Spellings.{written_target, written_cube}
 use Rattle.fond_cert.specs.Words.{Refused, piece_code, first_refused, atom_numbers, is_increasing, refusal_or_order}
 
@@ -31,6 +32,7 @@ pub record AreTargetsAt (task : Task) (at : ℕ) (text : List ℕ) (targets : Li
   pub spelled : text ≡ flat_map piece_text (target_pieces written)
   pub right : first_refused task at (target_pieces written) ≡ None
   pub named : written ≡ map written_target targets
+  pub small : All IsSmallTarget targets
 
 -- a text of targets that begins at this byte of a line has this first refusal
 pub record IsTargetRefused (task : Task) (at : ℕ) (text : List ℕ) (refused : Refused) : Type 0 where
@@ -103,7 +105,7 @@ IsActRefused task action error = (act_number task action.text.now ≡ None) × (
 
 -- a number below 2^32 is read from its digits
 abbrev pub ReadsNumber : List ℕ → ℕ → Type 0
-ReadsNumber digits number = (digits_value 10 digits < 2 ^ 32) × (digits ≡ decimal number)
+ReadsNumber digits number = (digits_value 10 digits < 2 ^ 32) × (digits ≡ decimal number) × (number < 2 ^ 32)
 
 -- an error is the refusal of a number of 2^32 or more
 abbrev pub IsNumberRefused : Part → LineError → Type 0
@@ -111,7 +113,7 @@ IsNumberRefused digits error = (2 ^ 32 ≤ digits_value 10 digits.text.now) × (
 
 -- a target is read from its word
 abbrev pub ReadsTarget : List ℕ → Target → Type 0
-ReadsTarget word target = ((task : Task) → piece_code task (target_piece (as_target word)) ≡ None) × (as_target word ≡ written_target target)
+ReadsTarget word target = ((task : Task) → piece_code task (target_piece (as_target word)) ≡ None) × (as_target word ≡ written_target target) × IsSmallTarget target
 
 -- an error is the refusal of a target whose number is 2^32 or more
 abbrev pub IsTargetTooLarge : Part → LineError → Type 0

@@ -1,5 +1,5 @@
 -- Certificates that were read in part.
-use Rattle.std.specs.Prelude.{◌≡◌, ◌⊎◌, ℕ, ◌+◌, ◌-◌, ◌<◌, ◌^◌, ⊤, List, [], ◌∷◌, ◌++◌, All, Option, Some, None, length, map}
+use Rattle.std.specs.Prelude.{◌≡◌, ◌⊎◌, ℕ, ◌+◌, ◌-◌, ◌<◌, ◌^◌, ⊤, List, [], ◌∷◌, ◌++◌, All, Option, Some, None, IfSome, length, map}
 use Rattle.std.specs.Fmt.{decimal}
 use Rattle.std.specs.List.{flat_map}
 use Rattle.fond_task.specs.declared.task.Task.{Task}
@@ -12,7 +12,7 @@ use Rattle.fond_cert.specs.declared.line.Line.TheVariants.{Layer, Cube, Pair, Fa
 use Rattle.fond_cert.specs.Belongs.{BelongAsLayers}
 use Rattle.fond_cert.specs.Cutting.{IsMade}
 use Rattle.fond_cert.specs.Faults.{Kind, OfPolicy, OfRefusal, Due, HeaderDue, LayersDue, CubesDue, PairsDue, RulesDue, EndDue, NothingDue}
-use Rattle.fond_cert.specs.Items.{IsPairOf, IsRuleOf}
+use Rattle.fond_cert.specs.Items.{IsReadPair, IsReadRule}
 use Rattle.fond_cert.specs.Lines.{WrittenLine, PolicyHeader, RefusalHeader, CubeLine, ReachLine, EndLine}
 use Rattle.fond_cert.specs.Spellings.{written_cube, layer_lines, pair_line, rule_line}
 
@@ -35,12 +35,13 @@ abbrev pub draft_lines : Task → Draft → List WrittenLine
 draft_lines task draft =
     flat_map (layer_lines task) (all_layers draft) ++ (map (pair_line task) draft.pairs ++ (map (rule_line task) draft.rules ++ reach_lines draft.reach))
 
--- a draft belongs to a task if its layers, pairs and rules do
+-- a draft belongs to a task if its layers, pairs and rules do, and its numbers fit their types
 pub record IsDraftOf (task : Task) (draft : Draft) : Type 0 where
   pub layers : BelongAsLayers task (all_layers draft)
-  pub pairs : All (IsPairOf task) draft.pairs
-  pub rules : All (IsRuleOf task) draft.rules
+  pub pairs : All (IsReadPair task) draft.pairs
+  pub rules : All (IsReadRule task) draft.rules
   pub few : length draft.rules < 2 ^ 32
+  pub reach : IfSome draft.reach (λ reach. reach < 2 ^ 64)
 
 -- a draft with this layer being read
 abbrev pub with_open : Draft → Option (List CubeView) → Draft
@@ -69,12 +70,12 @@ IsGrown task (Cube literals) before after =
     (cube : CubeView) × (length cube ≡ length task.atoms) × IsMade task (Cube literals) (CubeLine (written_cube task cube))
     × ((current : List CubeView) → before.current ≡ Some current → after ≡ with_open before (Some (current ++ cube ∷ [])))
 IsGrown task (Pair action outcome layer cube literals) before after =
-    (pair : OnePair) × IsPairOf task pair × IsMade task (Pair action outcome layer cube literals) (pair_line task pair) × (after ≡ with_pair before pair)
+    (pair : OnePair) × IsReadPair task pair × IsMade task (Pair action outcome layer cube literals) (pair_line task pair) × (after ≡ with_pair before pair)
 IsGrown task (CutFair action outcome target literals) before after =
-    (rule : Rule) × IsRuleOf task rule × IsMade task (CutFair action outcome target literals) (rule_line task rule) × (after ≡ with_rule before rule)
+    (rule : Rule) × IsReadRule task rule × IsMade task (CutFair action outcome target literals) (rule_line task rule) × (after ≡ with_rule before rule)
 IsGrown task (CutUnfair action targets literals) before after =
-    (rule : Rule) × IsRuleOf task rule × IsMade task (CutUnfair action targets literals) (rule_line task rule) × (after ≡ with_rule before rule)
-IsGrown task (Reach count) before after = (reach : ℕ) × IsMade task (Reach count) (ReachLine (decimal reach)) × (after ≡ with_reach before reach)
+    (rule : Rule) × IsReadRule task rule × IsMade task (CutUnfair action targets literals) (rule_line task rule) × (after ≡ with_rule before rule)
+IsGrown task (Reach count) before after = (reach : ℕ) × IsMade task (Reach count) (ReachLine (decimal reach)) × (after ≡ with_reach before reach) × (reach < 2 ^ 64)
 IsGrown task line before after = after ≡ closed before
 
 -- a draft has nothing in it

@@ -4,6 +4,7 @@ use Rattle.fond_task.specs.declared.task.Task.{Task}
 use Rattle.fond_game.specs.declared.rule.Pair.{Pair}
 use Rattle.fond_game.specs.declared.rule.Rule.{Rule}
 use Rattle.fond_rules.specs.Belongs.{HasTarget}
+use Rattle.fond_cert.specs.Sizes.{IsSmallPair, AreSmallTargets}
 
 -- a pair belongs to a task: its condition is over the task's atoms, and the task has its action
 abbrev pub IsPairOf : Task → Pair → Type 0
@@ -12,3 +13,11 @@ IsPairOf task pair = (length pair.cond ≡ length task.atoms) × (pair.act < len
 -- a rule belongs to a task: its condition is over the task's atoms, the task has its action, and it has a target
 abbrev pub IsRuleOf : Task → Rule → Type 0
 IsRuleOf task rule = (length rule.cond ≡ length task.atoms) × (rule.act < length task.acts) × HasTarget rule.targets
+
+-- a pair is one that may be read: it belongs to a task, and its numbers are small
+abbrev pub IsReadPair : Task → Pair → Type 0
+IsReadPair task pair = (length pair.cond ≡ length task.atoms) × (pair.act < length task.acts) × IsSmallPair pair
+
+-- a rule is one that may be read: it belongs to a task, and its numbers are small
+abbrev pub IsReadRule : Task → Rule → Type 0
+IsReadRule task rule = (length rule.cond ≡ length task.atoms) × (rule.act < length task.acts) × HasTarget rule.targets × AreSmallTargets rule.targets

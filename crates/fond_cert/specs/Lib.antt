@@ -14,3 +14,5 @@ pub mod Stages
 pub mod Drafts
 pub mod Progress
 pub mod Printed
+pub mod Sizes
+pub mod Laws

@@ -4,13 +4,13 @@
 
 ghost use Rattle.fond_cert.specs.Checked.{ReadsAct, IsActRefused};
 ghost use Rattle.fond_cert.specs.Cutting.{IsRightCut, IsMade, IsRefusedBy};
-ghost use Rattle.fond_cert.specs.Items.{IsPairOf, IsRuleOf};
+ghost use Rattle.fond_cert.specs.Items.{IsReadPair, IsReadRule};
 ghost use Rattle.fond_cert.specs.Refusals.{LineRefuses};
 ghost use Rattle.fond_cert.specs.Lines.{CubeLine, ReachLine};
 ghost use Rattle.fond_cert.specs.Spellings.{written_cube, pair_line, rule_line};
 ghost use Rattle.fond_cert.specs.declared.line.Line.TheVariants.{Cube as CubeParts, Reach as ReachParts, Pair as PairParts, FairRule as FairParts, UnfairRule as UnfairParts};
 ghost use Rattle.std.specs.Fmt.{decimal};
-ghost use Rattle.std.specs.Prelude.{◌≡◌, length, IfOk, IfErr};
+ghost use Rattle.std.specs.Prelude.{◌≡◌, ◌<◌, ◌^◌, length, IfOk, IfErr};
 
 use crate::error::LineError;
 use crate::literal::read_cube;
@@ -53,6 +53,7 @@ pub(crate) fn read_layer_cube(
 pub(crate) fn read_reach(index: &TaskIndex, count: Part) -> Result<u64, LineError>
     requires { IsRightCut (ReachParts count) }
     ensures read { IfOk result (λ reach. IsMade index.now (ReachParts count.entry) (ReachLine (decimal reach))) }
+    ensures small { IfOk result (λ reach. reach < 2 ^ 64) }
     ensures wrong { IfErr result (LineRefuses (IsRefusedBy index.now (ReachParts count.entry))) }
 {
     match number(count.text) {
@@ -72,7 +73,7 @@ pub(crate) fn read_pair(
     literals: Part,
 ) -> Result<Pair, LineError>
     requires { IsRightCut (PairParts action outcome layer cube literals) }
-    ensures read { IfOk result (λ pair. IsPairOf index.now pair × IsMade index.now (PairParts action.entry outcome.entry layer.entry cube.entry literals.entry) (pair_line index.now pair)) }
+    ensures read { IfOk result (λ pair. IsReadPair index.now pair × IsMade index.now (PairParts action.entry outcome.entry layer.entry cube.entry literals.entry) (pair_line index.now pair)) }
     ensures wrong { IfErr result (LineRefuses (IsRefusedBy index.now (PairParts action.entry outcome.entry layer.entry cube.entry literals.entry))) }
 {
     let act = read_act(index, action)?;
@@ -99,7 +100,7 @@ pub(crate) fn read_fair(
     literals: Part,
 ) -> Result<Rule, LineError>
     requires { IsRightCut (FairParts action outcome target literals) }
-    ensures read { IfOk result (λ rule. IsRuleOf index.now rule × IsMade index.now (FairParts action.entry outcome.entry target.entry literals.entry) (rule_line index.now rule)) }
+    ensures read { IfOk result (λ rule. IsReadRule index.now rule × IsMade index.now (FairParts action.entry outcome.entry target.entry literals.entry) (rule_line index.now rule)) }
     ensures wrong { IfErr result (LineRefuses (IsRefusedBy index.now (FairParts action.entry outcome.entry target.entry literals.entry))) }
 {
     let act = read_act(index, action)?;
@@ -122,7 +123,7 @@ pub(crate) fn read_unfair(
     literals: Part,
 ) -> Result<Rule, LineError>
     requires { IsRightCut (UnfairParts action targets literals) }
-    ensures read { IfOk result (λ rule. IsRuleOf index.now rule × IsMade index.now (UnfairParts action.entry targets.entry literals.entry) (rule_line index.now rule)) }
+    ensures read { IfOk result (λ rule. IsReadRule index.now rule × IsMade index.now (UnfairParts action.entry targets.entry literals.entry) (rule_line index.now rule)) }
     ensures wrong { IfErr result (LineRefuses (IsRefusedBy index.now (UnfairParts action.entry targets.entry literals.entry))) }
 {
     let act = read_act(index, action)?;

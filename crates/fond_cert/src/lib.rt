@@ -12,6 +12,7 @@ mod feed;
 mod form;
 mod grow;
 mod item;
+pub mod laws;
 mod line;
 mod lines;
 mod literal;

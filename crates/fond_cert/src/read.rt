@@ -4,6 +4,7 @@ ghost use Rattle.fond_cert.specs.Belongs.{Belongs};
 ghost use Rattle.fond_cert.specs.Faults.{IsCertFault};
 ghost use Rattle.fond_cert.specs.Progress.{cert_of};
 ghost use Rattle.fond_cert.specs.Refusals.{CertRefuses};
+ghost use Rattle.fond_cert.specs.Sizes.{HasSmallNumbers};
 ghost use Rattle.fond_cert.specs.Spellings.{spelling};
 ghost use Rattle.std.specs.Prelude.{◌≡◌, IfOk, IfErr};
 
@@ -37,6 +38,7 @@ fn finish(draft: Draft) -> Cert
 /// pair and rule; memory for the certificate and the names.
 pub fn read_cert(alloc: Global, task: &Task, text: &[u8]) -> Result<Cert, CertError>
     ensures belongs { IfOk result (Belongs task.now) }
+    ensures small { IfOk result HasSmallNumbers }
     ensures read { IfOk result (λ cert. text.now ≡ spelling task.now cert) }
     ensures refused { IfErr result (CertRefuses (IsCertFault task.now text.now)) }
 {

@@ -1,11 +1,14 @@
 -- Small games, worked out by hand and computed with the definitions.
-use Rattle.std.proofs.Common.{not, ◌≡◌, ℕ, zero, suc, ◌<◌, List, [], ◌∷◌, Bool, true, false, Option, Some, None, refl, sym, ◌∙◌, subst, inl, inr, ⊎_elim, arith}
+use Rattle.std.proofs.Common.{not, codes, All as EachOf, ◌≡◌, ℕ, zero, suc, ◌<◌, List, [], ◌∷◌, Bool, true, false, Option, Some, None, refl, sym, ◌∙◌, subst, inl, inr, ⊎_elim, arith}
 use Rattle.std.specs.Prelude.{◌&&◌, Contains, slice_get, ⊤}
 use Rattle.std.proofs.lemmas.Bool.{false≢true, and_parts}
+use Rattle.std.proofs.lemmas.List.Elements.{All-cons, All-nil}
 use Rattle.std.proofs.lemmas.Option.{none-some, same_Some}
 use denote.RawPtr.{null_ptr}
 use Rattle.fond_state.proofs.Tested.{lies_in-Decides}
 use Rattle.fond_state.specs.Cubes.{CubeLiesIn, Contradicts, literal_at}
+use Rattle.fond_text.specs.Bytes.{is_leaf_byte, lower}
+use Rattle.fond_text.specs.Name.{IsName}
 use Rattle.fond_text.specs.declared.atom.Atom.{Atom}
 use Rattle.std.specs.declared.vec.Vec.{Vec}
 use Rattle.std.specs.declared.alloc.Global.{Global}
@@ -83,13 +86,28 @@ action schema pre unfair outcomes = record { ground = record { schema = schema; 
 abbrev sets : ℕ → Bool → Entry
 sets atom sign = record { cond = Truth true; atom = atom; add = sign }
 
--- no names are needed in these games
 -- the atom without objects of a predicate
 abbrev atom : ℕ → Atom
 atom predicate = record { predicate = predicate; objects = [] }
 
-abbrev no_labels : Labels
-no_labels = record { predicates = []; objects = []; schemas = [] }
+-- the names of four predicates, and those of four schemas
+abbrev letters : List (List ℕ)
+letters = codes "a" ∷ codes "b" ∷ codes "c" ∷ codes "d" ∷ []
+
+letter_is_name : (b : ℕ) → is_leaf_byte b ≡ true → lower b ≡ b → IsName (b ∷ [])
+letter_is_name b leaf low =
+    let P = λ (byte : ℕ). is_leaf_byte byte ≡ true in
+    let Q = λ (byte : ℕ). lower byte ≡ byte in
+    ((omega arith, All-cons P b [] leaf (All-nil P)), All-cons Q b [] low (All-nil Q))
+
+letters_are_names : EachOf IsName letters
+letters_are_names =
+    All-cons IsName (codes "a") (codes "b" ∷ codes "c" ∷ codes "d" ∷ []) (letter_is_name 97 refl refl)
+    (All-cons IsName (codes "b") (codes "c" ∷ codes "d" ∷ []) (letter_is_name 98 refl refl)
+    (All-cons IsName (codes "c") (codes "d" ∷ []) (letter_is_name 99 refl refl) (All-cons IsName (codes "d") [] (letter_is_name 100 refl refl) (All-nil IsName))))
+
+abbrev lettered : Labels
+lettered = record { predicates = letters; objects = []; schemas = letters }
 
 -- an outcome leads from a cube into one of a layer
 leads : (cube other : CubeView) (outcome : List Entry) (layer : List CubeView) → Contains layer other → inside (image cube outcome) other ≡ true → Leads cube outcome layer
@@ -105,7 +123,7 @@ coin unfair = record {
   acts = flip unfair ∷ [];
   init = false ∷ [];
   goal = Lit 0 true;
-  labels = no_labels;
+  labels = lettered;
   few_atoms = omega arith;
   few_acts = omega arith;
   distinct_atoms = refl;
@@ -113,6 +131,11 @@ coin unfair = record {
   distinct_predicates = refl;
   distinct_objects = refl;
   distinct_schemas = refl;
+  predicate_names = letters_are_names;
+  object_names = All-nil IsName;
+  schema_names = letters_are_names;
+  named_atoms = refl;
+  named_acts = refl;
   init_long = refl;
   goal_within = within-Lit 1 0 true;
   acts_within = simp within-Truth;
@@ -273,7 +296,7 @@ pit = record {
   acts = jump ∷ [];
   init = false ∷ false ∷ [];
   goal = Lit 0 true;
-  labels = no_labels;
+  labels = lettered;
   few_atoms = omega arith;
   few_acts = omega arith;
   distinct_atoms = refl;
@@ -281,6 +304,11 @@ pit = record {
   distinct_predicates = refl;
   distinct_objects = refl;
   distinct_schemas = refl;
+  predicate_names = letters_are_names;
+  object_names = All-nil IsName;
+  schema_names = letters_are_names;
+  named_atoms = refl;
+  named_acts = refl;
   init_long = refl;
   goal_within = within-Lit 2 0 true;
   acts_within = simp (within-Lit, within-Truth);
@@ -335,7 +363,7 @@ module _ (alloc : Global) where
     acts = left ∷ right ∷ [];
     init = true ∷ false ∷ [];
     goal = And both;
-    labels = no_labels;
+    labels = lettered;
     few_atoms = omega arith;
     few_acts = omega arith;
     distinct_atoms = refl;
@@ -343,6 +371,11 @@ module _ (alloc : Global) where
     distinct_predicates = refl;
     distinct_objects = refl;
     distinct_schemas = refl;
+    predicate_names = letters_are_names;
+    object_names = All-nil IsName;
+    schema_names = letters_are_names;
+    named_atoms = refl;
+    named_acts = refl;
     init_long = refl;
     goal_within = simp (within-And, within-Lit);
     acts_within = simp (within-Lit, within-Truth);
@@ -398,7 +431,7 @@ mix = record {
   acts = try ∷ split ∷ fix_left ∷ fix_right ∷ [];
   init = false ∷ false ∷ false ∷ false ∷ [];
   goal = Lit 3 true;
-  labels = no_labels;
+  labels = lettered;
   few_atoms = omega arith;
   few_acts = omega arith;
   distinct_atoms = refl;
@@ -406,6 +439,11 @@ mix = record {
   distinct_predicates = refl;
   distinct_objects = refl;
   distinct_schemas = refl;
+  predicate_names = letters_are_names;
+  object_names = All-nil IsName;
+  schema_names = letters_are_names;
+  named_atoms = refl;
+  named_acts = refl;
   init_long = refl;
   goal_within = within-Lit 4 3 true;
   acts_within = simp (within-Lit, within-Truth);
@@ -497,7 +535,7 @@ detour = record {
   acts = jump ∷ walk ∷ enter ∷ [];
   init = false ∷ false ∷ false ∷ [];
   goal = Lit 0 true;
-  labels = no_labels;
+  labels = lettered;
   few_atoms = omega arith;
   few_acts = omega arith;
   distinct_atoms = refl;
@@ -505,6 +543,11 @@ detour = record {
   distinct_predicates = refl;
   distinct_objects = refl;
   distinct_schemas = refl;
+  predicate_names = letters_are_names;
+  object_names = All-nil IsName;
+  schema_names = letters_are_names;
+  named_atoms = refl;
+  named_acts = refl;
   init_long = refl;
   goal_within = within-Lit 3 0 true;
   acts_within = simp (within-Lit, within-Truth);

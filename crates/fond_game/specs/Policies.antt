@@ -1,5 +1,5 @@
 -- The moves of the game, policies, and the states that a policy reaches.
-use Rattle.std.specs.Prelude.{◌≡◌, ℕ, List, Bool, true, IsTrue, Option, Some, option_map, slice_get, Contains, find}
+use Rattle.std.specs.Prelude.{◌≡◌, ℕ, List, Bool, true, IsTrue, Some, option_map, slice_get, Contains, find}
 use Rattle.fond_play.specs.Games as games
 use Rattle.fond_play.specs.Games.{Game}
 pub use Rattle.fond_play.specs.Games.{start, onward}

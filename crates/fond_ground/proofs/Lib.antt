@@ -10,4 +10,5 @@ pub mod Kept
 pub mod Actions
 pub mod Numbered
 pub mod Distincts
+pub mod Named
 pub mod Refusals

@@ -9,10 +9,11 @@ ghost use Rattle.fond_ground.specs.Texts.{labels_of as all_labels};
 ghost use Rattle.fond_join.specs.Kept.{kept_args};
 ghost use Rattle.fond_meaning.specs.Solutions.{initial};
 ghost use Rattle.fond_text.specs.Faults.{Refuses};
+ghost use Rattle.fond_text.specs.Name.{IsName};
 ghost use Rattle.fond_text.specs.declared.code.TheConstants.{MOST_ACTIONS, MOST_ATOMS, TOO_MANY_ACTIONS, TOO_MANY_ATOMS};
 ghost use Rattle.fond_text.specs.declared.fault.Fault.{Fault};
 ghost use Rattle.std.specs.FinSet as set;
-ghost use Rattle.std.specs.Prelude.{◌≡◌, ◌<◌, ◌≤◌, ◌^◌, [], true, length, map, IfOk, IfErr};
+ghost use Rattle.std.specs.Prelude.{◌≡◌, ◌<◌, ◌≤◌, ◌^◌, [], true, length, map, All, IfOk, IfErr};
 
 use crate::acts::{acts_of, kept_lists};
 use crate::atoms::{atom_count, fluent_atoms};
@@ -26,7 +27,7 @@ use fond_task::task::{Labels, Task};
 use fond_text::atom::Atoms;
 use fond_text::code::{MOST_ATOMS, TOO_MANY_ACTIONS, TOO_MANY_ATOMS};
 use fond_text::fault::{Fault, FrontError, NoMemory};
-use fond_text::name::Names;
+use fond_text::name::{Name, Names};
 use fond_text::place::FileKind;
 use std::alloc::Global;
 
@@ -88,42 +89,57 @@ fn goal_form(alloc: Global, table: &Table) -> Result<Form, NoMemory>
     form_of(alloc, table, &table.facts.task.goal, &mut env)
 }
 
+/// A copy of a name. What the bytes of a name are is known from the call that reads them.
+fn name_copy(alloc: Global, name: &Name) -> Result<Name, NoMemory>
+    ensures copy { IfOk result (λ copy. copy ≡ name.now) }
+    ensures name { IfOk result IsName }
+{
+    let _bytes = name.bytes();
+    name.copy(alloc)
+}
+
 /// The names of the predicates, in order.
 fn predicate_names(alloc: Global, task: &LiftedTask) -> Result<Names, NoMemory>
-    ensures { IfOk result (λ names. names ≡ map (λ predicate. predicate.name) task.now.predicates) }
+    ensures names { IfOk result (λ names. names ≡ map (λ predicate. predicate.name) task.now.predicates) }
+    ensures are_names { IfOk result (All IsName) }
 {
     let mut names = Names::new(alloc);
     for i in 0..task.predicates.len() {
-        names.push(task.predicates.get(i).name.copy(alloc)?)?;
+        names.push(name_copy(alloc, &task.predicates.get(i).name)?)?;
     }
     Ok(names)
 }
 
 /// The names of the objects, in order.
 fn object_names(alloc: Global, task: &LiftedTask) -> Result<Names, NoMemory>
-    ensures { IfOk result (λ names. names ≡ task.now.objects) }
+    ensures names { IfOk result (λ names. names ≡ task.now.objects) }
+    ensures are_names { IfOk result (All IsName) }
 {
     let mut names = Names::new(alloc);
     for i in 0..task.objects.len() {
-        names.push(task.objects.get(i).copy(alloc)?)?;
+        names.push(name_copy(alloc, task.objects.get(i))?)?;
     }
     Ok(names)
 }
 
 /// The names of the schemas, in order.
 fn schema_names(alloc: Global, task: &LiftedTask) -> Result<Names, NoMemory>
-    ensures { IfOk result (λ names. names ≡ map (λ schema. schema.name) task.now.schemas) }
+    ensures names { IfOk result (λ names. names ≡ map (λ schema. schema.name) task.now.schemas) }
+    ensures are_names { IfOk result (All IsName) }
 {
     let mut names = Names::new(alloc);
     for i in 0..task.schemas.len() {
-        names.push(task.schemas.get(i).name.copy(alloc)?)?;
+        names.push(name_copy(alloc, &task.schemas.get(i).name)?)?;
     }
     Ok(names)
 }
 
 /// The names of a task.
 fn labels_of(alloc: Global, task: &LiftedTask) -> Result<Labels, NoMemory>
-    ensures { IfOk result (λ labels. labels ≡ all_labels task.now) }
+    ensures labels { IfOk result (λ labels. labels ≡ all_labels task.now) }
+    ensures predicates { IfOk result (λ labels. All IsName labels.predicates) }
+    ensures objects { IfOk result (λ labels. All IsName labels.objects) }
+    ensures schemas { IfOk result (λ labels. All IsName labels.schemas) }
 {
     let predicates = predicate_names(alloc, task)?;
     let objects = object_names(alloc, task)?;

@@ -1,5 +1,6 @@
 pub mod Within
 pub mod Distinct
+pub mod Named
 pub mod Truth
 pub mod Steps
 pub mod Values

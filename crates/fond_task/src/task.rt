@@ -1,10 +1,12 @@
 //! The types of a ground task.
 
 ghost use Rattle.fond_task.specs.Distinct.{are_distinct_atoms, are_distinct_acts};
+ghost use Rattle.fond_task.specs.Named.{is_named_atom, is_named_action};
 ghost use Rattle.fond_task.specs.Within.{is_form_within, is_act_within};
 ghost use Rattle.fond_text.specs.Lists.{are_distinct_texts};
+ghost use Rattle.fond_text.specs.Name.{IsName};
 ghost use Rattle.std.specs.List.{list_all};
-ghost use Rattle.std.specs.Prelude.{◌≡◌, ◌<◌, ◌^◌, length, IsTrue};
+ghost use Rattle.std.specs.Prelude.{◌≡◌, ◌<◌, ◌^◌, length, All, IsTrue};
 
 use crate::form::Form;
 use fond_state::state::State;
@@ -47,9 +49,9 @@ pub struct Labels {
     pub schemas: Names,
 }
 
-/// A ground task. No atom and no action occurs twice, and no two predicates, objects or schemas have the same name. Its
-/// conditions and effects are over its atoms, its initial state gives a truth value to each of them, and each action has
-/// 1 to 256 outcomes.
+/// A ground task. No atom and no action occurs twice, no two predicates, objects or schemas have the same name, and the
+/// predicate, schema and objects of each atom and action have a name. The conditions and effects are over the task's
+/// atoms, the initial state gives a truth value to each of them, and each action has 1 to 256 outcomes.
 #[derive(Drop)]
 pub struct Task {
     pub atoms: Atoms,
@@ -64,6 +66,11 @@ pub struct Task {
     pub ghost distinct_predicates: { IsTrue (are_distinct_texts labels.predicates) },
     pub ghost distinct_objects: { IsTrue (are_distinct_texts labels.objects) },
     pub ghost distinct_schemas: { IsTrue (are_distinct_texts labels.schemas) },
+    pub ghost predicate_names: { All IsName labels.predicates },
+    pub ghost object_names: { All IsName labels.objects },
+    pub ghost schema_names: { All IsName labels.schemas },
+    pub ghost named_atoms: { IsTrue (list_all (is_named_atom labels) atoms) },
+    pub ghost named_acts: { IsTrue (list_all (λ act. is_named_action labels act.ground) acts) },
     pub ghost init_long: { length init ≡ length atoms },
     pub ghost goal_within: { IsTrue (is_form_within (length atoms) goal) },
     pub ghost acts_within: { IsTrue (list_all (is_act_within (length atoms)) acts) },

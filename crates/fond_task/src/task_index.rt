@@ -52,7 +52,6 @@ fn act_numbers(alloc: Global, task: &Task) -> Result<TextIndex, NoMemory>
 }
 
 /// The texts of the atoms with their numbers. If several atoms have one text, the first counts.
-#[tactic(auto, using(fond_lookup::proofs::Firsts::has_more))]
 fn atom_numbers(alloc: Global, task: &Task) -> Result<TextIndex, NoMemory>
     ensures { IfOk result (λ numbers. (text : List ℕ) → number_beside numbers text ≡ atom_number task.now text) }
 {

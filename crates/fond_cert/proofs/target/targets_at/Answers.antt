@@ -10,7 +10,7 @@ returns-in_default-target-clause-wrong c = one_refused _ _ _ _ _ _ _ c.loop-inne
 pub loop-inner-preserved : goal.loop-inner-preserved
 loop-inner-preserved c =
     let pushed = c.in_ok-push.ensures.ok in
-    rw pushed (one_read _ _ _ _ _ _ _ _ c.loop-inner.invariant c.in-Some.ensures c.word.ensures c.in-Some-target.ensures.0 c.in-Some-target.ensures.1)
+    rw pushed (one_read _ _ _ _ _ _ _ _ c.loop-inner.invariant c.in-Some.ensures c.word.ensures c.in-Some-target.ensures.0 c.in-Some-target.ensures.1 c.in-Some-target.ensures.2)
 
 pub returns-clause-read : goal.returns-clause-read
 returns-clause-read c = all_read _ _ _ _ c.loop-inner.invariant c.in_default.ensures

@@ -6,6 +6,7 @@ use Rattle.fond_ast.specs.declared.task.LiftedTask.{LiftedTask}
 use Rattle.fond_meaning.specs.Solutions.{initial}
 use Rattle.fond_task.specs.Within.{is_act_within, is_form_within}
 use Rattle.fond_task.specs.Distinct.{are_distinct_atoms}
+use Rattle.fond_task.specs.Named.{is_named_action, is_named_atom}
 use Rattle.fond_text.specs.Lists.{are_distinct_texts, Somewhere}
 use Rattle.fond_text.specs.declared.code.TheConstants.{MOST_ACTIONS, TOO_MANY_ACTIONS, TOO_MANY_ATOMS}
 use Rattle.fond_text.specs.declared.fault.Fault.{Fault}
@@ -16,6 +17,7 @@ use Rattle.fond_ground.specs.Limits.{has_few_outcomes, IsFirstMany}
 use Rattle.fond_ground.specs.Values.{StandsFor}
 use Rattle.fond_ground.proofs.Actions.{handed_on, refuses_map}
 use Rattle.fond_ground.proofs.Distincts.{acts-distinct, atoms-distinct}
+use Rattle.fond_ground.proofs.Named.{acts-named, atoms-named}
 use Rattle.fond_ground.proofs.Refusals.{no_fault, refused_actions, refused_atoms, refused_outcomes}
 use Rattle.fond_ground.proofs.Zips.{zip-length}
 use Rattle.fond_ground.proofs.ground.ground.Goals as goal
@@ -61,7 +63,7 @@ returns-clause-grounded c =
       acts = subst (λ (t : LiftedTask). AllZip (IsActOf t) (kept_actions t) c.in_ok-acts.acts) same c.in_ok-acts.ensures.acts;
       init = c.in_ok-init.ensures ∙ (λ i. map (set.contains (initial (same i))) (atoms i));
       goal = subst (λ (t : LiftedTask). StandsFor t [] t.goal c.in_ok-goal.goal) same c.in_ok-goal.ensures.value;
-      labels = c.in_ok-labels.ensures;
+      labels = c.in_ok-labels.ensures.labels;
     }
 
 pub invariant_of-result : goal.invariant_of-result
@@ -75,7 +77,7 @@ invariant_of-result c =
     let count = zip-length (IsActOf task) (kept_actions task) c.in_ok-acts.acts acts in
     let long = ap length atoms in
     let over : length (fluent_atoms c.in_ok-table.table.facts.task.now) ≡ length c.in_ok-atoms.atoms = ap (λ (t : LiftedTask). length (fluent_atoms t)) same ∙ sym long in
-    let labels = c.in_ok-labels.ensures in
+    let labels = c.in_ok-labels.ensures.labels in
     record {
       few_atoms = omega (arith, long, few);
       few_acts = omega (arith, count, fewer);
@@ -84,6 +86,11 @@ invariant_of-result c =
       distinct_predicates = ap (λ some. are_distinct_texts some.predicates) labels ∙ task.distinct_predicates;
       distinct_objects = ap (λ some. are_distinct_texts some.objects) labels ∙ task.distinct_objects;
       distinct_schemas = ap (λ some. are_distinct_texts some.schemas) labels ∙ task.distinct_schemas;
+      predicate_names = c.in_ok-labels.ensures.predicates;
+      object_names = c.in_ok-labels.ensures.objects;
+      schema_names = c.in_ok-labels.ensures.schemas;
+      named_atoms = (λ i. list_all (is_named_atom (labels i)) (atoms i)) ∙ atoms-named task;
+      named_acts = ap (λ some. list_all (λ act. is_named_action some act.ground) c.in_ok-acts.acts) labels ∙ acts-named task c.in_ok-acts.acts acts;
       init_long = ap length c.in_ok-init.ensures ∙ length-map c.in_ok-atoms.atoms (set.contains (initial c.in_ok-table.table.facts.task.now));
       goal_within = ap (λ n. is_form_within n c.in_ok-goal.goal) (sym over) ∙ c.in_ok-goal.ensures.within;
       acts_within = ap (λ n. list_all (is_act_within n) c.in_ok-acts.acts) (sym over) ∙ c.in_ok-acts.ensures.within;

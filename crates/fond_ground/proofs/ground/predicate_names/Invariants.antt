@@ -1,5 +1,9 @@
-use Rattle.std.proofs.Common.{◌≡◌, ◌++◌, map, drop}
+use Rattle.std.proofs.Common.{◌≡◌, ◌++◌, All, map, drop}
+use Rattle.fond_text.specs.Name.{IsName}
 use Rattle.fond_ground.proofs.ground.predicate_names.Given as goal
 
 abbrev pub invariant-loop-i : goal.invariant-loop-i
-invariant-loop-i l = l.names ++ map (λ x. x.name) (drop l.i l.task.predicates) ≡ map (λ x. x.name) l.task.predicates
+invariant-loop-i l = record {
+  listed : l.names ++ map (λ x. x.name) (drop l.i l.task.predicates) ≡ map (λ x. x.name) l.task.predicates;
+  are_names : All IsName l.names;
+}

@@ -1,0 +1,260 @@
+-- Certificates of one text are the same.
+use Rattle.std.proofs.Common.{◌≡◌, ◌≢◌, ℕ, ◌+◌, ◌<◌, ◌^◌, ◌∙◌, Bool, List, [], ◌∷◌, ◌++◌, Some, None, All as Each, length, map, codes, refl, sym, ap, arith, append_assoc, length-append}
+use Rattle.std.specs.Fmt.{decimal}
+use Rattle.std.specs.List.{flat_map}
+use Rattle.std.proofs.lemmas.Fmt.{decimal_injective}
+use Rattle.std.proofs.lemmas.List.{append-nil}
+use Rattle.std.proofs.lemmas.List.Elements.{All-head, All-tail}
+use Rattle.fond_text.specs.declared.atom.Atom.{Atom}
+use Rattle.fond_task.specs.Numbers.{act_number}
+use Rattle.fond_task.specs.declared.task.Task.{Task}
+use Rattle.fond_game.specs.Layers.{CubeView}
+use Rattle.fond_game.specs.declared.rule.Pair.{Pair}
+use Rattle.fond_game.specs.declared.rule.Rule.{Rule}
+use Rattle.fond_game.specs.declared.rule.Target.{Target}
+use Rattle.fond_game.specs.declared.rule.Target.TheVariants.{Goal, Rule as ToRule}
+use Rattle.fond_game.specs.declared.rule.Targets.{Targets}
+use Rattle.fond_game.specs.declared.rule.Targets.TheVariants.{One, All}
+use Rattle.fond_layers.specs.Over.{IsOver, AreOver}
+use Rattle.fond_cert.specs.declared.cert.Cert.{Cert}
+use Rattle.fond_cert.specs.declared.cert.Cert.TheVariants.{Policy, Refusal}
+use Rattle.fond_cert.specs.Belongs.{Belongs}
+use Rattle.fond_cert.specs.Faults.{Due, HeaderDue, NothingDue, Lead}
+use Rattle.fond_cert.specs.Items.{IsPairOf, IsRuleOf}
+use Rattle.fond_cert.specs.Lines.{group_text, WrittenLiteral, WrittenLine, CubeLine, ReachLine, EndLine, line_text}
+use Rattle.fond_cert.specs.Sizes.{IsSmallPair, IsSmallTarget, AreSmallTargets, HasSmallNumbers}
+use Rattle.fond_cert.specs.Spellings.{act_leaves, written_literal, written_cube, written_target, layer_lines, pair_line, targets_line, rule_line, cert_lines, lines_text, spelling}
+use Rattle.fond_cert.specs.Words.{atom_numbers}
+use Rattle.fond_cert.proofs.CubeTexts.{zipped, cube_zipped}
+use Rattle.fond_cert.proofs.OneFault.{same_first}
+use Rattle.fond_cert.proofs.OwnLines.{AreFoundFrom, all_found, later_found, indices, numbers_are, cert_leads}
+use Rattle.fond_cert.proofs.Printed.{pairs_of, rules_of}
+use Rattle.fond_cert.proofs.SameLines.{kind_number}
+use Rattle.fond_cert.proofs.TaskNames.{act_found}
+
+-- lines that lead from one place have one text only if they are the same
+
+some_text : (line : WrittenLine) (lines : List WrittenLine) → [] ≢ lines_text (line ∷ lines)
+some_text line lines e =
+    let none = ap length e in
+    absurd (omega (arith, none, length-append (line_text line ++ codes "\n") (lines_text lines), length-append (line_text line) (codes "\n")))
+
+same_lines : (task : Task) (due end other_end : Due) (lines others : List WrittenLine) → Lead task due lines end → Lead task due others other_end → lines_text lines ≡ lines_text others → lines ≡ others
+same_lines task due end other_end [] [] lead other_lead e = refl
+same_lines task due end other_end [] (line ∷ others) lead other_lead e = absurd (some_text line others e)
+same_lines task due end other_end (line ∷ lines) [] lead other_lead e = absurd (some_text line lines (sym e))
+same_lines task due end other_end (line ∷ lines) (next ∷ others) lead other_lead e =
+    let first = same_first task due end other_end line next lines others [] [] lead other_lead (ap (λ text. text ++ []) e) in
+    let same = first.same in
+    let more = same_lines task first.next end other_end lines others first.lead first.other_lead (sym (append-nil (lines_text lines)) ∙ first.texts ∙ append-nil (lines_text others)) in
+    λ i. same i ∷ more i
+
+-- the literals of a cube tell the cube
+
+not_among_later : (number from : ℕ) (atoms : List Atom) (cube : CubeView) (rest : List ℕ) → number < from → ¬ indices from atoms cube ≡ number ∷ rest
+not_among_later number from [] cube rest lt e = absurd (cc)
+not_among_later number from (atom ∷ atoms) [] rest lt e = not_among_later number (from + 1) atoms [] rest (omega (arith, lt)) e
+not_among_later number from (atom ∷ atoms) (None ∷ cube) rest lt e = not_among_later number (from + 1) atoms cube rest (omega (arith, lt)) e
+not_among_later number from (atom ∷ atoms) (Some sign ∷ cube) rest lt e = let same : from ≡ number = cc in omega (arith, same, lt)
+
+module _ (task : Task) where
+  no_literal : (from : ℕ) (atom : Atom) (atoms : List Atom) (cube other : CubeView) (sign : Bool) → AreFoundFrom task from (atom ∷ atoms) → ¬ zipped task.labels atoms cube ≡ zipped task.labels (atom ∷ atoms) (Some sign ∷ other)
+  no_literal from atom atoms cube other sign h e =
+      not_among_later from (from + 1) atoms cube (indices (from + 1) atoms other) (omega arith)
+      (sym (numbers_are task (from + 1) atoms cube (later_found task from atom atoms h)) ∙ ap (atom_numbers task) e ∙ numbers_are task from (atom ∷ atoms) (Some sign ∷ other) h)
+
+  same_zipped : (from : ℕ) (atoms : List Atom) (cube other : CubeView) → AreFoundFrom task from atoms → length cube ≡ length atoms → length other ≡ length atoms → zipped task.labels atoms cube ≡ zipped task.labels atoms other → cube ≡ other
+  same_zipped from [] [] [] h long other_long e = refl
+  same_zipped from [] [] (y ∷ other) h long other_long e = absurd (omega (arith, other_long))
+  same_zipped from [] (x ∷ cube) other h long other_long e = absurd (omega (arith, long))
+  same_zipped from (atom ∷ atoms) [] other h long other_long e = absurd (omega (arith, long))
+  same_zipped from (atom ∷ atoms) (x ∷ cube) [] h long other_long e = absurd (omega (arith, other_long))
+  same_zipped from (atom ∷ atoms) (None ∷ cube) (None ∷ other) h long other_long e =
+      ap (λ rest. None ∷ rest) (same_zipped (from + 1) atoms cube other (later_found task from atom atoms h) (omega (arith, long)) (omega (arith, other_long)) e)
+  same_zipped from (atom ∷ atoms) (None ∷ cube) (Some sign ∷ other) h long other_long e = absurd (no_literal from atom atoms cube other sign h e)
+  same_zipped from (atom ∷ atoms) (Some sign ∷ cube) (None ∷ other) h long other_long e = absurd (no_literal from atom atoms other cube sign h (sym e))
+  same_zipped from (atom ∷ atoms) (Some sign ∷ cube) (Some other_sign ∷ other) h long other_long e =
+      let literal : written_literal task.labels atom sign ≡ written_literal task.labels atom other_sign = cc in
+      let rest : zipped task.labels atoms cube ≡ zipped task.labels atoms other = cc in
+      let signs : sign ≡ other_sign = ap (λ (one : WrittenLiteral). one.sign) literal in
+      let more = same_zipped (from + 1) atoms cube other (later_found task from atom atoms h) (omega (arith, long)) (omega (arith, other_long)) rest in
+      λ i. Some (signs i) ∷ more i
+
+  same_cube : (cube other : CubeView) → length cube ≡ length task.atoms → length other ≡ length task.atoms → written_cube task cube ≡ written_cube task other → cube ≡ other
+  same_cube cube other long other_long e = same_zipped 0 task.atoms cube other (all_found task) long other_long (sym (cube_zipped task cube) ∙ e ∙ cube_zipped task other)
+
+  same_act : (act other : ℕ) → act < length task.acts → other < length task.acts → act_leaves task act ≡ act_leaves task other → act ≡ other
+  same_act act other there other_there e =
+      let some : Some act ≡ Some other = sym (act_found task act there) ∙ ap (λ leaves. act_number task (group_text leaves)) e ∙ act_found task other other_there in
+      cc
+
+  same_number : (n m : ℕ) → n < 2 ^ 32 → m < 2 ^ 32 → decimal n ≡ decimal m → n ≡ m
+  same_number n m small other_small e = decimal_injective n m (omega (arith, small)) (omega (arith, other_small)) e
+
+  -- a pair belongs to the task, and its numbers are small
+  abbrev IsGoodPair : Pair → Type 0
+  IsGoodPair pair = IsPairOf task pair × IsSmallPair pair
+
+  same_pair : (pair other : Pair) → IsGoodPair pair → IsGoodPair other → pair_line task pair ≡ pair_line task other → pair ≡ other
+  same_pair pair other good other_good e =
+      let leaves : act_leaves task pair.act ≡ act_leaves task other.act = cc in
+      let outcomes : decimal pair.outcome ≡ decimal other.outcome = cc in
+      let layers : decimal pair.layer ≡ decimal other.layer = cc in
+      let cubes : decimal pair.cube ≡ decimal other.cube = cc in
+      let literals : written_cube task pair.cond ≡ written_cube task other.cond = cc in
+      let act = same_act pair.act other.act good.0.1 other_good.0.1 leaves in
+      let outcome = same_number pair.outcome other.outcome good.1.0 other_good.1.0 outcomes in
+      let layer = same_number pair.layer other.layer good.1.1 other_good.1.1 layers in
+      let cube = same_number pair.cube other.cube good.1.2 other_good.1.2 cubes in
+      let cond = same_cube pair.cond other.cond good.0.0 other_good.0.0 literals in
+      λ i. record { cond = cond i; act = act i; outcome = outcome i; layer = layer i; cube = cube i }
+
+  same_target : (target other : Target) → IsSmallTarget target → IsSmallTarget other → written_target target ≡ written_target other → target ≡ other
+  same_target Goal Goal small other_small e = refl
+  same_target Goal (ToRule number) small other_small e = absurd (cc)
+  same_target (ToRule number) Goal small other_small e = absurd (cc)
+  same_target (ToRule number) (ToRule other) small other_small e =
+      let digits : decimal number ≡ decimal other = cc in
+      ap ToRule (same_number number other small other_small digits)
+
+  same_targets : (targets others : List Target) → Each IsSmallTarget targets → Each IsSmallTarget others → map written_target targets ≡ map written_target others → targets ≡ others
+  same_targets [] [] small other_small e = refl
+  same_targets [] (other ∷ others) small other_small e = absurd (cc)
+  same_targets (target ∷ targets) [] small other_small e = absurd (cc)
+  same_targets (target ∷ targets) (other ∷ others) small other_small e =
+      let word : written_target target ≡ written_target other = cc in
+      let words : map written_target targets ≡ map written_target others = cc in
+      let first = same_target target other (All-head IsSmallTarget target targets small) (All-head IsSmallTarget other others other_small) word in
+      let more = same_targets targets others (All-tail IsSmallTarget target targets small) (All-tail IsSmallTarget other others other_small) words in
+      λ i. first i ∷ more i
+
+  same_choice : (a b : List (List ℕ)) (targets others : Targets) (l m : List WrittenLiteral) → AreSmallTargets targets → AreSmallTargets others → targets_line a targets l ≡ targets_line b others m →
+      (a ≡ b) × (targets ≡ others) × (l ≡ m)
+  same_choice a b (One outcome target) (One other other_target) l m small other_small e =
+      let leaves : a ≡ b = cc in
+      let digits : decimal outcome ≡ decimal other = cc in
+      let word : written_target target ≡ written_target other_target = cc in
+      let literals : l ≡ m = cc in
+      let number = same_number outcome other small.0 other_small.0 digits in
+      let same = same_target target other_target small.1 other_small.1 word in
+      (leaves, (λ i. One (number i) (same i)), literals)
+  same_choice a b (One outcome target) (All others) l m small other_small e = absurd (cc)
+  same_choice a b (All targets) (One other other_target) l m small other_small e = absurd (cc)
+  same_choice a b (All targets) (All others) l m small other_small e =
+      let leaves : a ≡ b = cc in
+      let words : map written_target targets ≡ map written_target others = cc in
+      let literals : l ≡ m = cc in
+      let same = same_targets targets others small other_small words in
+      (leaves, (λ i. All (same i)), literals)
+
+  -- a rule belongs to the task, and its numbers are small
+  abbrev IsGoodRule : Rule → Type 0
+  IsGoodRule rule = IsRuleOf task rule × AreSmallTargets rule.targets
+
+  same_rule : (rule other : Rule) → IsGoodRule rule → IsGoodRule other → rule_line task rule ≡ rule_line task other → rule ≡ other
+  same_rule rule other good other_good e =
+      let same = same_choice (act_leaves task rule.act) (act_leaves task other.act) rule.targets other.targets (written_cube task rule.cond) (written_cube task other.cond) good.1 other_good.1 e in
+      let act = same_act rule.act other.act good.0.1 other_good.0.1 same.0 in
+      let cond = same_cube rule.cond other.cond good.0.0 other_good.0.0 same.2 in
+      λ i. record { cond = cond i; act = act i; targets = same.1 i }
+
+-- the number of the kind of the first line
+abbrev first_kind : List WrittenLine → ℕ
+first_kind [] = 8
+first_kind (line ∷ lines) = kind_number line
+
+abbrev rest_of : List WrittenLine → List WrittenLine
+rest_of [] = []
+rest_of (line ∷ lines) = lines
+
+-- equal lines that begin with those of items of one kind, and go on with a line of another kind, have the same items and the
+-- same rest
+module _ {X : Type 0} (f : X → WrittenLine) (n : ℕ) (Good : X → Type 0) (kind : (x : X) → kind_number (f x) ≡ n) (same : (x y : X) → Good x → Good y → f x ≡ f y → x ≡ y) where
+  same_items : (xs ys : List X) (s t : List WrittenLine) → Each Good xs → Each Good ys → first_kind s ≢ n → first_kind t ≢ n → map f xs ++ s ≡ map f ys ++ t → (xs ≡ ys) × (s ≡ t)
+  same_items [] [] s t good other_good ends other_ends e = (refl, e)
+  same_items [] (y ∷ ys) s t good other_good ends other_ends e = absurd (ends (ap first_kind e ∙ kind y))
+  same_items (x ∷ xs) [] s t good other_good ends other_ends e = absurd (other_ends (ap first_kind (sym e) ∙ kind x))
+  same_items (x ∷ xs) (y ∷ ys) s t good other_good ends other_ends e =
+      let line : f x ≡ f y = cc in
+      let first = same x y (All-head Good x xs good) (All-head Good y ys other_good) line in
+      let more = same_items xs ys s t (All-tail Good x xs good) (All-tail Good y ys other_good) ends other_ends (ap rest_of e) in
+      ((λ i. first i ∷ more.0 i), more.1)
+
+module _ (task : Task) where
+  abbrev layers_lines : List (List CubeView) → List WrittenLine
+  layers_lines layers = flat_map (layer_lines task) layers
+
+  abbrev cube_line : CubeView → WrittenLine
+  cube_line cube = CubeLine (written_cube task cube)
+
+  no_cube_first : (layers : List (List CubeView)) (s : List WrittenLine) → 3 < first_kind s → first_kind (layers_lines layers ++ s) ≢ 3
+  no_cube_first [] s after e = omega (arith, after, e)
+  no_cube_first (layer ∷ layers) s after e = omega (arith, e)
+
+  layer_apart : (layer : List CubeView) (layers : List (List CubeView)) (s : List WrittenLine) → rest_of (layers_lines (layer ∷ layers) ++ s) ≡ map cube_line layer ++ (layers_lines layers ++ s)
+  layer_apart layer layers s = append_assoc (map cube_line layer) (layers_lines layers) s
+
+  same_layers : (layers others : List (List CubeView)) (s t : List WrittenLine) → AreOver (length task.atoms) layers → AreOver (length task.atoms) others → 3 < first_kind s → 3 < first_kind t →
+      layers_lines layers ++ s ≡ layers_lines others ++ t → (layers ≡ others) × (s ≡ t)
+  same_layers [] [] s t over other_over after other_after e = (refl, e)
+  same_layers [] (other ∷ others) s t over other_over after other_after e = let kind : first_kind s ≡ 2 = ap first_kind e in absurd (omega (arith, after, kind))
+  same_layers (layer ∷ layers) [] s t over other_over after other_after e = let kind : first_kind t ≡ 2 = ap first_kind (sym e) in absurd (omega (arith, other_after, kind))
+  same_layers (layer ∷ layers) (other ∷ others) s t over other_over after other_after e =
+      let Long = IsOver (length task.atoms) in
+      let first = same_items cube_line 3 (λ (cube : CubeView). length cube ≡ length task.atoms) (λ cube. refl)
+      (λ cube cube2 long long2 line. let literals : written_cube task cube ≡ written_cube task cube2 = cc in same_cube task cube cube2 long long2 literals)
+      layer other (layers_lines layers ++ s) (layers_lines others ++ t) (All-head Long layer layers over) (All-head Long other others other_over)
+      (no_cube_first layers s after) (no_cube_first others t other_after) (sym (layer_apart layer layers s) ∙ ap rest_of e ∙ layer_apart other others t) in
+      let more = same_layers layers others s t (All-tail Long layer layers over) (All-tail Long other others other_over) after other_after first.1 in
+      ((λ i. first.0 i ∷ more.0 i), more.1)
+
+  choice_kind : (a : List (List ℕ)) (targets : Targets) (l : List WrittenLiteral) → kind_number (targets_line a targets l) ≡ 5
+  choice_kind a (One outcome target) l = refl
+  choice_kind a (All targets) l = refl
+
+  rule_kind : (rule : Rule) → kind_number (rule_line task rule) ≡ 5
+  rule_kind rule = choice_kind (act_leaves task rule.act) rule.targets (written_cube task rule.cond)
+
+  after_rules : (rules : List Rule) (s : List WrittenLine) → 4 < first_kind s → 4 < first_kind (map (rule_line task) rules ++ s)
+  after_rules [] s after = after
+  after_rules (rule ∷ rules) s after = let kind = rule_kind rule in omega (arith, kind)
+
+  after_pairs : (pairs : List Pair) (s : List WrittenLine) → 4 < first_kind s → 3 < first_kind (map (pair_line task) pairs ++ s)
+  after_pairs [] s after = omega (arith, after)
+  after_pairs (pair ∷ pairs) s after = omega arith
+
+  abbrev last_lines : ℕ → List WrittenLine
+  last_lines reach = ReachLine (decimal reach) ∷ EndLine ∷ []
+
+  abbrev plan_lines : List Rule → ℕ → List WrittenLine
+  plan_lines rules reach = map (rule_line task) rules ++ last_lines reach
+
+  same_certs : (cert other : Cert) → Belongs task cert → Belongs task other → HasSmallNumbers cert → HasSmallNumbers other → cert_lines task cert ≡ cert_lines task other → cert ≡ other
+  same_certs (Policy layers pairs rules reach) (Policy layers2 pairs2 rules2 reach2) h h2 small small2 e =
+      let ends = after_rules rules (last_lines reach) (omega arith) in
+      let ends2 = after_rules rules2 (last_lines reach2) (omega arith) in
+      let one = same_layers layers layers2 (map (pair_line task) pairs ++ plan_lines rules reach) (map (pair_line task) pairs2 ++ plan_lines rules2 reach2) h.0.over h2.0.over
+      (after_pairs pairs (plan_lines rules reach) ends) (after_pairs pairs2 (plan_lines rules2 reach2) ends2) (ap rest_of e) in
+      let of = pairs_of task pairs h.1 in
+      let of2 = pairs_of task pairs2 h2.1 in
+      let two = same_items (pair_line task) 4 (IsGoodPair task) (λ pair. refl) (same_pair task) pairs pairs2 (plan_lines rules reach) (plan_lines rules2 reach2)
+      (λ k d lt. (of k d lt, small.0 k d lt)) (λ k d lt. (of2 k d lt, small2.0 k d lt)) (λ same. omega (arith, ends, same)) (λ same. omega (arith, ends2, same)) one.1 in
+      let rules_in = rules_of task rules h.2 in
+      let rules_in2 = rules_of task rules2 h2.2 in
+      let three = same_items (rule_line task) 5 (IsGoodRule task) rule_kind (same_rule task) rules rules2 (last_lines reach) (last_lines reach2)
+      (λ k d lt. (rules_in k d lt, small.1 k d lt)) (λ k d lt. (rules_in2 k d lt, small2.1 k d lt)) (λ same. omega (arith, same)) (λ same. omega (arith, same)) two.1 in
+      let last : last_lines reach ≡ last_lines reach2 = three.1 in
+      let digits : decimal reach ≡ decimal reach2 = cc in
+      let number = decimal_injective reach reach2 small.2 small2.2 digits in
+      λ i. Policy (one.0 i) (two.0 i) (three.0 i) (number i)
+  same_certs (Policy layers pairs rules reach) (Refusal layers2) h h2 small small2 e = let kinds : 0 ≡ 1 = ap first_kind e in absurd (omega (arith, kinds))
+  same_certs (Refusal layers) (Policy layers2 pairs2 rules2 reach2) h h2 small small2 e = let kinds : 1 ≡ 0 = ap first_kind e in absurd (omega (arith, kinds))
+  same_certs (Refusal layers) (Refusal layers2) h h2 small small2 e =
+      let one = same_layers layers layers2 (EndLine ∷ []) (EndLine ∷ []) h.over h2.over (omega arith) (omega arith) (ap rest_of e) in
+      ap Refusal one.0
+
+-- certificates of a task with one spelling are the same
+pub one_cert : (task : Task) (cert other : Cert) → Belongs task cert → Belongs task other → HasSmallNumbers cert → HasSmallNumbers other → spelling task cert ≡ spelling task other → cert ≡ other
+one_cert task cert other h k small other_small e =
+    same_certs task cert other h k small other_small
+    (same_lines task HeaderDue NothingDue NothingDue (cert_lines task cert) (cert_lines task other) (cert_leads task cert h small) (cert_leads task other k other_small) e)
