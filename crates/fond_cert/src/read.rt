@@ -14,23 +14,26 @@ use crate::error::CertError;
 use crate::lines::read_lines;
 use fond_task::task::Task;
 use fond_task::task_index::TaskIndex;
+use fond_text::fault::NoMemory;
 use std::alloc::Global;
 
-/// The certificate of a draft.
-fn finish(draft: Draft) -> Cert
-    ensures { result ≡ cert_of draft }
+/// The certificate of a draft, with an index of all its rules.
+fn finish(draft: Draft) -> Result<Cert, NoMemory>
+    ensures { IfOk result (λ cert. cert ≡ cert_of draft) }
 {
-    match draft.reach {
-        Some(reach) => Cert::Policy {
+    let Some(reach) = draft.reach else {
+        return Ok(Cert::Refusal {
             layers: draft.layers,
-            pairs: draft.pairs,
-            rules: draft.rules,
-            reach,
-        },
-        None => Cert::Refusal {
-            layers: draft.layers,
-        },
-    }
+        });
+    };
+    let mut rules = draft.rules;
+    rules.index()?;
+    Ok(Cert::Policy {
+        layers: draft.layers,
+        pairs: draft.pairs,
+        rules,
+        reach,
+    })
 }
 
 /// The certificate that a text spells, or the text's first fault (docs/CERTIFICATES.md). Takes time linear in the length
@@ -44,5 +47,5 @@ pub fn read_cert(alloc: Global, task: &Task, text: &[u8]) -> Result<Cert, CertEr
 {
     let index = TaskIndex::of(alloc, task)?;
     let draft = read_lines(alloc, &index, text)?;
-    Ok(finish(draft))
+    Ok(finish(draft)?)
 }

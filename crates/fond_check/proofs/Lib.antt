@@ -1,2 +1,4 @@
 pub mod Firsts
 pub mod Walking
+pub mod Counted
+pub mod Accepted

@@ -1,3 +1,4 @@
 pub mod Verdicts
 pub mod Walks
 pub mod Texts
+pub mod Laws

@@ -88,6 +88,11 @@ pub record AreLean (task : Task) (layers : List (List CubeView)) (pairs : List P
   pub pairs_lean : (pair : Pair) → Contains pairs pair → IsLeanPair task layers pair
   pub rules_lean : (number : ℕ) (rule : Rule) → slice_get rules number ≡ Some rule → IsLeanRule task pairs rules number rule
 
+-- a certificate is correct
+abbrev pub IsRight : Task → Cert → Type 0
+IsRight task (PolicyCert layers pairs rules reach) = IsRightPolicy task layers pairs rules reach
+IsRight task (RefusalCert layers) = IsRightRefusal task layers
+
 -- a verdict on a policy certificate
 abbrev pub IsPolicyVerdict : Task → List (List CubeView) → List Pair → List Rule → ℕ → Verdict → Type 0
 IsPolicyVerdict task layers pairs rules reach (LayerGoal layer cube) = IsFirstBadLayer task layers layer (Goal cube)

@@ -4,6 +4,7 @@
 #![tactic(auto)]
 
 pub mod check;
+pub mod laws;
 mod lean;
 mod parts;
 pub mod text;

@@ -6,6 +6,7 @@ use Rattle.fond_meaning.specs.Solutions.{IsSolution, IsSolvable}
 use Rattle.fond_task.specs.declared.task.Task.{Task}
 use Rattle.fond_game.specs.declared.rule.Rule.{Rule}
 use Rattle.fond_cert.specs.Belongs.{Belongs}
+use Rattle.fond_cert.specs.Sizes.{HasSmallNumbers}
 use Rattle.fond_cert.specs.Spellings.{spelling}
 use Rattle.fond_cert.specs.declared.cert.Cert.{Cert}
 use Rattle.fond_cert.specs.declared.cert.Cert.TheVariants.{Policy, Refusal}
@@ -19,9 +20,9 @@ use Rattle.fond_tool.specs.Replies.{Reply, fault_reply}
 abbrev pub DescribeGround : TaskTexts → LiftedTask → Task → Type 0
 DescribeGround texts task game = Describe texts task × IsGroundOf task game
 
--- a text is that of a certificate of a ground task
+-- a text is that of a certificate of a ground task, whose numbers fit their types
 abbrev pub IsCertText : Task → Cert → List ℕ → Type 0
-IsCertText game cert text = Belongs game cert × (text ≡ spelling game cert)
+IsCertText game cert text = Belongs game cert × HasSmallNumbers cert × (text ≡ spelling game cert)
 
 -- the rules of a certificate; a refusal has none
 abbrev pub rules_of : Cert → List Rule

@@ -14,4 +14,4 @@ returns-in_err-cert-clause-rejected c =
 
 pub returns-clause-replied : goal.returns-clause-replied
 returns-clause-replied c =
-    judged c.args.files.now.task c.args.files.now.game c.args.cert.now c.requires c.in_ok-cert.cert (c.in_ok-cert.ensures.belongs, c.in_ok-cert.ensures.read) c.in_ok-verdict_answer.field-0 c.in_ok-verdict_answer.ensures
+    judged c.args.files.now.task c.args.files.now.game c.args.cert.now c.requires c.in_ok-cert.cert (c.in_ok-cert.ensures.belongs, c.in_ok-cert.ensures.small, c.in_ok-cert.ensures.read) c.in_ok-verdict_answer.field-0 c.in_ok-verdict_answer.ensures

@@ -20,7 +20,7 @@ returns-in_err-numbers-clause-rejected c =
     let game = c.args.files.now.game in
     let error = c.in_err-numbers.field-0.0 in
     rejected_by _ (of_script error) (AnswersRun task game c.args.cert.now c.args.script.now) c.from_residual-in_err-numbers.ensures.1
-    (script_rejected task game c.requires c.args.cert.now c.args.script.now c.in_ok-cert.cert (c.in_ok-cert.ensures.belongs, c.in_ok-cert.ensures.read) error c.in_err-numbers.ensures.refused)
+    (script_rejected task game c.requires c.args.cert.now c.args.script.now c.in_ok-cert.cert (c.in_ok-cert.ensures.belongs, c.in_ok-cert.ensures.small, c.in_ok-cert.ensures.read) error c.in_err-numbers.ensures.refused)
 
 pub trace_answer-requires : goal.trace_answer-requires
 trace_answer-requires c = subst (BelongTo c.args.files.now.game) (sym c.rules_of-rules.ensures) (rules_belong c.args.files.now.game c.in_ok-cert.cert c.in_ok-cert.ensures.belongs)
@@ -28,5 +28,5 @@ trace_answer-requires c = subst (BelongTo c.args.files.now.game) (sym c.rules_of
 pub returns-clause-replied : goal.returns-clause-replied
 returns-clause-replied c =
     let numbers = c.in_ok-numbers.numbers.items in
-    traced c.args.files.now.task c.args.files.now.game c.requires c.args.cert.now c.args.script.now c.in_ok-cert.cert (c.in_ok-cert.ensures.belongs, c.in_ok-cert.ensures.read)
+    traced c.args.files.now.task c.args.files.now.game c.requires c.args.cert.now c.args.script.now c.in_ok-cert.cert (c.in_ok-cert.ensures.belongs, c.in_ok-cert.ensures.small, c.in_ok-cert.ensures.read)
     numbers c.in_ok-trace_answer.field-0 c.in_ok-numbers.ensures.read (rw (c.deref.ensures.value, c.rules_of-rules.ensures) at c.in_ok-trace_answer.ensures)
