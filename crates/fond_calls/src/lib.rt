@@ -3,6 +3,8 @@
 #![tactic(auto)]
 
 #[cfg(test)]
+mod check_tests;
+#[cfg(test)]
 mod coin;
 #[cfg(test)]
 mod edge_tests;
@@ -20,6 +22,8 @@ mod law_tests;
 mod layers_tests;
 #[cfg(test)]
 mod lookup_tests;
+#[cfg(test)]
+mod match_tests;
 #[cfg(test)]
 mod oneof_tests;
 #[cfg(test)]
