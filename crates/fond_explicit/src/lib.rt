@@ -1,0 +1,8 @@
+//! Deciding a ground task by its states one by one.
+#![tactic(auto)]
+
+mod earn;
+mod fate;
+mod moves;
+mod preds;
+mod rank;
