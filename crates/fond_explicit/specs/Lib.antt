@@ -2,3 +2,4 @@ pub mod Moves
 pub mod Heads
 pub mod Fates
 pub mod Rounds
+pub mod Begun

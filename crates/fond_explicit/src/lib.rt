@@ -6,3 +6,4 @@ mod fate;
 mod moves;
 mod preds;
 mod rank;
+mod settle;
