@@ -6,3 +6,7 @@ pub mod Searched
 pub mod Mapped
 pub mod Lost
 pub mod Rounds
+pub mod Nexts
+pub mod Distinct
+pub mod Stuck
+pub mod Winning

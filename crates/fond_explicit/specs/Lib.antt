@@ -3,3 +3,5 @@ pub mod Heads
 pub mod Fates
 pub mod Rounds
 pub mod Begun
+pub mod Answers
+pub mod Spaces

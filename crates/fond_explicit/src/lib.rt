@@ -1,6 +1,7 @@
 //! Deciding a ground task by its states one by one.
 #![tactic(auto)]
 
+pub mod answer;
 mod earn;
 mod fate;
 mod moves;
