@@ -10,3 +10,5 @@ pub mod Nexts
 pub mod Distinct
 pub mod Stuck
 pub mod Winning
+pub mod Grown
+pub mod Opened

@@ -51,6 +51,7 @@ settled_end goals moves round bound fates now none = record {
   settled = λ node within. false_from_ne_true _ (λ is. true≢false (sym (list_any_at is_open fates node Open (omega (arith, now.whole)) is) ∙ none));
   ranks_hold = now.ranks_hold;
   rounds = round;
+  few = omega (arith, now.few);
   falls_hold = now.falls_hold;
 }
 
@@ -121,8 +122,8 @@ less_kept round (fate ∷ fates) some =
     let new = count-cons is_kept (dropped round fate) (map (dropped round) fates) in
     let old = count-cons is_kept fate fates in
     ⊎_elim
-    (λ here. omega (arith, new, old, open-dropped round fate here, no_more_kept round fates))
-    (λ later. omega (arith, new, old, kept-dropped round fate, less_kept round fates later))
+    (λ (here : is_open fate ≡ true). omega (arith, new, old, open-dropped round fate here, no_more_kept round fates))
+    (λ (later : list_any is_open fates ≡ true). omega (arith, new, old, kept-dropped round fate, less_kept round fates later))
     (or_cases _ _ some)
 
 module _ (goals : List Bool) (moves : List Move) (round bound : ℕ) (fates : List Fate) (now : IsRound goals moves round bound fates)

@@ -24,7 +24,7 @@ is_held task choices rank state nearer = ⊎_elim (λ goal. inl goal) (λ small.
 
 module _ (task : Task) (from : List Bool) (states : List (List Bool)) (moves : List Move) (opened : ℕ) (space : IsSpace task from states moves opened)
     (goals : List Bool) (sound : AreSound task states goals) (whole : length goals ≡ length states) (fates : List Fate) (settled : AreSettled goals moves fates)
-    (choices : List ChoiceView) (ranks : AreRanks states moves fates choices) where
+    (choices : List ChoiceView) (ranks : AreRanks states moves fates (length states) choices) where
   module _ (node : ℕ) (state : List Bool) (has_state : slice_get states node ≡ Some state) where
     is_goal : fate_of fates node ≡ Goal → IsGoal task state
     is_goal is = sound node state has_state (sym (settled.goals_hold node) ∙ ap is_marked is)
@@ -41,7 +41,7 @@ module _ (task : Task) (from : List Bool) (states : List (List Bool)) (moves : L
         by : (fate : Fate) → fate_of fates node ≡ fate → is_kept fate ≡ true → IsHeld task choices state
         by Open is keeps = absurd (never_open is)
         by Goal is keeps = inl (is_goal is)
-        by (Ranked rank move) is keeps = let found = ranks.whole node rank move state has_state is in inr (record { choice = found.0; one = found.1; here = found.2 })
+        by (Ranked rank move) is keeps = let found = ranks.whole node rank move state (slice_get_within states node state has_state) has_state is in inr (record { choice = found.0; one = found.1; here = found.2 })
         by (Fallen round) is keeps = absurd (false≢true keeps)
 
     -- the state of a node below a rank is a goal or has a choice of a smaller rank
@@ -52,7 +52,7 @@ module _ (task : Task) (from : List Bool) (states : List (List Bool)) (moves : L
         by Open is below = absurd (false≢true below)
         by Goal is below = inl (is_goal is)
         by (Ranked rank move) is below =
-            let found = ranks.whole node rank move state has_state is in
+            let found = ranks.whole node rank move state (slice_get_within states node state has_state) has_state is in
             let small : rank < bound = ltb-true rank bound below in
             inr (record { choice = found.0; one = found.1; here = found.2; smaller = omega (arith, found.3) })
         by (Fallen round) is below = absurd (false≢true below)

@@ -1,5 +1,5 @@
 -- The fates of the nodes of a graph: which are won, by which moves, and which are lost, in which round.
-use Rattle.std.specs.Prelude.{◌≡◌, ℕ, ◌<◌, ◌==◌, ◌&&◌, ◌||◌, nat_lt, Bool, true, false, not, List, All, length, slice_index_or, if◌then◌else◌}
+use Rattle.std.specs.Prelude.{◌≡◌, ℕ, ◌<◌, ◌≤◌, ◌==◌, ◌&&◌, ◌||◌, nat_lt, Bool, true, false, not, List, All, length, slice_index_or, if◌then◌else◌}
 use Rattle.std.specs.List.{list_all, list_any}
 use Rattle.fond_explicit.specs.declared.fate.Fate.{Fate}
 use Rattle.fond_explicit.specs.declared.fate.Fate.TheVariants.{Open, Goal, Ranked, Fallen}
@@ -103,6 +103,7 @@ pub record AreSettled (goals : List Bool) (moves : List Move) (fates : List Fate
   pub settled : (node : ℕ) → node < length goals → is_open (fate_of fates node) ≡ false
   pub ranks_hold : RanksHold moves fates
   pub rounds : ℕ
+  pub few : rounds ≤ length goals
   pub falls_hold : FallsHold moves fates rounds
 
 -- moves are over this many nodes

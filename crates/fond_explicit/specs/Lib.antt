@@ -5,3 +5,4 @@ pub mod Rounds
 pub mod Begun
 pub mod Answers
 pub mod Spaces
+pub mod Openings

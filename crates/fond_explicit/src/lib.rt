@@ -7,4 +7,6 @@ mod fate;
 mod moves;
 mod preds;
 mod rank;
+mod opening;
 mod settle;
+mod space;
