@@ -12,3 +12,5 @@ pub mod Stuck
 pub mod Winning
 pub mod Grown
 pub mod Opened
+pub mod Choosing
+pub mod Runs

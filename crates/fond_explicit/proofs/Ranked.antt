@@ -45,12 +45,14 @@ module _ (moves : List Move) (fates : List Fate) (number bound : ℕ) (there : n
       (λ same.
       let both : Ranked bound number ≡ Ranked rank by = sym (at_node k same) ∙ is in
       let same_rank : bound ≡ rank = cc in
-      let same_by : number ≡ by = cc in
-      (omega arith, record {
-        there = subst (λ n. n < length moves) same_by there;
-        source = subst (λ n. (move_at moves n).source ≡ k) same_by (sym same);
-        earned = subst (λ n. earns_after rank n) same_by (subst (λ r. earns_after r number) same_rank (earns_later fates after later bound (move_at moves number) (earns_bound bound fates now.below (move_at moves number) won)));
-      }))
+      let same_by : number ≡ by = cc in (
+        omega arith,
+        record {
+          there = subst (λ n. n < length moves) same_by there;
+          source = subst (λ n. (move_at moves n).source ≡ k) same_by (sym same);
+          earned = subst (λ n. earns_after rank n) same_by (subst (λ r. earns_after r number) same_rank (earns_later fates after later bound (move_at moves number) (earns_bound bound fates now.below (move_at moves number) won)));
+        },
+      ))
       (λ other.
       let before : fate_of fates k ≡ Ranked rank by = sym (at_other k other) ∙ is in
       let earned = now.ranks_hold k rank by before in
@@ -69,7 +71,7 @@ module _ (moves : List Move) (fates : List Fate) (number bound : ℕ) (there : n
         let before : fate_of fates k ≡ Fallen fell = ⊎_elim (λ same. absurd (not_fallen (sym (at_node k same) ∙ is))) (λ other. sym (at_other k other) ∙ is) (cases_eq k node) in
         let falls = now.falls_hold k fell before in
         (falls.0, λ by small source. forces_later fates after later fell (move_at moves by) ∙ falls.1 by small source)
-    );
+        );
     few = (let same : count_by is_kept after ≡ count_by is_kept fates = count_same is_kept fates node (Ranked bound number) Open within (ap is_kept was) in omega (arith, same, now.few));
   }
     where

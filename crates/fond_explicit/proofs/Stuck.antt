@@ -77,7 +77,6 @@ exact state form atoms long within = exact-value state form (ap (λ n. is_form_w
 module _ (task : Task) (from : List Bool) (states : List (List Bool)) (moves : List Move) (opened : ℕ) (space : IsSpace task from states moves opened) (distinct : AreDistinct states)
     (goals : List Bool) (hopeful : AreHopeful task states opened goals) (fates : List Fate) (settled : AreSettled goals moves fates)
     (layers : List (List CubeView)) (rounds : AreRounds states fates (length states) layers) where
-
   module _ (before : List (List CubeView)) (layer : List CubeView) (after : List (List CubeView)) (split : layers ≡ before ++ layer ∷ after) where
     abbrev round : ℕ
     round = length before
@@ -106,12 +105,15 @@ module _ (task : Task) (from : List Bool) (states : List (List Bool)) (moves : L
             let found = rounds.whole target into (next_state state outcome) (slice_get_within states target (next_state state outcome) has_target) has_target fell_target in
             let at = number_of act.outcomes outcome one in
             let outcome_within : list_all (is_entry_within (length task.atoms)) outcome ≡ true = all_at (list_all (is_entry_within (length task.atoms))) act.outcomes at.0 outcome (and_parts _ _ act_within).1 at.1 in
-            let is_next : image (full_cube state) outcome ≡ full_cube (next_state state outcome) = exact-image state outcome (ap (λ n. list_all (is_entry_within n) outcome) long ∙ outcome_within) in
-            (layer_at layers into, numbered_layer layers into (full_cube (next_state state outcome)) found, record {
-              other = full_cube (next_state state outcome);
-              one = found;
-              lies = subst (λ cube. CubeLiesIn cube (full_cube (next_state state outcome))) (sym is_next) (λ atom sign is. is);
-            })
+            let is_next : image (full_cube state) outcome ≡ full_cube (next_state state outcome) = exact-image state outcome (ap (λ n. list_all (is_entry_within n) outcome) long ∙ outcome_within) in (
+              layer_at layers into,
+              numbered_layer layers into (full_cube (next_state state outcome)) found,
+              record {
+                other = full_cube (next_state state outcome);
+                one = found;
+                lies = subst (λ cube. CubeLiesIn cube (full_cube (next_state state outcome))) (sym is_next) (λ atom sign is. is);
+              },
+            )
 
         into_layer : (outcome : List Entry) → Contains act.outcomes outcome → LeadsTo states state (λ target. fell_in round (fate_of fates target)) outcome → Leads (full_cube state) outcome layer
         into_layer outcome one to =
@@ -195,6 +197,6 @@ module _ (task : Task) (from : List Bool) (states : List (List Bool)) (moves : L
         let at = number_of layers layer in_layers in
         let fallen = rounds.sound at.0 cube (subst (λ l. Contains l cube) (sym (layer_numbered layers at.0 layer at.1)) has) in
         record { state = fallen.state; reachable = space.reachable fallen.node fallen.state fallen.has_state; full = fallen.full }
-    );
+        );
     once = distinct-concat layers (λ number layer at. subst AreDistinct (layer_numbered layers number layer at) (rounds.once number)) apart;
   }

@@ -6,3 +6,5 @@ pub mod Begun
 pub mod Answers
 pub mod Spaces
 pub mod Openings
+pub mod Strata
+pub mod Runs

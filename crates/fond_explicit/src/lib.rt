@@ -2,11 +2,15 @@
 #![tactic(auto)]
 
 pub mod answer;
+mod choose;
+mod decide;
 mod earn;
 mod fate;
 mod moves;
+mod opening;
 mod preds;
 mod rank;
-mod opening;
 mod settle;
+pub mod solve;
 mod space;
+mod strata;

@@ -103,7 +103,9 @@ fn open_act(
         return Ok(false);
     }
     let unfair = t.acts.get(act as usize).unfair;
-    space.moves.push(space.opened, act, unfair, scratch.targets.as_slice())?;
+    space
+        .moves
+        .push(space.opened, act, unfair, scratch.targets.as_slice())?;
     Ok(true)
 }
 

@@ -137,11 +137,7 @@ fn needs(alloc: Global, moves: &Moves, fates: &[Fate]) -> Result<Vec<u32>, NoMem
 {
     let mut need = Vec::new(alloc);
     for number in 0..moves.len() {
-        need.push(needed(
-            fates,
-            moves.is_unfair(number),
-            moves.targets(number),
-        ))?;
+        need.push(needed(fates, moves.is_unfair(number), moves.targets(number)))?;
     }
     Ok(need)
 }

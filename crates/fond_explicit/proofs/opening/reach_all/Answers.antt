@@ -55,7 +55,7 @@ loop-outcome-preserved c =
           let P : Act → Type 0 = λ a. AreNexts c.reach.new.states state c.push.new.self.items (take (k + 1) a.outcomes) in
           subst P same (nexts_more c.loop-outcome.states c.reach.new.states (kept_stay c.loop-outcome.states c.reach.new.states next c.in-Some.node kept) state c.loop-outcome.scratch.targets.items c.push.new.self.items
           act.outcomes k c.in-Some.node within (c.loop-outcome.invariant.nexts act c.get.ensures) (kept.numbered ∙ ap (λ s. Some s) given) c.in_ok-push-in-Some.ensures.items)
-      );
+          );
     }
 
 pub returns-clause-room : goal.returns-clause-room
