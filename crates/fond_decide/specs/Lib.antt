@@ -1,0 +1,4 @@
+pub mod Decisions
+pub mod Targets
+pub mod Places
+pub mod Plans
