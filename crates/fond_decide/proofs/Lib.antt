@@ -1,0 +1,4 @@
+pub mod Lists
+pub mod Sure
+pub mod Ready
+pub mod Right

@@ -1,5 +1,6 @@
 -- Choices in the order of their ranks.
-use Rattle.std.specs.Prelude.{◌≡◌, ◌<◌, ◌≤◌, ℕ, List, Some, slice_get, Contains}
+use Rattle.std.specs.Prelude.{◌≡◌, ℕ, List, Some, slice_get, Contains}
+use Rattle.std.specs.List.Sorted.{IsNonDecreasingBy}
 use Rattle.fond_explicit.specs.Answers.{ChoiceView}
 use Rattle.fond_decide.specs.declared.order.Place.{Place}
 
@@ -17,4 +18,4 @@ AllPlaced choices places = (number : ℕ) (choice : ChoiceView) → slice_get ch
 pub record AreInOrder (choices : List ChoiceView) (places : List Place) : Type 0 where
   pub each : (place : Place) → Contains places place → IsPlace choices place
   pub all : AllPlaced choices places
-  pub rising : (early late : ℕ) (place other : Place) → early < late → slice_get places early ≡ Some place → slice_get places late ≡ Some other → place.rank ≤ other.rank
+  pub rising : IsNonDecreasingBy (λ place. place.rank) places

@@ -1,8 +1,9 @@
 //! Deciding a task.
 
 ghost use Rattle.fond_decide.specs.Decisions.{IsDecision, IsRightCert};
-ghost use Rattle.fond_explicit.specs.Answers.{AreWinning};
-ghost use Rattle.std.specs.Prelude.{◌≤◌, IfOk};
+ghost use Rattle.fond_explicit.specs.Answers.{AreStuck, AreWinning};
+ghost use Rattle.fond_game.specs.Certificates.{LiesInLayers};
+ghost use Rattle.std.specs.Prelude.{◌<◌, ◌≤◌, ◌^◌, All, length, IfOk};
 
 use crate::plan::rules_for;
 use fond_cert::cert::Cert;
@@ -38,6 +39,26 @@ fn policy_of(alloc: Global, t: &Task, choices: &Choices) -> Result<Cert, NoMemor
     })
 }
 
+/// Reads the layers, whose type keeps that each has fewer than 2^32 cubes.
+fn read_sizes(layers: &Layers)
+    ensures few { length layers.now < 2 ^ 32 }
+    ensures few_cubes { All (λ layer. length layer < 2 ^ 32) layers.now }
+{
+    for at in 0..layers.len() {
+        let _layer = layers.get(at);
+    }
+}
+
+/// The certificate of layers that have the initial state.
+fn refusal_of(t: &Task, layers: Layers) -> Cert
+    requires stuck { AreStuck t.now t.now.init layers }
+    requires lies { LiesInLayers t.now.init layers }
+    ensures { IsRightCert t.now result }
+{
+    read_sizes(&layers);
+    Cert::Refusal { layers }
+}
+
 /// Decides a task within a budget of opened states: a correct certificate of a policy, or one of unsolvability, or that more
 /// states are reachable than the budget. Takes the time of `solve`, and for a policy that of a walk through the states
 /// that it reaches.
@@ -47,7 +68,7 @@ pub fn decide(alloc: Global, t: &Task, budget: u32) -> Result<Decision, NoMemory
 {
     match solve(alloc, t, &t.init, budget)? {
         Solved::Won(choices, _) => Ok(Decision::Certified(policy_of(alloc, t, &choices)?)),
-        Solved::Lost(layers) => Ok(Decision::Certified(Cert::Refusal { layers })),
+        Solved::Lost(layers) => Ok(Decision::Certified(refusal_of(t, layers))),
         Solved::Spent => Ok(Decision::Undecided),
     }
 }

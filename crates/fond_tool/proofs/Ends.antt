@@ -8,7 +8,7 @@ use Rattle.fond_meaning.specs.Truths.{holds}
 use Rattle.fond_tool.specs.declared.status.Status.{Status}
 use Rattle.fond_tool.specs.declared.status.Status.TheVariants.{Done, Unsolvable, Undecided, Refused, BadWords, ReadFault, WriteFault, Rejected, Stopped, NoMemory}
 use Rattle.fond_tool.specs.declared.words.Command.{Command}
-use Rattle.fond_tool.specs.declared.words.Command.TheVariants.{Succ, Run, Check}
+use Rattle.fond_tool.specs.declared.words.Command.TheVariants.{Succ, Run, Check, Plan}
 use Rattle.fond_tool.specs.Commands.{CommandReply}
 use Rattle.fond_tool.specs.Ends.{ToolReply, Ends, Writes}
 use Rattle.fond_tool.specs.Fetches.{Reads}
@@ -18,6 +18,7 @@ use Rattle.fond_check.specs.declared.verdict.Verdict.{Verdict}
 use Rattle.fond_check.specs.declared.verdict.Verdict.TheVariants.{Accepted, Rule, Pair, LayerGoal, LayerAct, NoRule, Count, Outside}
 use Rattle.fond_tool.specs.Certified.{TaskReply}
 use Rattle.fond_tool.specs.Checks.{AnswersCheck, CheckReply, verdict_status}
+use Rattle.fond_tool.specs.Plans.{AnswersPlan, PlanReply}
 use Rattle.fond_tool.specs.Runs.{AnswersRun, RunReply}
 use Rattle.fond_tool.specs.Successors.{AnswersAction, AnswersWord, SuccReply}
 
@@ -71,6 +72,15 @@ check_status : {texts : TaskTexts} {cert : List ℕ} {reply : Reply} → CheckRe
 check_status (TaskReply.refused fault first) = refl
 check_status (TaskReply.answered task game reply of answers) = judged_status answers
 
+planned_status : {task : LiftedTask} {game : Task} {budget : ℕ} {reply : Reply} → AnswersPlan task game budget reply → is_reply_status reply.status ≡ true
+planned_status (AnswersPlan.policy layers pairs rules reach text is right solves) = refl
+planned_status (AnswersPlan.unsolvable layers text is right none) = refl
+planned_status (AnswersPlan.undecided more) = refl
+
+task_plan_status : {texts : TaskTexts} {budget : ℕ} {reply : Reply} → TaskReply texts (λ task game. AnswersPlan task game budget) reply → is_reply_status reply.status ≡ true
+task_plan_status (TaskReply.refused fault first) = refl
+task_plan_status (TaskReply.answered task game reply of answers) = planned_status answers
+
 command_status : (command : Command) (given contents : List (List ℕ)) (reply : Reply) → CommandReply command given contents reply → is_reply_status reply.status ≡ true
 command_status Succ (d ∷ p ∷ action ∷ []) (domain ∷ problem ∷ []) reply h = succ_status h
 command_status Succ [] contents reply h = absurd h
@@ -93,6 +103,16 @@ command_status Check given (domain ∷ problem ∷ []) reply h = absurd h
 command_status Check given (domain ∷ problem ∷ side ∷ []) reply h = absurd h
 command_status Check given (domain ∷ problem ∷ side ∷ cert ∷ []) reply h = check_status h
 command_status Check given (domain ∷ problem ∷ side ∷ cert ∷ other ∷ others) reply h = absurd h
+command_status Plan [] contents reply h = absurd h
+command_status Plan (d ∷ []) contents reply h = absurd h
+command_status Plan (d ∷ p ∷ []) contents reply h = absurd h
+command_status Plan (d ∷ p ∷ u ∷ []) contents reply h = absurd h
+command_status Plan (d ∷ p ∷ u ∷ n ∷ []) [] reply h = absurd h
+command_status Plan (d ∷ p ∷ u ∷ n ∷ []) (domain ∷ []) reply h = absurd h
+command_status Plan (d ∷ p ∷ u ∷ n ∷ []) (domain ∷ problem ∷ []) reply h = absurd h
+command_status Plan (d ∷ p ∷ u ∷ n ∷ []) (domain ∷ problem ∷ side ∷ []) reply h = task_plan_status h.2
+command_status Plan (d ∷ p ∷ u ∷ n ∷ []) (domain ∷ problem ∷ side ∷ other ∷ others) reply h = absurd h
+command_status Plan (d ∷ p ∷ u ∷ n ∷ other ∷ others) contents reply h = absurd h
 
 -- no reply has the status of a write fault, or of memory that ran out
 pub reply_status : {words : List (List ℕ)} {reads : Reads} {reply : Reply} → ToolReply words reads reply → is_reply_status reply.status ≡ true

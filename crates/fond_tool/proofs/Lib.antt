@@ -3,5 +3,6 @@ mod Checks
 mod Ends
 mod Fitting
 mod Lists
+mod Planned
 mod Rejections
 mod Runs

@@ -1,8 +1,9 @@
 -- What each command replies.
 use Rattle.std.specs.Prelude.{ℕ, List, [], ◌∷◌}
 use Rattle.fond_tool.specs.declared.words.Command.{Command}
-use Rattle.fond_tool.specs.declared.words.Command.TheVariants.{Succ, Run, Check}
+use Rattle.fond_tool.specs.declared.words.Command.TheVariants.{Succ, Run, Check, Plan}
 use Rattle.fond_tool.specs.Checks.{CheckReply}
+use Rattle.fond_tool.specs.Plans.{PlanReply}
 use Rattle.fond_tool.specs.Replies.{Reply}
 use Rattle.fond_tool.specs.Runs.{RunReply}
 use Rattle.fond_tool.specs.Successors.{SuccReply}
@@ -13,4 +14,5 @@ abbrev pub CommandReply : Command → List (List ℕ) → List (List ℕ) → Re
 CommandReply Succ (d ∷ p ∷ action ∷ []) (domain ∷ problem ∷ []) = SuccReply (record { domain = domain; problem = problem; side = [] }) action
 CommandReply Run given (domain ∷ problem ∷ side ∷ cert ∷ script ∷ []) = RunReply (record { domain = domain; problem = problem; side = side }) cert script
 CommandReply Check given (domain ∷ problem ∷ side ∷ cert ∷ []) = CheckReply (record { domain = domain; problem = problem; side = side }) cert
+CommandReply Plan (d ∷ p ∷ u ∷ budget ∷ []) (domain ∷ problem ∷ side ∷ []) = PlanReply (record { domain = domain; problem = problem; side = side }) budget
 CommandReply command given contents = λ reply. ⊥

@@ -1,10 +1,13 @@
+pub mod Budgets
 pub mod Certified
 pub mod Checks
 pub mod Commands
+pub mod Decided
 pub mod Ends
 pub mod Fetches
 pub mod GroundRuns
 pub mod Numbers
+pub mod Plans
 pub mod Rejections
 pub mod Replies
 pub mod Runs

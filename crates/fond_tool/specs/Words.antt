@@ -2,33 +2,38 @@
 use Rattle.std.specs.Prelude.{◌≡◌, ◌≢◌, ℕ, List, [], ◌∷◌, take, codes}
 use Rattle.std.specs.List.{AllZip}
 use Rattle.fond_tool.specs.declared.words.Command.{Command}
-use Rattle.fond_tool.specs.declared.words.Command.TheVariants.{Succ, Run, Check}
+use Rattle.fond_tool.specs.declared.words.Command.TheVariants.{Succ, Run, Check, Plan}
 use Rattle.fond_tool.specs.declared.words.WordKind.{WordKind}
-use Rattle.fond_tool.specs.declared.words.WordKind.TheVariants.{File, Action}
+use Rattle.fond_tool.specs.declared.words.WordKind.TheVariants.{File, Action, Budget}
 use Rattle.fond_succ.specs.Actions.{IsAction}
+use Rattle.fond_tool.specs.Budgets.{IsBudget}
 
 -- the word of a command
 abbrev pub word_of : Command → List ℕ
 word_of Succ = codes "succ"
 word_of Run = codes "run"
 word_of Check = codes "check"
+word_of Plan = codes "plan"
 
 -- the kinds of the words after it: the names of files come first
 abbrev pub kinds_of : Command → List WordKind
 kinds_of Succ = File ∷ File ∷ Action ∷ []
 kinds_of Run = File ∷ File ∷ File ∷ File ∷ File ∷ []
 kinds_of Check = File ∷ File ∷ File ∷ File ∷ []
+kinds_of Plan = File ∷ File ∷ File ∷ Budget ∷ []
 
 -- how many of those words are names of files
 abbrev pub file_count : Command → ℕ
 file_count Succ = 2
 file_count Run = 5
 file_count Check = 4
+file_count Plan = 3
 
 -- a word is of a kind: any word that is not empty is the name of a file
 abbrev pub IsOfKind : WordKind → List ℕ → Type 0
 IsOfKind File word = word ≢ []
 IsOfKind Action word = IsAction word
+IsOfKind Budget word = (budget : ℕ) × IsBudget word budget
 
 -- words fit a command with the words after its own, which are of the command's kinds, place by place
 abbrev pub Fits : List (List ℕ) → Command → List (List ℕ) → Type 0

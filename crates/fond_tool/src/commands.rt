@@ -9,6 +9,7 @@ ghost use Rattle.std.specs.Prelude.{◌≡◌, length, IfOk, IfErr};
 use crate::answer::Answer;
 use crate::check::check_cert;
 use crate::fetch::Content;
+use crate::plan::plan;
 use crate::rejection::Rejection;
 use crate::run::run;
 use crate::succ::succ;
@@ -61,6 +62,10 @@ pub fn do_command(
         Command::Check => {
             let texts = task_texts(alloc, domain, problem, contents[2].bytes())?;
             check_cert(alloc, &texts, contents[3].bytes())
+        }
+        Command::Plan => {
+            let texts = task_texts(alloc, domain, problem, contents[2].bytes())?;
+            plan(alloc, &texts, &words[3])
         }
     }
 }

@@ -7,6 +7,7 @@ mod answer;
 mod check;
 mod commands;
 mod fetch;
+mod plan;
 mod rejection;
 mod run;
 pub mod status;

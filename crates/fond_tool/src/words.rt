@@ -1,12 +1,14 @@
 //! The words of a command line, by their table.
 
+ghost use Rattle.fond_tool.specs.Budgets.{IsBudget};
 ghost use Rattle.fond_tool.specs.Ends.{FitsNone};
 ghost use Rattle.fond_tool.specs.Words.{word_of, kinds_of, file_count, IsOfKind, Fits};
 ghost use Rattle.std.specs.List.{AllZip};
-ghost use Rattle.std.specs.Prelude.{◌≡◌, ◌≢◌, Decides, IfOk, MatchOption};
+ghost use Rattle.std.specs.Prelude.{◌≡◌, ◌≢◌, ℕ, Decides, IfOk, MatchOption};
 
 use fond_succ::action::read_action;
 use fond_text::fault::NoMemory;
+use fond_text::number::read_number;
 use fond_text::word::Word;
 use std::alloc::Global;
 
@@ -16,6 +18,7 @@ pub enum Command {
     Succ,
     Run,
     Check,
+    Plan,
 }
 
 /// What a word after a command's own has to be.
@@ -25,6 +28,8 @@ pub enum WordKind {
     File,
     /// An action: a node of leaves.
     Action,
+    /// A budget: a number from 1 to 1,000,000.
+    Budget,
 }
 
 /// The kinds of the words of `succ`.
@@ -47,6 +52,14 @@ const CHECK: [WordKind; 4] = [
     WordKind::File,
 ];
 
+/// The kinds of the words of `plan`.
+const PLAN: [WordKind; 4] = [
+    WordKind::File,
+    WordKind::File,
+    WordKind::File,
+    WordKind::Budget,
+];
+
 impl Command {
     /// The command of a word.
     fn of_word(word: &Word) -> Option<Command>
@@ -56,6 +69,7 @@ impl Command {
             b"succ" => Some(Command::Succ),
             b"run" => Some(Command::Run),
             b"check" => Some(Command::Check),
+            b"plan" => Some(Command::Plan),
             _ => None,
         }
     }
@@ -68,6 +82,7 @@ impl Command {
             Command::Succ => &SUCC,
             Command::Run => &RUN,
             Command::Check => &CHECK,
+            Command::Plan => &PLAN,
         }
     }
 
@@ -79,6 +94,7 @@ impl Command {
             Command::Succ => 2,
             Command::Run => 5,
             Command::Check => 4,
+            Command::Plan => 3,
         }
     }
 }
@@ -90,6 +106,18 @@ pub struct Given<'a> {
     pub words: &'a [Word],
 }
 
+/// The budget that a word writes, if it is one.
+pub fn read_budget(word: &Word) -> Option<u32>
+    ensures { MatchOption result ((budget : ℕ) → ¬ IsBudget word.now budget) (IsBudget word.now) }
+{
+    let number = read_number(word.bytes())?;
+    if (1..=1_000_000).contains(&number) {
+        Some(number as u32)
+    } else {
+        None
+    }
+}
+
 /// Whether a word is of a kind.
 fn is_of_kind(alloc: Global, kind: WordKind, word: &Word) -> Result<bool, NoMemory>
     ensures { IfOk result (λ is. Decides is (IsOfKind kind word.now)) }
@@ -97,6 +125,7 @@ fn is_of_kind(alloc: Global, kind: WordKind, word: &Word) -> Result<bool, NoMemo
     match kind {
         WordKind::File => Ok(!word.bytes().is_empty()),
         WordKind::Action => Ok(read_action(alloc, word)?.is_some()),
+        WordKind::Budget => Ok(read_budget(word).is_some()),
     }
 }
 

@@ -11,3 +11,6 @@ loop-preserved c = record {
   keeps = λ from now. c.in_ok-open_next.ensures.keeps from (c.loop.invariant.keeps from now);
   opened = omega (arith, c.loop.invariant.opened, c.in_ok-open_next.ensures.opened c.if-not-branch.false);
 }
+
+pub returns-then-not-branch-clause-past : goal.returns-then-not-branch-clause-past
+returns-then-not-branch-clause-past c = λ is from now. c.in_ok-open_next.ensures.past c.if-not-branch.true from (c.loop.invariant.keeps from now)

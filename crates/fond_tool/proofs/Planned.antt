@@ -1,0 +1,35 @@
+-- What `plan` replies where it does not end with a refusal of its files.
+use Rattle.std.proofs.Common.{◌≡◌, ℕ, Bool, List, refl, sym, subst}
+use Rattle.fond_ast.specs.declared.task.LiftedTask.{LiftedTask}
+use Rattle.fond_bridge.proofs.Between.{ground-tasks-agree}
+use Rattle.fond_cert.specs.Spellings.{spelling}
+use Rattle.fond_cert.specs.declared.cert.Cert.{Cert}
+use Rattle.fond_cert.specs.declared.cert.Cert.TheVariants.{Policy, Refusal}
+use Rattle.fond_decide.specs.Decisions.{IsDecision, IsRightCert}
+use Rattle.fond_decide.specs.declared.decide.Decision.{Decision}
+use Rattle.fond_decide.specs.declared.decide.Decision.TheVariants.{Certified, Undecided}
+use Rattle.fond_game.proofs.Forced.{refusals_exclude}
+use Rattle.fond_game.proofs.Ranks.{ranks_exclude}
+use Rattle.fond_game.specs.Policies.{selected}
+use Rattle.fond_ground.specs.Grounds.{IsGroundOf}
+use Rattle.fond_task.specs.declared.task.Task.{Task}
+use Rattle.fond_tool.specs.Decided.{cert_status, decision_reply}
+use Rattle.fond_tool.specs.Plans.{AnswersPlan}
+use Rattle.fond_tool.specs.Replies.{Reply}
+
+module _ (task : LiftedTask) (game : Task) (budget : ℕ) (is : IsGroundOf task game) where
+  certified : (cert : Cert) → IsRightCert game cert → AnswersPlan task game budget (record { text = spelling game cert; status = cert_status cert })
+  certified (Policy layers pairs rules reach) right =
+      AnswersPlan.policy layers pairs rules reach (spelling game (Policy layers pairs rules reach)) (right.belongs, right.small, refl) right.right
+      (((ground-tasks-agree task game is).solution (selected rules)).0 (ranks_exclude game layers pairs rules reach right.right))
+  certified (Refusal layers) right =
+      AnswersPlan.unsolvable layers (spelling game (Refusal layers)) (right.belongs, right.small, refl) right.right
+      (λ solvable. refusals_exclude game layers right.right ((ground-tasks-agree task game is).solvable.1 solvable))
+
+  decided_as : (decision : Decision) → IsDecision game budget decision → AnswersPlan task game budget (decision_reply game budget decision)
+  decided_as (Certified cert) right = certified cert right
+  decided_as Undecided more = AnswersPlan.undecided (((ground-tasks-agree task game is).more budget).0 more)
+
+  -- what is decided is the reply
+  pub decided : (reply : Reply) → (decision : Decision) × IsDecision game budget decision × (reply ≡ decision_reply game budget decision) → AnswersPlan task game budget reply
+  decided reply h = subst (AnswersPlan task game budget) (sym h.2) (decided_as h.0 h.1)

@@ -1,0 +1,22 @@
+-- The replies to what is decided about a ground task.
+use Rattle.std.specs.Prelude.{ℕ, ◌++◌, codes}
+use Rattle.std.specs.Fmt.{decimal}
+use Rattle.fond_task.specs.declared.task.Task.{Task}
+use Rattle.fond_cert.specs.Spellings.{spelling}
+use Rattle.fond_cert.specs.declared.cert.Cert.{Cert}
+use Rattle.fond_cert.specs.declared.cert.Cert.TheVariants.{Policy, Refusal}
+use Rattle.fond_decide.specs.declared.decide.Decision.{Decision}
+use Rattle.fond_decide.specs.declared.decide.Decision.TheVariants.{Certified, Undecided as IsUndecided}
+use Rattle.fond_tool.specs.Replies.{Reply, line_reply}
+use Rattle.fond_tool.specs.declared.status.Status.{Status}
+use Rattle.fond_tool.specs.declared.status.Status.TheVariants.{Done, Unsolvable, Undecided}
+
+-- the status to end with after a certificate is printed
+abbrev pub cert_status : Cert → Status
+cert_status (Policy layers pairs rules reach) = Done
+cert_status (Refusal layers) = Unsolvable
+
+-- the reply to a decision: the text of its certificate, or that there is none within the budget
+abbrev pub decision_reply : Task → ℕ → Decision → Reply
+decision_reply game budget (Certified cert) = record { text = spelling game cert; status = cert_status cert }
+decision_reply game budget IsUndecided = line_reply (codes "undecided " ++ decimal budget) Undecided

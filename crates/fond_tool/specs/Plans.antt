@@ -1,0 +1,31 @@
+-- What `plan` replies to the texts of its files and to its budget.
+use Rattle.std.specs.Prelude.{◌≡◌, ℕ, List, ◌++◌, codes}
+use Rattle.std.specs.Fmt.{decimal}
+use Rattle.fond_ast.specs.declared.task.LiftedTask.{LiftedTask}
+use Rattle.fond_meaning.specs.Solutions.{IsSolution, IsSolvable, More}
+use Rattle.fond_task.specs.declared.task.Task.{Task}
+use Rattle.fond_game.specs.declared.rule.Pair.{Pair}
+use Rattle.fond_game.specs.declared.rule.Rule.{Rule}
+use Rattle.fond_game.specs.Layers.{CubeView}
+use Rattle.fond_game.specs.Certificates.{IsRightPolicy, IsRightRefusal}
+use Rattle.fond_cert.specs.declared.cert.Cert.TheVariants.{Policy, Refusal}
+use Rattle.fond_bridge.specs.Solutions.{rules_policy}
+use Rattle.fond_front.specs.declared.texts.TaskTexts.{TaskTexts}
+use Rattle.fond_tool.specs.Budgets.{IsBudget}
+use Rattle.fond_tool.specs.Certified.{IsCertText, TaskReply}
+use Rattle.fond_tool.specs.Replies.{Reply, line_reply}
+use Rattle.fond_tool.specs.declared.status.Status.TheVariants.{Done, Unsolvable, Undecided}
+
+-- what `plan` replies in a task with this ground task: the text of a correct policy certificate, whose rules are a solution
+-- of the task; the text of a correct refusal, and the task has no solution; or `undecided`, and more states are reachable
+-- than the budget
+pub data AnswersPlan (task : LiftedTask) (game : Task) (budget : ℕ) : Reply → Type 0 where
+  policy : (layers : List (List CubeView)) (pairs : List Pair) (rules : List Rule) (reach : ℕ) (text : List ℕ) → IsCertText game (Policy layers pairs rules reach) text
+      → IsRightPolicy game layers pairs rules reach → IsSolution task (rules_policy task game rules) → AnswersPlan task game budget (record { text = text; status = Done })
+  unsolvable : (layers : List (List CubeView)) (text : List ℕ) → IsCertText game (Refusal layers) text → IsRightRefusal game layers → ¬ IsSolvable task
+      → AnswersPlan task game budget (record { text = text; status = Unsolvable })
+  undecided : More task budget → AnswersPlan task game budget (line_reply (codes "undecided " ++ decimal budget) Undecided)
+
+-- what `plan` replies: a refusal of its files, or the reply in the task that they describe, for the budget of its word
+abbrev pub PlanReply : TaskTexts → List ℕ → Reply → Type 0
+PlanReply texts word reply = (budget : ℕ) × IsBudget word budget × TaskReply texts (λ task game. AnswersPlan task game budget) reply

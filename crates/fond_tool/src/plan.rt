@@ -1,0 +1,91 @@
+//! The command `plan`: a policy, or that there is none.
+
+ghost use Rattle.fond_decide.specs.Decisions.{IsDecision, IsRightCert};
+ghost use Rattle.fond_decide.specs.declared.decide.Decision.{Decision};
+ghost use Rattle.fond_ground.specs.Grounds.{IsGroundOf};
+ghost use Rattle.fond_tool.specs.Budgets.{IsBudget};
+ghost use Rattle.fond_tool.specs.Decided.{cert_status, decision_reply};
+ghost use Rattle.fond_tool.specs.Plans.{AnswersPlan, PlanReply};
+ghost use Rattle.fond_tool.specs.Rejections.{Rejects};
+ghost use Rattle.fond_tool.specs.Replies.{line_reply};
+ghost use Rattle.fond_tool.specs.declared.status.Status.TheVariants.{Undecided as IsUndecided};
+ghost use Rattle.fond_cert.specs.Spellings.{spelling};
+ghost use Rattle.std.specs.Fmt.{decimal};
+ghost use Rattle.std.specs.Prelude.{◌≡◌, ◌≤◌, ◌++◌, ℕ, codes, IfOk, IfErr};
+
+use crate::answer::{Answer, line};
+use crate::rejection::Rejection;
+use crate::status::Status;
+use crate::task_files::{TaskFiles, read_files};
+use crate::words::read_budget;
+use fond_cert::cert::Cert;
+use fond_cert::print::print_cert;
+use fond_decide::decide::{Decision, decide};
+use fond_front::texts::TaskTexts;
+use fond_task::task::Task;
+use fond_text::fault::NoMemory;
+use fond_text::number::put_number;
+use fond_text::word::Word;
+use std::alloc::Global;
+
+/// The status to end with after a certificate is printed.
+fn status_of(cert: &Cert) -> Status
+    ensures { result ≡ cert_status cert.now }
+{
+    match cert {
+        Cert::Policy { .. } => Status::Done,
+        Cert::Refusal { .. } => Status::Unsolvable,
+    }
+}
+
+/// The answer of a certificate: its text.
+fn cert_text(alloc: Global, game: &Task, cert: &Cert) -> Result<Answer, NoMemory>
+    requires { IsRightCert game.now cert.now }
+    ensures { IfOk result (λ answer. answer ≡ record { text = spelling game.now cert.now; status = cert_status cert.now }) }
+{
+    let mut text = Vec::new(alloc);
+    print_cert(game, cert, &mut text)?;
+    Ok(Answer::new(text, status_of(cert)))
+}
+
+/// The answer that nothing is decided within a budget.
+fn undecided(alloc: Global, budget: u32) -> Result<Answer, NoMemory>
+    ensures { IfOk result (λ answer. answer ≡ line_reply (codes "undecided " ++ decimal budget) IsUndecided) }
+{
+    let mut words = Vec::from_slice(alloc, b"undecided ")?;
+    put_number(&mut words, u64::from(budget))?;
+    line(alloc, &words, Status::Undecided)
+}
+
+/// The answer to a task and a budget: what is decided about it.
+fn decision_answer(alloc: Global, game: &Task, budget: u32) -> Result<Answer, NoMemory>
+    requires { budget ≤ 1000000 }
+    ensures { IfOk result (λ answer. (decision : Decision) × IsDecision game.now budget decision × (answer ≡ decision_reply game.now budget decision)) }
+{
+    match decide(alloc, game, budget)? {
+        Decision::Certified(cert) => cert_text(alloc, game, &cert),
+        Decision::Undecided => undecided(alloc, budget),
+    }
+}
+
+/// The answer to a budget in a task.
+fn planned(alloc: Global, files: &TaskFiles, budget: u32) -> Result<Answer, NoMemory>
+    requires few { budget ≤ 1000000 }
+    requires ground { IsGroundOf files.now.task files.now.game }
+    ensures { IfOk result (AnswersPlan files.now.task files.now.game budget) }
+{
+    decision_answer(alloc, &files.game, budget)
+}
+
+/// The answer to `plan`: a policy, that there is none, or that more states are reachable than the budget.
+pub fn plan(alloc: Global, texts: &TaskTexts, budget: &Word) -> Result<Answer, Rejection>
+    requires { (n : ℕ) × IsBudget budget.now n }
+    ensures replied { IfOk result (PlanReply texts.now budget.now) }
+    ensures rejected { IfErr result (Rejects (PlanReply texts.now budget.now)) }
+{
+    let Some(number) = read_budget(budget) else {
+        unreachable!()
+    };
+    let files = read_files(alloc, texts)?;
+    Ok(planned(alloc, &files, number)?)
+}
