@@ -1,6 +1,6 @@
 -- The least number that was visited is that of the first cube that passes a test.
 use Rattle.std.proofs.Common.{◌≡◌, ℕ, ◌<◌, ◌≤◌, List, [], ◌∷◌, Bool, true, false, Option, Some, None, length, map, fold, cond, get_or, refl, sym, ap, ◌∙◌, subst, inl, inr, ⊎_elim, arith}
-use Rattle.std.specs.Prelude.{◌⊎◌, ◌&&◌, Contains, slice_get, nat_lt, option_map, position}
+use Rattle.std.specs.Prelude.{◌&&◌, Contains, slice_get, nat_lt, option_map, position}
 use Rattle.std.specs.List.{position_or_len}
 use Rattle.std.proofs.lemmas.Bool.{false≢true}
 use Rattle.std.proofs.lemmas.Bool.Decides.{nat_tests}
@@ -8,7 +8,7 @@ use Rattle.std.proofs.lemmas.List.{get_or-map, length-map}
 use Rattle.std.proofs.lemmas.List.Sums.{position_or_len_is}
 use Rattle.std.proofs.lemmas.Option.{slice_get-get_or, slice_get-map}
 use Rattle.fond_match.specs.Visits.{IsLeast, cube_at, better}
-use Rattle.fond_match.proofs.Members.{no_member, first_member, later_member, member_cases}
+use Rattle.fond_match.proofs.Members.{no_member, member_cases}
 
 module _ (lies : List (Option Bool) → Bool) (cubes : List (List (Option Bool))) where
   -- one more number in front

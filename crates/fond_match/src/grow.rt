@@ -11,8 +11,9 @@ use fond_state::cube::Cube;
 use fond_text::fault::NoMemory;
 use std::alloc::Global;
 
-/// How many numbers a node keeps without sorting them.
-const FEW: usize = 8;
+/// How many numbers a node keeps without sorting them. Few, since a branch costs a search one look at a literal, and a
+/// number up to one for each atom.
+const FEW: usize = 2;
 
 /// The first of these atoms at which the two cubes differ, or else `end`.
 fn first_difference(cube: &Cube, other: &Cube, from: u32, end: u32) -> u32 {

@@ -1,4 +1,4 @@
-use Rattle.std.proofs.Common.{map, sym, arith}
+use Rattle.std.proofs.Common.{map, arith}
 use Rattle.fond_match.specs.declared.node.Node.TheViews.{out-Node}
 use Rattle.fond_match.proofs.Searched.{searched_branch, searched_node, searched_numbers, skipped_least}
 use Rattle.fond_match.proofs.node.Node.+search.Goals as goal
