@@ -7,6 +7,7 @@ pub mod check;
 pub mod laws;
 mod lean;
 mod parts;
+pub mod reach;
 pub mod text;
 pub mod verdict;
 mod walk;

@@ -1,0 +1,32 @@
+//! How many states a policy reaches.
+
+ghost use Rattle.fond_check.specs.Verdicts.{AreSureRules};
+ghost use Rattle.fond_game.specs.Certificates.{ReachesCount};
+ghost use Rattle.fond_game.specs.Policies.{selected};
+ghost use Rattle.fond_rules.specs.Belongs.{BelongTo};
+ghost use Rattle.std.specs.Prelude.{IfOk};
+
+use crate::walk::{Walked, walk};
+use fond_rules::pairs::Pairs;
+use fond_rules::rules::Rules;
+use fond_task::task::Task;
+use fond_text::fault::NoMemory;
+use std::alloc::Global;
+
+/// The number of the states that sure rules reach. Walks through them, and takes memory for them; memory is said to have run
+/// out after 2^32 - 1 states.
+pub fn reach_count(
+    alloc: Global,
+    t: &Task,
+    pairs: &Pairs,
+    rules: &Rules,
+) -> Result<u32, NoMemory>
+    requires belong { BelongTo t.now rules.now }
+    requires sure { AreSureRules t.now pairs.now rules.now }
+    ensures { IfOk result (ReachesCount t.now (selected rules.now)) }
+{
+    match walk(alloc, t, pairs, rules, u64::MAX)? {
+        Walked::All { count, .. } => Ok(count),
+        Walked::More => Err(NoMemory),
+    }
+}

@@ -1,0 +1,16 @@
+pub mod Pushed
+pub mod Tests
+pub mod Later
+pub mod Ranked
+pub mod Searched
+pub mod Mapped
+pub mod Lost
+pub mod Rounds
+pub mod Nexts
+pub mod Distinct
+pub mod Stuck
+pub mod Winning
+pub mod Grown
+pub mod Opened
+pub mod Choosing
+pub mod Runs

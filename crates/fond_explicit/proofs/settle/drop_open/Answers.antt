@@ -1,0 +1,14 @@
+use Rattle.std.proofs.Common.{◌≡◌, ◌+◌, ◌++◌, List, take, drop, map, get_or, set, length, ap, ◌∙◌, sym}
+use Rattle.std.proofs.Common.{add-one}
+use Rattle.fond_explicit.specs.declared.fate.Fate.{Fate}
+use Rattle.fond_explicit.specs.declared.fate.Fate.TheVariants.{Open}
+use Rattle.fond_explicit.specs.Rounds.{dropped}
+use Rattle.fond_explicit.proofs.Mapped.{set_mapped}
+use Rattle.fond_explicit.proofs.settle.drop_open.Goals as goal
+
+pub loop-fate-preserved : goal.loop-fate-preserved
+loop-fate-preserved c =
+    let round = c.args.round in
+    let fates = c.args.fates.now in
+    let i = c.loop-fate.fate-index in
+    ap (set c.loop-fate.fates i) c.dropped.ensures ∙ ap (λ xs. set xs i (dropped round (get_or xs i Open))) c.loop-fate.invariant ∙ rw add-one (set_mapped (dropped round) fates i Open c.loop-fate-test.true)

@@ -1,0 +1,10 @@
+pub mod Moves
+pub mod Heads
+pub mod Fates
+pub mod Rounds
+pub mod Begun
+pub mod Answers
+pub mod Spaces
+pub mod Openings
+pub mod Strata
+pub mod Runs

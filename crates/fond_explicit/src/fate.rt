@@ -1,0 +1,54 @@
+//! The fates of nodes.
+
+ghost use Rattle.fond_explicit.specs.Fates.{fate_of, is_open, is_won, is_kept};
+ghost use Rattle.std.specs.Prelude.{◌≡◌};
+
+/// What becomes of a node: it is not decided yet, or a goal, or won with a rank by the move of a number, or lost since a
+/// round.
+#[derive(Clone, Copy, Debug, PartialEq, Eq)]
+pub enum Fate {
+    Open,
+    Goal,
+    Ranked { rank: u64, by: u32 },
+    Fallen(u32),
+}
+
+/// Whether the fate is not decided yet.
+pub(crate) fn is_open(fate: Fate) -> bool
+    ensures { result ≡ is_open fate }
+{
+    match fate {
+        Fate::Open => true,
+        _ => false,
+    }
+}
+
+/// Whether the fate is that of a goal or of a node with a rank.
+pub(crate) fn is_won(fate: Fate) -> bool
+    ensures { result ≡ is_won fate }
+{
+    match fate {
+        Fate::Goal | Fate::Ranked { .. } => true,
+        _ => false,
+    }
+}
+
+/// Whether the fate is that of a node that has not fallen.
+pub(crate) fn is_kept(fate: Fate) -> bool
+    ensures { result ≡ is_kept fate }
+{
+    match fate {
+        Fate::Fallen(_) => false,
+        _ => true,
+    }
+}
+
+/// The fate of a node. A node past the last one is open.
+pub(crate) fn fate_of(fates: &[Fate], node: u32) -> Fate
+    ensures { result ≡ fate_of fates.now node }
+{
+    match fates.get(node as usize) {
+        Some(fate) => *fate,
+        None => Fate::Open,
+    }
+}

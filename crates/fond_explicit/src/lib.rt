@@ -1,0 +1,16 @@
+//! Deciding a ground task by its states one by one.
+#![tactic(auto)]
+
+pub mod answer;
+mod choose;
+mod decide;
+mod earn;
+mod fate;
+mod moves;
+mod opening;
+mod preds;
+mod rank;
+mod settle;
+pub mod solve;
+mod space;
+mod strata;

@@ -1,0 +1,47 @@
+//! The moves that lead to each node.
+
+ghost use Rattle.std.specs.Prelude.{◌≡◌, length};
+
+use crate::moves::Moves;
+use fond_text::fault::NoMemory;
+use std::alloc::Global;
+
+/// For each node, the numbers of the moves of which it is a target, as often as it is one. They only guide the search for
+/// ranks: what is found is tested, so no clause says that they are all there.
+#[derive(Drop)]
+pub(crate) struct Preds {
+    lists: Vec<Vec<u32>>,
+}
+
+impl Preds {
+    /// The lists of this many nodes. Takes time and memory in the number of nodes and of targets.
+    pub(crate) fn of(alloc: Global, nodes: usize, moves: &Moves) -> Result<Preds, NoMemory> {
+        let mut lists: Vec<Vec<u32>> = Vec::new(alloc);
+        for _ in 0..nodes {
+            lists.push(Vec::new(alloc))?;
+        }
+        for number in 0..moves.len() {
+            for node in moves.targets(number) {
+                enter(&mut lists, *node, number)?;
+            }
+        }
+        Ok(Preds { lists })
+    }
+
+    /// The moves that lead to a node. A node past the last one has none.
+    pub(crate) fn get(&self, node: u32) -> &[u32] {
+        match self.lists.get(node as usize) {
+            Some(list) => list.as_slice(),
+            None => &[],
+        }
+    }
+}
+
+/// Adds the number of a move to the list of a node, if there is one.
+fn enter(lists: &mut Vec<Vec<u32>>, node: u32, number: u32) -> Result<(), NoMemory> {
+    match lists.get_mut(node as usize) {
+        Some(list) => list.push(number)?,
+        None => {}
+    }
+    Ok(())
+}

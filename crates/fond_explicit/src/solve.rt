@@ -1,0 +1,59 @@
+//! Deciding a task from a state on, with a bound on the number of states.
+
+ghost use Rattle.fond_explicit.specs.Answers.{IsRight};
+ghost use Rattle.fond_explicit.specs.Openings.{IsSpaceFrom};
+ghost use Rattle.std.specs.Prelude.{◌≡◌, ◌≤◌, length, IfOk};
+
+use crate::answer::Solved;
+use crate::decide::decide;
+use crate::moves::Moves;
+use crate::opening::open_batch;
+use crate::space::{Scratch, Space};
+use fond_state::state::State;
+use fond_store::store::Store;
+use fond_task::task::Task;
+use fond_text::fault::NoMemory;
+use std::alloc::Global;
+
+/// The space of one state, which is not opened.
+fn begin(alloc: Global, t: &Task, from: &State) -> Result<Space, NoMemory>
+    requires { length from.now ≡ length t.now.atoms }
+    ensures space { IfOk result (IsSpaceFrom t.now from.now) }
+    ensures one { IfOk result (λ space. length space.states ≡ 1) }
+{
+    let mut states = Store::new(alloc);
+    states.add(from.copy(alloc)?)?;
+    Ok(Space {
+        states,
+        moves: Moves::new(alloc),
+        opened: 0,
+    })
+}
+
+/// Decides a task from a state on, or finds that more than `budget` states are reachable. States are opened breadth first in
+/// batches that double, and after each batch the nested fixpoint runs over what is opened. Takes time in the number of the
+/// states opened times the size of the preconditions, and in that of their moves times the number of atoms and, where
+/// many rounds are needed, times the number of rounds. At most `budget` states are kept.
+pub fn solve(alloc: Global, t: &Task, from: &State, budget: u32) -> Result<Solved, NoMemory>
+    requires few { budget ≤ 1000000 }
+    requires long { length from.now ≡ length t.now.atoms }
+    ensures { IfOk result (IsRight t.now from.now budget) }
+{
+    if budget == 0 {
+        return Ok(Solved::Spent);
+    }
+    let mut space = begin(alloc, t, from)?;
+    let mut scratch = Scratch {
+        next: from.copy(alloc)?,
+        targets: Vec::new(alloc),
+    };
+    'batches: loop {
+        let has_room = open_batch(alloc, t, &mut space, budget, &mut scratch)?;
+        if let Some(solved) = decide(alloc, t, &space)? {
+            return Ok(solved);
+        }
+        if !has_room {
+            return Ok(Solved::Spent);
+        }
+    }
+}

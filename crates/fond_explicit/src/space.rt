@@ -1,0 +1,21 @@
+//! The states that were found, and the moves among them.
+
+use crate::moves::Moves;
+use fond_state::state::State;
+use fond_store::store::Store;
+
+/// States by their numbers, the moves between them, and how many states are opened: of the first so many, all moves are
+/// there.
+#[derive(Drop)]
+pub(crate) struct Space {
+    pub(crate) states: Store,
+    pub(crate) moves: Moves,
+    pub(crate) opened: u32,
+}
+
+/// A state and a list of numbers that opening overwrites, so that it takes no memory for them each time.
+#[derive(Drop)]
+pub(crate) struct Scratch {
+    pub(crate) next: State,
+    pub(crate) targets: Vec<u32>,
+}
