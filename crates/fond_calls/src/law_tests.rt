@@ -2,6 +2,7 @@ use fond_bridge::laws::{
     ground_tasks_agree, ground_tasks_play, outcomes_lead_alike, stands_is_injective, texts_agree,
     traces_stand,
 };
+use fond_cert::laws::{faults_are_one, spellings_are_clean, spellings_differ};
 use fond_game::laws::{layers_force, ranks_exclude_traps, refusals_hold};
 use fond_meaning::laws::{
     outcomes_come_next, states_are_their_atoms, successors_are_outcomes, truth_is_local,
@@ -56,4 +57,11 @@ fn laws_of_games_can_be_called() {
     ranks_exclude_traps();
     layers_force();
     refusals_hold();
+}
+
+#[test]
+fn laws_of_certificates_can_be_called() {
+    spellings_differ();
+    spellings_are_clean();
+    faults_are_one();
 }
