@@ -34,9 +34,9 @@ module _ {X : Type 0} where
       let back = drop (suc at.0) ys in
       let split : ys ≡ front ++ x ∷ back = split_at ys at.0 x at.1 in
       let rest : length xs ≤ length (front ++ back) = no_more xs (front ++ back) distinct.1 (λ y has. ⊎_elim
-          (λ same. absurd (distinct.0 (subst (λ (z : X). Contains xs z) (sym same) has)))
-          (λ other. other)
-          (without front back x y (subst (λ (zs : List X). Contains zs y) split (each y (Contains-later y x xs has))))) in
+      (λ same. absurd (distinct.0 (subst (λ (z : X). Contains xs z) (sym same) has)))
+      (λ other. other)
+      (without front back x y (subst (λ (zs : List X). Contains zs y) split (each y (Contains-later y x xs has))))) in
       let whole : length ys ≡ length front + suc (length back) = ap length split ∙ length-append front (x ∷ back) in
       let parts : length (front ++ back) ≡ length front + length back = length-append front back in
       omega (arith, rest, whole, parts)

@@ -116,7 +116,7 @@ module _ (task : Task) (rules : List Rule) where
       subst (λ (s : List Bool). IsRuled task rules s) one_is visited.answer)
       (cases_lt number done)
   open_more old new done state false None at visited walk among =
-      (state, grown_keeps _ old new visited.grows done state at, record { reached = walk.reached state (Contains_numbered old done state at); open_ = visited.answer.0; none = visited.answer.1; })
+      (state, grown_keeps _ old new visited.grows done state at, record { reached = walk.reached state (Contains_numbered old done state at); open_ = visited.answer.0; none = visited.answer.1 })
   open_more old new done state true (Some found) at visited walk among = (among.0, grown_keeps _ old new visited.grows found among.0 among.1, among.2)
   open_more old new done state false (Some found) at visited walk among = (among.0, grown_keeps _ old new visited.grows found among.0 among.1, among.2)
 

@@ -88,9 +88,7 @@ fn check_policy(
         return Ok(Verdict::Rule { at });
     }
     let walked = walk(alloc, t, pairs, rules, reach)?;
-    Ok(reach_verdict(
-        t, layers, pairs, rules, reach, walked, &mut pad,
-    ))
+    Ok(reach_verdict(t, layers, pairs, rules, reach, walked, &mut pad))
 }
 
 /// The verdict on a refusal.

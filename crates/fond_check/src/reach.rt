@@ -15,12 +15,7 @@ use std::alloc::Global;
 
 /// The number of the states that sure rules reach. Walks through them, and takes memory for them; memory is said to have run
 /// out after 2^32 - 1 states.
-pub fn reach_count(
-    alloc: Global,
-    t: &Task,
-    pairs: &Pairs,
-    rules: &Rules,
-) -> Result<u32, NoMemory>
+pub fn reach_count(alloc: Global, t: &Task, pairs: &Pairs, rules: &Rules) -> Result<u32, NoMemory>
     requires belong { BelongTo t.now rules.now }
     requires sure { AreSureRules t.now pairs.now rules.now }
     ensures { IfOk result (ReachesCount t.now (selected rules.now)) }

@@ -106,7 +106,11 @@ fn first_of(unruled: Option<u32>, ruled: bool, at: u32) -> Option<u32>
 }
 
 /// A copy of the state of this number, if there is a number.
-fn copy_numbered(alloc: Global, states: &Store, number: Option<u32>) -> Result<Option<State>, NoMemory>
+fn copy_numbered(
+    alloc: Global,
+    states: &Store,
+    number: Option<u32>,
+) -> Result<Option<State>, NoMemory>
     requires { IfSome number (λ n. n < length states.now) }
     ensures { IfOk result (IsNumbered states.now number) }
 {

@@ -5,7 +5,7 @@ use Rattle.fond_check.proofs.Firsts.{take_next, take_all, element_at}
 use Rattle.fond_check.proofs.parts.first_bad_layer.Goals as goal
 
 pub loop-at-init : goal.loop-at-init
-loop-at-init c = record { long = c.requires.long; sure = AreSureLayers-none c.args.t.now; }
+loop-at-init c = record { long = c.requires.long; sure = AreSureLayers-none c.args.t.now }
 
 pub loop-at-preserved : goal.loop-at-preserved
 loop-at-preserved c = record {

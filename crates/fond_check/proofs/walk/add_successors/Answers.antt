@@ -29,7 +29,7 @@ loop-outcome-preserved c =
       long = c.apply_into.ensures.same_length ∙ c.loop-outcome.invariant.long;
       grows = grows_twice (IsNext task state c.args.act) _ c.loop-outcome.states c.add.new.states c.loop-outcome.invariant.grows
           (grows_weaker _ (IsNext task state c.args.act) c.loop-outcome.states c.add.new.states
-          (λ added is. record { act = own; numbered = c.get.ensures; holds = c.requires.applicable own c.get.ensures; outcome = entries; one = Contains_numbered own.outcomes k entries there; given = is ∙ next; }) grown);
+          (λ added is. record { act = own; numbered = c.get.ensures; holds = c.requires.applicable own c.get.ensures; outcome = entries; one = Contains_numbered own.outcomes k entries there; given = is ∙ next }) grown);
       all = λ act number one at small is. ⊎_elim
           (λ lower. grown_has _ c.loop-outcome.states c.add.new.states grown (next_state state one) (c.loop-outcome.invariant.all act number one at lower is))
           (λ ge.
