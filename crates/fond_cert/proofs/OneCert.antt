@@ -202,7 +202,7 @@ module _ (task : Task) where
   same_layers (layer ∷ layers) (other ∷ others) s t over other_over after other_after e =
       let Long = IsOver (length task.atoms) in
       let first = same_items cube_line 3 (λ (cube : CubeView). length cube ≡ length task.atoms) (λ cube. refl)
-      (λ cube cube2 long long2 line. let literals : written_cube task cube ≡ written_cube task cube2 = cc in same_cube task cube cube2 long long2 literals)
+      (λ cube other_cube long other_long line. let literals : written_cube task cube ≡ written_cube task other_cube = cc in same_cube task cube other_cube long other_long literals)
       layer other (layers_lines layers ++ s) (layers_lines others ++ t) (All-head Long layer layers over) (All-head Long other others other_over)
       (no_cube_first layers s after) (no_cube_first others t other_after) (sym (layer_apart layer layers s) ∙ ap rest_of e ∙ layer_apart other others t) in
       let more = same_layers layers others s t (All-tail Long layer layers over) (All-tail Long other others other_over) after other_after first.1 in
@@ -230,27 +230,27 @@ module _ (task : Task) where
   plan_lines rules reach = map (rule_line task) rules ++ last_lines reach
 
   same_certs : (cert other : Cert) → Belongs task cert → Belongs task other → HasSmallNumbers cert → HasSmallNumbers other → cert_lines task cert ≡ cert_lines task other → cert ≡ other
-  same_certs (Policy layers pairs rules reach) (Policy layers2 pairs2 rules2 reach2) h h2 small small2 e =
+  same_certs (Policy layers pairs rules reach) (Policy other_layers other_pairs other_rules other_reach) h other_h small other_small e =
       let ends = after_rules rules (last_lines reach) (omega arith) in
-      let ends2 = after_rules rules2 (last_lines reach2) (omega arith) in
-      let one = same_layers layers layers2 (map (pair_line task) pairs ++ plan_lines rules reach) (map (pair_line task) pairs2 ++ plan_lines rules2 reach2) h.0.over h2.0.over
-      (after_pairs pairs (plan_lines rules reach) ends) (after_pairs pairs2 (plan_lines rules2 reach2) ends2) (ap rest_of e) in
+      let other_ends = after_rules other_rules (last_lines other_reach) (omega arith) in
+      let one = same_layers layers other_layers (map (pair_line task) pairs ++ plan_lines rules reach) (map (pair_line task) other_pairs ++ plan_lines other_rules other_reach) h.0.over other_h.0.over
+      (after_pairs pairs (plan_lines rules reach) ends) (after_pairs other_pairs (plan_lines other_rules other_reach) other_ends) (ap rest_of e) in
       let of = pairs_of task pairs h.1 in
-      let of2 = pairs_of task pairs2 h2.1 in
-      let two = same_items (pair_line task) 4 (IsGoodPair task) (λ pair. refl) (same_pair task) pairs pairs2 (plan_lines rules reach) (plan_lines rules2 reach2)
-      (λ k d lt. (of k d lt, small.0 k d lt)) (λ k d lt. (of2 k d lt, small2.0 k d lt)) (λ same. omega (arith, ends, same)) (λ same. omega (arith, ends2, same)) one.1 in
+      let other_of = pairs_of task other_pairs other_h.1 in
+      let two = same_items (pair_line task) 4 (IsGoodPair task) (λ pair. refl) (same_pair task) pairs other_pairs (plan_lines rules reach) (plan_lines other_rules other_reach)
+      (λ k d lt. (of k d lt, small.0 k d lt)) (λ k d lt. (other_of k d lt, other_small.0 k d lt)) (λ same. omega (arith, ends, same)) (λ same. omega (arith, other_ends, same)) one.1 in
       let rules_in = rules_of task rules h.2 in
-      let rules_in2 = rules_of task rules2 h2.2 in
-      let three = same_items (rule_line task) 5 (IsGoodRule task) rule_kind (same_rule task) rules rules2 (last_lines reach) (last_lines reach2)
-      (λ k d lt. (rules_in k d lt, small.1 k d lt)) (λ k d lt. (rules_in2 k d lt, small2.1 k d lt)) (λ same. omega (arith, same)) (λ same. omega (arith, same)) two.1 in
-      let last : last_lines reach ≡ last_lines reach2 = three.1 in
-      let digits : decimal reach ≡ decimal reach2 = cc in
-      let number = decimal_injective reach reach2 small.2 small2.2 digits in
+      let other_rules_in = rules_of task other_rules other_h.2 in
+      let three = same_items (rule_line task) 5 (IsGoodRule task) rule_kind (same_rule task) rules other_rules (last_lines reach) (last_lines other_reach)
+      (λ k d lt. (rules_in k d lt, small.1 k d lt)) (λ k d lt. (other_rules_in k d lt, other_small.1 k d lt)) (λ same. omega (arith, same)) (λ same. omega (arith, same)) two.1 in
+      let last : last_lines reach ≡ last_lines other_reach = three.1 in
+      let digits : decimal reach ≡ decimal other_reach = cc in
+      let number = decimal_injective reach other_reach small.2 other_small.2 digits in
       λ i. Policy (one.0 i) (two.0 i) (three.0 i) (number i)
-  same_certs (Policy layers pairs rules reach) (Refusal layers2) h h2 small small2 e = let kinds : 0 ≡ 1 = ap first_kind e in absurd (omega (arith, kinds))
-  same_certs (Refusal layers) (Policy layers2 pairs2 rules2 reach2) h h2 small small2 e = let kinds : 1 ≡ 0 = ap first_kind e in absurd (omega (arith, kinds))
-  same_certs (Refusal layers) (Refusal layers2) h h2 small small2 e =
-      let one = same_layers layers layers2 (EndLine ∷ []) (EndLine ∷ []) h.over h2.over (omega arith) (omega arith) (ap rest_of e) in
+  same_certs (Policy layers pairs rules reach) (Refusal other_layers) h other_h small other_small e = let kinds : 0 ≡ 1 = ap first_kind e in absurd (omega (arith, kinds))
+  same_certs (Refusal layers) (Policy other_layers other_pairs other_rules other_reach) h other_h small other_small e = let kinds : 1 ≡ 0 = ap first_kind e in absurd (omega (arith, kinds))
+  same_certs (Refusal layers) (Refusal other_layers) h other_h small other_small e =
+      let one = same_layers layers other_layers (EndLine ∷ []) (EndLine ∷ []) h.over other_h.over (omega arith) (omega arith) (ap rest_of e) in
       ap Refusal one.0
 
 -- certificates of a task with one spelling are the same

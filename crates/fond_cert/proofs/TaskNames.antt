@@ -6,6 +6,7 @@ use Rattle.std.specs.Str.{bytes_eq}
 use Rattle.std.proofs.lemmas.Bool.{and_parts}
 use Rattle.std.proofs.lemmas.Bool.Decides.{nat_tests}
 use Rattle.std.proofs.lemmas.Iterator.Adapters.{position_from-zero}
+use Rattle.std.proofs.lemmas.List.{get_or-map, length-map}
 use Rattle.std.proofs.lemmas.List.Elements.{All-head, All-tail, All-cons, All-nil}
 use Rattle.std.proofs.lemmas.Option.{slice_get-get_or}
 use Rattle.std.proofs.lemmas.Slice.Eq.{bytes_eq-Decides}
@@ -48,15 +49,6 @@ passes_at : {X : Type 0} (test : X → Bool) (xs : List X) (k : ℕ) (d : X) →
 passes_at test [] k d h lt = absurd (omega (arith, lt))
 passes_at test (x ∷ xs) zero d h lt = (and_parts (test x) (list_all test xs) h).0
 passes_at test (x ∷ xs) (suc k) d h lt = passes_at test xs k d (and_parts (test x) (list_all test xs) h).1 (omega (arith, lt))
-
-get_mapped : {X Y : Type 0} (f : X → Y) (xs : List X) (k : ℕ) (d : X) (e : Y) → k < length xs → get_or (map f xs) k e ≡ f (get_or xs k d)
-get_mapped f [] k d e lt = absurd (omega (arith, lt))
-get_mapped f (x ∷ xs) zero d e lt = refl
-get_mapped f (x ∷ xs) (suc k) d e lt = get_mapped f xs k d e (omega (arith, lt))
-
-mapped_long : {X Y : Type 0} (f : X → Y) (xs : List X) → length (map f xs) ≡ length xs
-mapped_long f [] = refl
-mapped_long f (x ∷ xs) = ap (λ n. suc n) (mapped_long f xs)
 
 or_right : (a b : Bool) → b ≡ true → (a || b) ≡ true
 or_right true b h = refl
@@ -156,11 +148,11 @@ found : {X : Type 0} (written numbers : X → List ℕ) (xs : List X) (k : ℕ) 
     ((j : ℕ) → j < length xs → written (get_or xs j d) ≡ written (get_or xs k d) → numbers (get_or xs j d) ≡ numbers (get_or xs k d)) → k < length xs → written (get_or xs k d) ≡ text →
     position (λ x. bytes_eq (written x) text) xs ≡ Some k
 found written numbers xs k d text distinct same lt is =
-    let long = mapped_long numbers xs in
+    let long = length-map xs numbers in
     position_from-zero (λ x. bytes_eq (written x) text) xs
     ∙ only_first (λ x. bytes_eq (written x) text) xs 0 k d lt ((bytes_eq-Decides (written (get_or xs k d)) text).1 is)
     (λ j less passes. one_place (map numbers xs) j k [] distinct (omega (arith, less, long)) (omega (arith, lt, long))
-    (get_mapped numbers xs j d [] less ∙ same j less ((bytes_eq-Decides (written (get_or xs j d)) text).0 passes ∙ sym is) ∙ sym (get_mapped numbers xs k d [] lt)))
+    (get_or-map numbers xs j d [] less ∙ same j less ((bytes_eq-Decides (written (get_or xs j d)) text).0 passes ∙ sym is) ∙ sym (get_or-map numbers xs k d [] lt)))
     ∙ ap (λ n. Some n) (omega arith)
 
 module _ (task : Task) where

@@ -14,10 +14,10 @@ IsPairOf task pair = (length pair.cond ≡ length task.atoms) × (pair.act < len
 abbrev pub IsRuleOf : Task → Rule → Type 0
 IsRuleOf task rule = (length rule.cond ≡ length task.atoms) × (rule.act < length task.acts) × HasTarget rule.targets
 
--- a pair is one that may be read: it belongs to a task, and its numbers are small
+-- what reading a pair ensures: it belongs to the task, and its numbers are small
 abbrev pub IsReadPair : Task → Pair → Type 0
 IsReadPair task pair = (length pair.cond ≡ length task.atoms) × (pair.act < length task.acts) × IsSmallPair pair
 
--- a rule is one that may be read: it belongs to a task, and its numbers are small
+-- what reading a rule ensures: it belongs to the task, and its numbers are small
 abbrev pub IsReadRule : Task → Rule → Type 0
 IsReadRule task rule = (length rule.cond ≡ length task.atoms) × (rule.act < length task.acts) × HasTarget rule.targets × AreSmallTargets rule.targets

@@ -61,8 +61,8 @@ module _ (task : Task) (from : List Bool) (choices : List ChoiceView) (places : 
             subst (λ (s : List Bool). IsCovered task states s) next.given (covered place at led.0 (subst (λ (n : ℕ). IsNearer task choices n led.0) (sym ranked) led.2)),
           );
       unfair = λ is_unfair entries has.
-          covered place at (next_state choice.state entries) (subst (λ (n : ℕ). IsNearer task choices n (next_state choice.state entries)) (sym ranked) (wins.unfair (record { act = act; numbered = is; flagged = is_unfair; }) (next_state choice.state entries)
-          (record { act = act; numbered = is; holds = subst (λ (a : Act). IsHeld choice.state a) (same_Some wins.applicable.act act (sym wins.applicable.numbered ∙ is)) wins.applicable.holds; outcome = entries; one = has; given = refl; })));
+          covered place at (next_state choice.state entries) (subst (λ (n : ℕ). IsNearer task choices n (next_state choice.state entries)) (sym ranked) (wins.unfair (record { act = act; numbered = is; flagged = is_unfair }) (next_state choice.state entries)
+          (record { act = act; numbered = is; holds = subst (λ (a : Act). IsHeld choice.state a) (same_Some wins.applicable.act act (sym wins.applicable.numbered ∙ is)) wins.applicable.holds; outcome = entries; one = has; given = refl })));
     };
   }
     where

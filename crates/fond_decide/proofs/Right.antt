@@ -88,7 +88,7 @@ module _ (task : Task) (choices : List ChoiceView) (winning : AreWinning task ta
       let choice = found.1.choice in
       let wins = winning.each choice found.1.one in
       let moved : IsNext task choice.state choice.act state =
-          subst (λ (s : List Bool). IsNext task s choice.act state) (sym found.1.here) (subst (λ (n : ℕ). IsNext task before n state) (sym found.2 ∙ found.1.act) next) in
+      subst (λ (s : List Bool). IsNext task s choice.act state) (sym found.1.here) (subst (λ (n : ℕ). IsNext task before n state) (sym found.2 ∙ found.1.act) next) in
       (ap length next.given ∙ length-next_state before next.outcome ∙ so_far.0, wins.closed state moved)
 
   -- in each of them that is no goal, a rule holds
@@ -131,8 +131,8 @@ module _ (task : Task) (choices : List ChoiceView) (winning : AreWinning task ta
     pub right_policy : (reach : ℕ) → reach < 2 ^ 64 → ReachesCount task (selected rules) reach → IsRightCert task (Policy [] [] rules reach)
     right_policy reach small counted = record {
       belongs = (
-        record { few = omega arith; few_cubes = All-nil (λ (layer : List CubeView). length layer < 2 ^ 32); over = All-nil (IsOver (length task.atoms)); },
-        record { over = All-nil (λ (pair : Pair). length pair.cond ≡ length task.atoms); there = All-nil (λ (pair : Pair). pair.act < length task.acts); },
+        record { few = omega arith; few_cubes = All-nil (λ (layer : List CubeView). length layer < 2 ^ 32); over = All-nil (IsOver (length task.atoms)) },
+        record { over = All-nil (λ (pair : Pair). length pair.cond ≡ length task.atoms); there = All-nil (λ (pair : Pair). pair.act < length task.acts) },
         record {
           few = few;
           belong = belong;
@@ -142,7 +142,7 @@ module _ (task : Task) (choices : List ChoiceView) (winning : AreWinning task ta
       small = (
         All-nil IsSmallPair,
         all_numbered (λ (rule : Rule). AreSmallTargets rule.targets) rules (λ number rule at.
-          let sure = planned.sure number rule at in small_targets number rule.cond sure.act rule.act rule.targets sure.has_act (slice_get_within rules number rule at) sure.met),
+            let sure = planned.sure number rule at in small_targets number rule.cond sure.act rule.act rule.targets sure.has_act (slice_get_within rules number rule at) sure.met),
         small,
       );
       right = record {
@@ -161,9 +161,9 @@ right_refusal task layers few few_cubes stuck lies = record {
     few = few;
     few_cubes = few_cubes;
     over = all_numbered (IsOver (length task.atoms)) layers (λ number layer at. all_numbered (λ (cube : CubeView). length cube ≡ length task.atoms) layer (λ i cube is.
-      let full = stuck.each layer (Contains_numbered layers number layer at) cube (Contains_numbered layer i cube is) in
-      ap length full.full ∙ length-map full.state (λ value. Some value) ∙ reachable_long task task.init task.init_long full.state full.reachable));
+        let full = stuck.each layer (Contains_numbered layers number layer at) cube (Contains_numbered layer i cube is) in
+        ap length full.full ∙ length-map full.state (λ value. Some value) ∙ reachable_long task task.init task.init_long full.state full.reachable));
   };
   small = tt;
-  right = record { layers_sure = stuck.sure; start = lies; };
+  right = record { layers_sure = stuck.sure; start = lies };
 }

@@ -100,8 +100,7 @@ module _ (task : Task) (choices : List ChoiceView) (states : States) (rules : Li
       let one = element_at rules number (omega (arith, within, planned.long)) in
       let its = planned.each number one.0 one.1 in
       let same : its.0 ≡ state = same_Some its.0 state (sym its.1 ∙ at) in
-      let cond : one.0.cond ≡ full_cube state = its.2.cond ∙ ap full_cube same in
-      (
+      let cond : one.0.cond ≡ full_cube state = its.2.cond ∙ ap full_cube same in (
         omega (arith, within, planned.long),
         (one.0, push_keeps rules more number one.0 one.1, subst (λ (c : CubeView). CubeLiesIn (full_cube state) c) (sym cond) (λ atom sign lies. lies)),
       )
@@ -117,10 +116,14 @@ module _ (task : Task) (choices : List ChoiceView) (states : States) (rules : Li
         let led = meets_led (rule ∷ []) (next_state choice.state entries) target (next_long entries) are.1.2 in
         let image_is = full_image task choice.act ready.applicable.act choice.state outcome entries ready.applicable.numbered ready.long are.1.1 in
         (are.0, led.0, (entries, are.1.1, subst (λ (c : CubeView). Meets task (rules ++ rule ∷ []) c target) (sym image_is) led.1))
-    met_by (All targets) are = (are.0, are.1, λ at target entries is also.
-        let led = meets_led (rule ∷ []) (next_state choice.state entries) target (next_long entries) (are.2 at target entries is also) in
-        let image_is = full_image task choice.act ready.applicable.act choice.state at entries ready.applicable.numbered ready.long also in
-        (led.0, subst (λ (c : CubeView). Meets task (rules ++ rule ∷ []) c target) (sym image_is) led.1))
+    met_by (All targets) are = (
+      are.0,
+      are.1,
+      λ at target entries is also.
+          let led = meets_led (rule ∷ []) (next_state choice.state entries) target (next_long entries) (are.2 at target entries is also) in
+          let image_is = full_image task choice.act ready.applicable.act choice.state at entries ready.applicable.numbered ready.long also in
+          (led.0, subst (λ (c : CubeView). Meets task (rules ++ rule ∷ []) c target) (sym image_is) led.1),
+    )
 
     -- the new rule is sure
     pub sure_last : IsSureRule task [] (rules ++ rule ∷ []) (length rules) rule
@@ -139,8 +142,11 @@ module _ (task : Task) (choices : List ChoiceView) (states : States) (rules : Li
       long = length-append rules (rule ∷ []) ∙ ap (λ n. n + 1) planned.long ∙ sym (length-append states (choice.state ∷ []));
       each = λ number other at. ⊎_elim
           (λ was. let its = planned.each number other was in (its.0, push_keeps states (choice.state ∷ []) number its.0 its.1, its.2))
-          (λ is. (choice.state, ap (slice_get (states ++ choice.state ∷ [])) (is.0 ∙ planned.long) ∙ push_last states choice.state,
-            subst (λ (r : Rule). IsFor choices r choice.state) is.1 (record { choice = choice; one = one; here = refl; cond = cond; act = acts; })))
+          (λ is. (
+            choice.state,
+            ap (slice_get (states ++ choice.state ∷ [])) (is.0 ∙ planned.long) ∙ push_last states choice.state,
+            subst (λ (r : Rule). IsFor choices r choice.state) is.1 (record { choice = choice; one = one; here = refl; cond = cond; act = acts }),
+          ))
           (push_cases rules rule number other at);
       sure = λ number other at. ⊎_elim
           (λ was. sure_more task rules rule number other (planned.sure number other was))

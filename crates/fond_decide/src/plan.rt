@@ -93,7 +93,15 @@ pub(crate) fn rules_for(
     let mut next = from.copy(alloc)?;
     for at in 0..places.len() {
         let number = places[at].number;
-        place(alloc, t, choices, number, &mut states, &mut rules, &mut next)?;
+        place(
+            alloc,
+            t,
+            choices,
+            number,
+            &mut states,
+            &mut rules,
+            &mut next,
+        )?;
     }
     Ok(rules)
 }

@@ -1,51 +1,39 @@
 -- The least number that was visited is that of the first cube that passes a test.
 use Rattle.std.proofs.Common.{◌≡◌, ℕ, ◌<◌, ◌≤◌, List, [], ◌∷◌, Bool, true, false, Option, Some, None, length, map, fold, cond, get_or, refl, sym, ap, ◌∙◌, subst, inl, inr, ⊎_elim, arith}
-use Rattle.std.specs.Prelude.{◌⊎◌, ◌&&◌, Contains, slice_get, nat_lt, option_map, position}
+use Rattle.std.specs.Prelude.{◌&&◌, Contains, slice_get, nat_lt, option_map, position}
 use Rattle.std.specs.List.{position_or_len}
 use Rattle.std.proofs.lemmas.Bool.{false≢true}
 use Rattle.std.proofs.lemmas.Bool.Decides.{nat_tests}
 use Rattle.std.proofs.lemmas.List.{get_or-map, length-map}
 use Rattle.std.proofs.lemmas.List.Sums.{position_or_len_is}
 use Rattle.std.proofs.lemmas.Option.{slice_get-get_or, slice_get-map}
-use Rattle.fond_match.specs.Visits.{cube_at, better}
-use Rattle.fond_match.proofs.Members.{no_member, first_member, later_member, member_cases}
+use Rattle.fond_match.specs.Visits.{IsLeast, cube_at, better}
+use Rattle.fond_match.proofs.Members.{no_member, member_cases}
 
 module _ (lies : List (Option Bool) → Bool) (cubes : List (List (Option Bool))) where
-  -- the least of some numbers whose cubes pass the test, if it is below a number, or else that
-  record IsLeast (best : ℕ) (numbers : List ℕ) (found : ℕ) : Type 0 where
-    small : found ≤ best
-    from : (found ≡ best) ⊎ (Contains numbers found × (lies (cube_at cubes found) ≡ true))
-    least : (number : ℕ) → Contains numbers number → lies (cube_at cubes number) ≡ true → found ≤ number
-
   -- one more number in front
-  from_later : (best first found : ℕ) (numbers : List ℕ) → (found ≡ best) ⊎ (Contains numbers found × (lies (cube_at cubes found) ≡ true)) →
-      (found ≡ best) ⊎ (Contains (first ∷ numbers) found × (lies (cube_at cubes found) ≡ true))
-  from_later best first found numbers from = ⊎_elim (λ is. inl is) (λ one. inr (later_member first numbers found one.0, one.1)) from
-
-  least_skip : (best first found : ℕ) (numbers : List ℕ) → IsLeast best numbers found → (lies (cube_at cubes first) ≡ true → found ≤ first) → IsLeast best (first ∷ numbers) found
+  least_skip : (best first found : ℕ) (numbers : List ℕ) → IsLeast lies cubes best numbers found → (lies (cube_at cubes first) ≡ true → found ≤ first) → IsLeast lies cubes best (first ∷ numbers) found
   least_skip best first found numbers least skipped = record {
     small = least.small;
-    from = from_later best first found numbers least.from;
+    from = least.from;
     least = λ number has passes. ⊎_elim
         (λ is. let passed : lies (cube_at cubes first) ≡ true = ap (λ n. lies (cube_at cubes n)) is ∙ passes in omega (arith, skipped passed, is))
         (λ there. least.least number there passes)
         (member_cases first numbers number has);
   }
 
-  least_take : (best first found : ℕ) (numbers : List ℕ) → first < best → lies (cube_at cubes first) ≡ true → IsLeast first numbers found → IsLeast best (first ∷ numbers) found
+  least_take : (best first found : ℕ) (numbers : List ℕ) → first < best → lies (cube_at cubes first) ≡ true → IsLeast lies cubes first numbers found → IsLeast lies cubes best (first ∷ numbers) found
   least_take best first found numbers below passes least = record {
     small = omega (arith, least.small, below);
     from = ⊎_elim
-        (λ is.
-        let P : ℕ → Type 0 = λ n. Contains (first ∷ numbers) n × (lies (cube_at cubes n) ≡ true) in
-        inr (subst P (sym is) (first_member first numbers, passes)))
-        (λ one. inr (later_member first numbers found one.0, one.1))
+        (λ is. let P : ℕ → Type 0 = λ n. lies (cube_at cubes n) ≡ true in inr (subst P (sym is) passes))
+        (λ one. inr one)
         least.from;
     least = λ number has passed. ⊎_elim (λ is. omega (arith, least.small, is)) (λ there. least.least number there passed) (member_cases first numbers number has);
   }
 
-  least_step : (best first : ℕ) (numbers : List ℕ) → ((best : ℕ) → IsLeast best numbers (fold (better lies cubes) best numbers)) → (b t : Bool) → nat_lt first best ≡ b → lies (cube_at cubes first) ≡ t →
-      IsLeast best (first ∷ numbers) (fold (better lies cubes) (cond (b && t) first best) numbers)
+  least_step : (best first : ℕ) (numbers : List ℕ) → ((best : ℕ) → IsLeast lies cubes best numbers (fold (better lies cubes) best numbers)) → (b t : Bool) → nat_lt first best ≡ b → lies (cube_at cubes first) ≡ t →
+      IsLeast lies cubes best (first ∷ numbers) (fold (better lies cubes) (cond (b && t) first best) numbers)
   least_step best first numbers rest true true lt passes = least_take best first _ numbers (grind (arith, nat_tests)) passes (rest first)
   least_step best first numbers rest true false lt fails = least_skip best first _ numbers (rest best) (λ passes. absurd (false≢true (sym fails ∙ passes)))
   least_step best first numbers rest false t ge is =
@@ -53,7 +41,8 @@ module _ (lies : List (Option Bool) → Bool) (cubes : List (List (Option Bool))
       let small : fold (better lies cubes) best numbers ≤ best = (rest best).small in
       least_skip best first _ numbers (rest best) (λ passes. omega (arith, small, large))
 
-  least_found : (best : ℕ) (numbers : List ℕ) → IsLeast best numbers (fold (better lies cubes) best numbers)
+  -- the fold over some numbers finds the least
+  pub least_found : (best : ℕ) (numbers : List ℕ) → IsLeast lies cubes best numbers (fold (better lies cubes) best numbers)
   least_found best [] = record { small = omega arith; from = inl refl; least = λ number has passes. absurd (no_member number has) }
   least_found best (first ∷ numbers) = least_step best first numbers (λ best. least_found best numbers) (nat_lt first best) (lies (cube_at cubes first)) refl refl
 
@@ -73,7 +62,7 @@ module _ {X : Type 0} (cube : X → List (Option Bool)) (lies : List (Option Boo
   first_is : (items : List X) (d : X) (found : ℕ) → VisitsPassing items → IsLeast lies (map cube items) (length items) visited found → position_or_len (λ item. lies (cube item)) items ≡ found
   first_is items d found complete least = position_or_len_is (λ item. lies (cube item)) items found d least.small
       (λ k small. fails k (omega (arith, small, least.small)) small (lies (cube (get_or items k d))) refl)
-      (λ small. ⊎_elim (λ is. absurd (omega (arith, is, small))) (λ one. ap lies (sym (at_item items d found small)) ∙ one.1) least.from)
+      (λ small. ⊎_elim (λ is. absurd (omega (arith, is, small))) (λ one. ap lies (sym (at_item items d found small)) ∙ one) least.from)
     where
       fails : (k : ℕ) → k < length items → k < found → (b : Bool) → lies (cube (get_or items k d)) ≡ b → b ≡ false
       fails k within small false is = refl
@@ -84,11 +73,11 @@ module _ {X : Type 0} (cube : X → List (Option Bool)) (lies : List (Option Boo
           let has = complete k (cube (get_or items k d)) there is in
           absurd (omega (arith, small, least.least k has (ap lies same ∙ is)))
 
-  position_is : (items : List X) → VisitsPassing items → position_or_len (λ item. lies (cube item)) items ≡ fold (better lies (map cube items)) (length items) visited
-  position_is [] complete = let least = least_found lies [] 0 visited in omega (arith, least.small)
-  position_is (item ∷ items) complete = first_is (item ∷ items) item _ complete (least_found lies (map cube (item ∷ items)) (length (item ∷ items)) visited)
+  position_is : (items : List X) (found : ℕ) → VisitsPassing items → IsLeast lies (map cube items) (length items) visited found → position_or_len (λ item. lies (cube item)) items ≡ found
+  position_is [] found complete least = omega (arith, least.small)
+  position_is (item ∷ items) found complete least = first_is (item ∷ items) item found complete least
 
   -- the least number that was visited, if one was, is that of the first item whose cube passes
-  pub first_found : (items : List X) (found : ℕ) → VisitsPassing items → found ≡ fold (better lies (map cube items)) (length items) visited →
+  pub first_found : (items : List X) (found : ℕ) → VisitsPassing items → IsLeast lies (map cube items) (length items) visited found →
       position (λ item. lies (cube item)) items ≡ cond (nat_lt found (length items)) (Some found) None
-  first_found items found complete is = ap (λ n. cond (nat_lt n (length items)) (Some n) None) (position_is items complete ∙ sym is)
+  first_found items found complete least = ap (λ n. cond (nat_lt n (length items)) (Some n) None) (position_is items found complete least)

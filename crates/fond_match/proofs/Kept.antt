@@ -1,10 +1,10 @@
 -- What queries still visit after numbers are sorted further.
-use Rattle.std.proofs.Common.{◌≡◌, ℕ, ◌+◌, ◌<◌, List, [], ◌∷◌, ◌++◌, Bool, true, Option, Some, All, length, cond, map, take, get_or, append_assoc, refl, sym, ap, ◌∙◌, subst, arith}
-use Rattle.std.specs.Prelude.{Contains, slice_get}
-use Rattle.std.specs.List.{concat}
+use Rattle.std.proofs.Common.{◌≡◌, ℕ, ◌+◌, ◌<◌, ◌≤◌, List, [], ◌∷◌, ◌++◌, Bool, true, Option, Some, All, length, cond, take, get_or, append_assoc, refl, sym, ap, ◌∙◌, subst, arith}
+use Rattle.std.specs.Prelude.{Contains, nat_le, slice_get}
+use Rattle.std.specs.List.{filter}
 use Rattle.std.specs.List.Sorted.{IsPermutation}
-use Rattle.std.proofs.lemmas.List.{append-nil, map-append, take_more}
-use Rattle.std.proofs.lemmas.List.Folds.{concat-append}
+use Rattle.std.proofs.lemmas.Bool.{le-leb}
+use Rattle.std.proofs.lemmas.List.{append-nil, take_more}
 use Rattle.std.proofs.lemmas.List.Concat.{flat_map-append}
 use Rattle.std.proofs.lemmas.List.Elements.{All-contains, Contains-append_left, Contains-append_right}
 use Rattle.std.proofs.lemmas.List.Sorted.{IsPermutation-sym}
@@ -18,8 +18,8 @@ use Rattle.fond_match.specs.declared.part.Entry.{Entry}
 use Rattle.fond_match.specs.declared.part.Run.{Run}
 use Rattle.fond_match.specs.Visits.{Keeps, enters, entered, visits, visits_of_all}
 use Rattle.fond_match.specs.Runs.{first_visits, picked, run_visits}
-use Rattle.fond_match.proofs.Members.{All-from_members, only_member, both_members, swapped_member, member_if, both_if, permuted}
-use Rattle.fond_match.proofs.Searched.{visits_roll}
+use Rattle.fond_match.proofs.Members.{All-from_members, from_filter, in_filter, only_member, both_members, swapped_member, member_if, both_if, permuted}
+use Rattle.fond_match.proofs.Searched.{below_node, visits_of_all-push, visits_roll}
 
 -- the numbers that each query visits, by the literals that it has
 abbrev Visited : Type 0
@@ -134,9 +134,6 @@ module _ (cubes : List (List (Option Bool))) where
   run_visits-push has runs run =
       flat_map-append (λ (run : Run). entered has (Some run.literal) run.numbers.items) runs (run ∷ []) ∙ ap (λ one. run_visits has runs ++ one) (append-nil (entered has (Some run.literal) run.numbers.items))
 
-  visits_of_all-push : (has : ℕ → Bool → Bool) (nodes : List Node) (node : Node) → visits_of_all has (nodes ++ node ∷ []) ≡ visits_of_all has nodes ++ visits has node
-  visits_of_all-push has nodes node = ap concat (map-append (visits has) nodes (node ∷ [])) ∙ concat-append (map (visits has) nodes) (visits has node ∷ []) ∙ ap (λ one. visits_of_all has nodes ++ one) (append-nil (visits has node))
-
   -- the last run becomes the last branch
   pub Keeps-branch : (rest : List ℕ) (runs : List Run) (run : Run) (nodes : List Node) (node : Node) → Keeps cubes (λ has. entered has (Some run.literal) run.numbers.items) (λ has. visits has node) →
       Keeps cubes (λ has. rest ++ (run_visits has (runs ++ run ∷ []) ++ visits_of_all has nodes)) (λ has. rest ++ (run_visits has runs ++ visits_of_all has (nodes ++ node ∷ [])))
@@ -184,11 +181,32 @@ module _ (cubes : List (List (Option Bool))) where
   no_runs [] none = refl
   no_runs (run ∷ runs) none = absurd (omega (arith, none))
 
-  -- once no run is left, the branches are those of the node
-  pub Keeps-node : (numbers : List ℕ) (node : Node-F Node) (runs : List Run) → length runs ≡ 0 → Keeps cubes (λ _. numbers) (λ has. node.numbers.items ++ (run_visits has runs ++ visits_of_all has node.branches.items)) →
+  -- numbers that are not below the least one pass the filter of a node
+  Keeps-filtered : (least : ℕ) (numbers : List ℕ) (a : Visited) → All (λ number. least ≤ number) numbers → Keeps cubes (λ _. numbers) a → Keeps cubes (λ _. numbers) (λ has. filter (λ number. nat_le least number) (a has))
+  Keeps-filtered least numbers a all kept = record {
+    complete = λ has number cube at each one. in_filter (λ number. nat_le least number) (a has) number (kept.complete has number cube at each one) (le-leb least number (All-contains (λ number. least ≤ number) numbers number all one));
+    within = λ has number one. kept.within has number (from_filter (λ number. nat_le least number) (a has) number one);
+  }
+
+  -- a node keeps what its numbers and branches do
+  Keeps-roll : (numbers : List ℕ) (node : Node-F Node) → All (λ number. node.least ≤ number) numbers → Keeps cubes (λ _. numbers) (λ has. node.numbers.items ++ visits_of_all has node.branches.items) →
       Keeps cubes (λ has. entered has node.literal numbers) (λ has. visits has (roll-Node node))
-  Keeps-node numbers node runs none kept =
-      let P : List Run → Type 0 = λ rs. Keeps cubes (λ _. numbers) (λ has. node.numbers.items ++ (run_visits has rs ++ visits_of_all has node.branches.items)) in
-      Keeps-then (λ has. entered has node.literal numbers) (λ has. entered has node.literal (node.numbers.items ++ visits_of_all has node.branches.items)) (λ has. visits has (roll-Node node))
-      (Keeps-entered node.literal (λ _. numbers) (λ has. node.numbers.items ++ visits_of_all has node.branches.items) (subst P (no_runs runs none) kept))
+  Keeps-roll numbers node all kept =
+      Keeps-then (λ has. entered has node.literal numbers) (λ has. entered has node.literal (below_node has node)) (λ has. visits has (roll-Node node))
+      (Keeps-entered node.literal (λ _. numbers) (λ has. below_node has node) (Keeps-filtered node.least numbers (λ has. node.numbers.items ++ visits_of_all has node.branches.items) all kept))
       (Keeps-same _ _ (λ has. sym (visits_roll has node)))
+
+  -- a node without branches keeps its numbers
+  pub Keeps-leaf : (node : Node-F Node) (read : List ℕ) → read ≡ node.numbers.items → All (λ number. node.least ≤ number) read → node.branches.items ≡ [] → Keeps cubes (λ has. entered has node.literal node.numbers.items) (λ has. visits has (roll-Node node))
+  Keeps-leaf node read same all none =
+      let P : List ℕ → Type 0 = λ numbers. All (λ number. node.least ≤ number) numbers in
+      Keeps-roll node.numbers.items node (subst P same all)
+      (Keeps-same (λ _. node.numbers.items) (λ has. node.numbers.items ++ visits_of_all has node.branches.items) (λ has. sym (append-nil node.numbers.items) ∙ ap (λ bs. node.numbers.items ++ visits_of_all has bs) (sym none)))
+
+  -- once no run is left, the branches are those of the node
+  pub Keeps-node : (numbers : List ℕ) (node : Node-F Node) (runs : List Run) (read : List ℕ) → read ≡ numbers → All (λ number. node.least ≤ number) read → length runs ≡ 0 →
+      Keeps cubes (λ _. numbers) (λ has. node.numbers.items ++ (run_visits has runs ++ visits_of_all has node.branches.items)) → Keeps cubes (λ has. entered has node.literal numbers) (λ has. visits has (roll-Node node))
+  Keeps-node numbers node runs read same all none kept =
+      let P : List Run → Type 0 = λ rs. Keeps cubes (λ _. numbers) (λ has. node.numbers.items ++ (run_visits has rs ++ visits_of_all has node.branches.items)) in
+      let Q : List ℕ → Type 0 = λ numbers. All (λ number. node.least ≤ number) numbers in
+      Keeps-roll numbers node (subst Q same all) (subst P (no_runs runs none) kept)

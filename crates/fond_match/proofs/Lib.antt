@@ -1,5 +1,5 @@
 pub mod Members
-pub mod Kept
 pub mod Found
 pub mod Searched
+pub mod Kept
 pub mod Joined

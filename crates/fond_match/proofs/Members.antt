@@ -1,7 +1,7 @@
 -- Members of lists that are joined, moved or made from other lists.
 use Rattle.std.proofs.Common.{◌≡◌, ℕ, zero, suc, ◌+◌, ◌<◌, List, [], ◌∷◌, ◌++◌, Bool, true, false, All, cond, refl, sym, ap, ◌∙◌, subst, inl, inr, ⊎_elim, arith, add-one}
 use Rattle.std.specs.Prelude.{◌⊎◌, Contains}
-use Rattle.std.specs.List.{flat_map, range_with_len}
+use Rattle.std.specs.List.{filter, flat_map, range_with_len}
 use Rattle.std.specs.List.Sorted.{IsPermutation}
 use Rattle.std.proofs.lemmas.List.Elements.{All-contains, Contains-append_left, Contains-append_right, Contains-append_cases, Contains-push_cases, All-contains_itself}
 use Rattle.std.proofs.lemmas.List.FromFn.{length-range_with_len, get_or-range_with_len}
@@ -42,6 +42,10 @@ module _ {X : Type 0} where
   member_if true xs y has = has
   member_if false xs y has = absurd (no_member y has)
 
+  pub tested_if : (b : Bool) (xs : List X) (y : X) → Contains (cond b xs []) y → b ≡ true
+  tested_if true xs y has = refl
+  tested_if false xs y has = absurd (no_member y has)
+
   pub both_if : (b : Bool) (xs ys : List X) (y : X) → (Contains xs y → Contains ys y) → Contains (cond b xs []) y → Contains (cond b ys []) y
   both_if true xs ys y to has = to has
   both_if false xs ys y to has = has
@@ -54,6 +58,41 @@ module _ {X : Type 0} where
 
   pub All-back : (P : X → Type 0) (xs ys : List X) → All P (xs ++ ys) → All P ys
   All-back P xs ys all = All-from_members P ys (λ y has. All-contains P (xs ++ ys) y all (Contains-append_right xs ys y has))
+
+module _ {X : Type 0} (test : X → Bool) where
+  -- members of a filtered list are those members that pass
+  filter_cases : (b : Bool) (x : X) (xs : List X) (y : X) → test x ≡ b → Contains (cond b (x ∷ filter test xs) (filter test xs)) y → ((test x ≡ true) × (x ≡ y)) ⊎ Contains (filter test xs) y
+  filter_cases true x xs y is has = ⊎_elim (λ one. inl (is, one)) (λ there. inr there) (member_cases x (filter test xs) y has)
+  filter_cases false x xs y is has = inr has
+
+  pub from_filter : (xs : List X) (y : X) → Contains (filter test xs) y → Contains xs y
+  from_filter [] y has = has
+  from_filter (x ∷ xs) y has = ⊎_elim
+      (λ one. let P : X → Type 0 = λ y. Contains (x ∷ xs) y in subst P one.1 (first_member x xs))
+      (λ there. later_member x xs y (from_filter xs y there))
+      (filter_cases (test x) x xs y refl has)
+
+  pub passed_filter : (xs : List X) (y : X) → Contains (filter test xs) y → test y ≡ true
+  passed_filter [] y has = absurd (no_member y has)
+  passed_filter (x ∷ xs) y has = ⊎_elim
+      (λ one. ap test (sym one.1) ∙ one.0)
+      (λ there. passed_filter xs y there)
+      (filter_cases (test x) x xs y refl has)
+
+  in_rest : (b : Bool) (x : X) (xs : List X) (y : X) → Contains (filter test xs) y → Contains (cond b (x ∷ filter test xs) (filter test xs)) y
+  in_rest true x xs y has = later_member x (filter test xs) y has
+  in_rest false x xs y has = has
+
+  pub in_filter : (xs : List X) (y : X) → Contains xs y → test y ≡ true → Contains (filter test xs) y
+  in_filter [] y has passes = has
+  in_filter (x ∷ xs) y has passes = ⊎_elim
+      (λ one.
+      let here : test x ≡ true = ap test one ∙ passes in
+      let P : Bool → Type 0 = λ b. Contains (cond b (x ∷ filter test xs) (filter test xs)) y in
+      let Q : X → Type 0 = λ y. Contains (x ∷ filter test xs) y in
+      subst P (sym here) (subst Q one (first_member x (filter test xs))))
+      (λ there. in_rest (test x) x xs y (in_filter xs y there passes))
+      (member_cases x xs y has)
 
 module _ {X A : Type 0} (f : X → List A) where
   -- a member of lists that are joined is one of some list

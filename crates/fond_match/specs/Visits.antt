@@ -1,6 +1,6 @@
 -- The numbers that a query visits in a tree over literals.
-use Rattle.std.specs.Prelude.{◌≡◌, ◌&&◌, ◌++◌, ℕ, List, [], Bool, true, Option, Some, None, map, Contains, slice_get, slice_index_or, nat_lt, if◌then◌else◌}
-use Rattle.std.specs.List.{concat}
+use Rattle.std.specs.Prelude.{◌≡◌, ◌≤◌, ◌⊎◌, ◌&&◌, ◌++◌, ℕ, List, [], Bool, true, Option, Some, None, map, Contains, slice_get, slice_index_or, nat_le, nat_lt, if◌then◌else◌}
+use Rattle.std.specs.List.{concat, filter}
 use Rattle.fond_state.specs.Cubes.{literal_at}
 use Rattle.fond_match.specs.declared.node.Literal.{Literal}
 use Rattle.fond_match.specs.declared.node.Node.{Node}
@@ -18,10 +18,10 @@ entered has literal numbers = if enters has literal then numbers else []
 
 -- one node, with what is visited in its branches
 abbrev pub visits_step : (ℕ → Bool → Bool) → Node-F (List ℕ) → List ℕ
-visits_step has node = entered has node.literal (node.numbers.items ++ concat node.branches.items)
+visits_step has node = entered has node.literal (filter (λ number. nat_le node.least number) (node.numbers.items ++ concat node.branches.items))
 
 -- the numbers that a query visits in a node: if it has the literal of the node, those at the node and those in its
--- branches
+-- branches that are not below the least one
 abbrev pub visits : (ℕ → Bool → Bool) → Node → List ℕ
 visits has = fold-Node (List ℕ) (visits_step has)
 
@@ -45,3 +45,10 @@ HasEach has cube = (atom : ℕ) (sign : Bool) → literal_at cube atom ≡ Some 
 pub record Keeps (cubes : List (List (Option Bool))) (before after : (ℕ → Bool → Bool) → List ℕ) : Type 0 where
   pub complete : (has : ℕ → Bool → Bool) (number : ℕ) (cube : List (Option Bool)) → slice_get cubes number ≡ Some cube → HasEach has cube → Contains (before has) number → Contains (after has) number
   pub within : (has : ℕ → Bool → Bool) (number : ℕ) → Contains (after has) number → Contains (before has) number
+
+-- a number that was found is the best one before or one whose cube passes the test, and is no greater than the best one
+-- or any visited number whose cube passes
+pub record IsLeast (lies : List (Option Bool) → Bool) (cubes : List (List (Option Bool))) (best : ℕ) (visited : List ℕ) (found : ℕ) : Type 0 where
+  pub small : found ≤ best
+  pub from : (found ≡ best) ⊎ (lies (cube_at cubes found) ≡ true)
+  pub least : (number : ℕ) → Contains visited number → lies (cube_at cubes number) ≡ true → found ≤ number

@@ -2,7 +2,7 @@
 //! atoms at which all of these agree. Each cube is gone through row by row, and about once.
 
 ghost use Rattle.fond_match.specs.Visits.{Keeps, entered, visits};
-ghost use Rattle.std.specs.Prelude.{◌≡◌, ◌<◌, All, map, length, IfOk};
+ghost use Rattle.std.specs.Prelude.{◌≡◌, ◌<◌, ◌≤◌, All, map, length, IfOk};
 
 use crate::node::{Literal, Node};
 use crate::part::{Parts, part};
@@ -11,8 +11,9 @@ use fond_state::cube::Cube;
 use fond_text::fault::NoMemory;
 use std::alloc::Global;
 
-/// How many numbers a node keeps without sorting them.
-const FEW: usize = 8;
+/// How many numbers a node keeps without sorting them. Few, since a branch costs a search one look at a literal, and a
+/// number up to one for each atom.
+const FEW: usize = 2;
 
 /// The first of these atoms at which the two cubes differ, or else `end`.
 fn first_difference(cube: &Cube, other: &Cube, from: u32, end: u32) -> u32 {
@@ -40,6 +41,19 @@ fn first_split<T: HasCube>(items: &[T], numbers: &[u32], from: u32) -> u32
     end
 }
 
+/// A number that none of these is below.
+fn least_of(numbers: &[u32]) -> u32
+    ensures { All (λ number. result ≤ number) numbers.now }
+{
+    let mut least = u32::MAX;
+    for number in numbers {
+        if *number < least {
+            least = *number;
+        }
+    }
+    least
+}
+
 /// The node of a literal over these numbers, sorted by the literals of their cubes from this atom on, along at most
 /// this many branches.
 pub(crate) fn grow<T: HasCube>(
@@ -53,10 +67,12 @@ pub(crate) fn grow<T: HasCube>(
     requires { All (λ number. number < length items.now) numbers.items }
     ensures { IfOk result (λ node. Keeps (map T.cube items.now) (λ has. entered has literal numbers.items) (λ has. visits has node)) }
 {
+    let least = least_of(&numbers);
     if numbers.len() <= FEW || depth == 0 {
         let branches = Vec::new(alloc);
         return Ok(Node {
             literal,
+            least,
             numbers,
             branches,
         });
@@ -70,6 +86,7 @@ pub(crate) fn grow<T: HasCube>(
     }
     Ok(Node {
         literal,
+        least,
         numbers: rest,
         branches,
     })

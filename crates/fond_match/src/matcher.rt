@@ -55,6 +55,7 @@ impl Matcher {
         Matcher {
             root: Node {
                 literal: None,
+                least: 0,
                 numbers: Vec::new(alloc),
                 branches: Vec::new(alloc),
             },

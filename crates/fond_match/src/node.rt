@@ -1,7 +1,7 @@
 //! The tree of an index, and its search.
 
 ghost use Rattle.std.specs.Prelude.{◌≡◌, ◌≤◌, All, fold, length, map};
-ghost use Rattle.fond_match.specs.Visits.{enters, visits, better};
+ghost use Rattle.fond_match.specs.Visits.{IsLeast, enters, visits, better};
 
 use crate::query::{HasCube, Query};
 
@@ -13,10 +13,11 @@ pub(crate) struct Literal {
 }
 
 /// The numbers of some cubes that have a literal, and a branch for each further literal by which others of them are
-/// sorted. The root is for all cubes, and has no literal.
+/// sorted. None of the numbers is below `least`. The root is for all cubes, and has no literal.
 #[derive(Drop)]
 pub(crate) struct Node {
     pub(crate) literal: Option<Literal>,
+    pub(crate) least: u32,
     pub(crate) numbers: Vec<u32>,
     pub(crate) branches: Vec<Node>,
 }
@@ -53,8 +54,11 @@ impl Node {
         requires few { best ≤ length items.now }
         requires over { All (λ item. length (T.cube item) ≡ Q.atoms query.now) items.now }
         ensures below { result ≤ best }
-        ensures least { result ≡ fold (better (Q.lies query.now) (map T.cube items.now)) best (visits (Q.has query.now) self.now) }
+        ensures least { IsLeast (Q.lies query.now) (map T.cube items.now) best (visits (Q.has query.now) self.now) result }
     {
+        if self.least >= best {
+            return best;
+        }
         if !enters(query, self.literal) {
             return best;
         }

@@ -21,7 +21,7 @@ loop-number-preserved c =
       each = λ place has. ⊎_elim
           (λ was. c.loop-number.invariant.each place was)
           (λ new. ⊎_elim
-          (λ same. subst (IsPlace choices) same (record { choice = own; numbered = c.get.ensures; ranked = refl; }))
+          (λ same. subst (IsPlace choices) same (record { choice = own; numbered = c.get.ensures; ranked = refl }))
           (λ never. absurd (omega (arith, never.1)))
           (Contains-cases place last [] new))
           (Contains-append_cases items (last ∷ []) place (subst (λ (ps : List Place). Contains ps place) pushed has));

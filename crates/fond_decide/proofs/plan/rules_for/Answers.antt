@@ -52,10 +52,13 @@ loop-at-preserved c =
 pub returns : goal.returns
 returns c =
     let places = c.in_ok-places.places.items in
-    let choices = c.args.choices.now in
-    (c.loop-at.states, c.loop-at.invariant.planned, λ choice has.
-      let own = number_of choices choice has in
-      let place : Place = record { rank = choice.rank; number = own.0; } in
-      let there = number_of places place (c.in_ok-places.ensures.all own.0 choice own.1) in
-      let within : there.0 < length places = slice_get_within places there.0 place there.1 in
-      c.loop-at.invariant.placed there.0 place choice (omega (arith, within, c.loop-at-test.false, c.len-at-end.ensures)) there.1 own.1)
+    let choices = c.args.choices.now in (
+      c.loop-at.states,
+      c.loop-at.invariant.planned,
+      λ choice has.
+          let own = number_of choices choice has in
+          let place : Place = record { rank = choice.rank; number = own.0 } in
+          let there = number_of places place (c.in_ok-places.ensures.all own.0 choice own.1) in
+          let within : there.0 < length places = slice_get_within places there.0 place there.1 in
+          c.loop-at.invariant.placed there.0 place choice (omega (arith, within, c.loop-at-test.false, c.len-at-end.ensures)) there.1 own.1,
+    )

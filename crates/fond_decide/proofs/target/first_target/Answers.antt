@@ -26,9 +26,14 @@ returns-in-Some-clause-targets c = λ act at fair.
     let same : own ≡ act = same_Some own act (sym c.get.ensures ∙ at) in
     let lt : k < length own.outcomes = omega (arith, c.loop-outcome-test.true, c.len-outcome-end.ensures) in
     let entries = get_or own.outcomes k [] in
-    let there : slice_get own.outcomes k ≡ Some entries = slice_get-get_or own.outcomes k [] lt in
-    (fair, (entries, subst (λ (a : Act). slice_get a.outcomes k ≡ Some entries) same there,
-      subst (λ (s : List Bool). LeadsTo c.args.t.now c.args.states.now s c.in-Some.target) (c.apply_into.ensures.next own entries c.get.ensures there) c.in-Some.ensures))
+    let there : slice_get own.outcomes k ≡ Some entries = slice_get-get_or own.outcomes k [] lt in (
+      fair,
+      (
+        entries,
+        subst (λ (a : Act). slice_get a.outcomes k ≡ Some entries) same there,
+        subst (λ (s : List Bool). LeadsTo c.args.t.now c.args.states.now s c.in-Some.target) (c.apply_into.ensures.next own entries c.get.ensures there) c.in-Some.ensures,
+      ),
+    )
 
 pub loop-outcome-preserved : goal.loop-outcome-preserved
 loop-outcome-preserved c = record {

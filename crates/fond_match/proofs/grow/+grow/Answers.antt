@@ -1,5 +1,5 @@
 use Rattle.std.proofs.Common.{◌<◌, ℕ, All, length, map, rules, arith}
-use Rattle.fond_match.proofs.Kept.{Keeps-begun, Keeps-branch_more, Keeps-node, run_among}
+use Rattle.fond_match.proofs.Kept.{Keeps-begun, Keeps-branch_more, Keeps-leaf, Keeps-node, run_among}
 use Rattle.fond_match.proofs.grow.+grow.Goals as goal
 
 pub loop-run-init : goal.loop-run-init
@@ -20,5 +20,10 @@ loop-run-preserved g t c =
 
 pub returns : goal.returns
 returns g t c =
-    Keeps-node (map g.T.HasCube.cube c.args.items.now) c.args.numbers.items (record { literal = c.args.literal; numbers = c.in_ok-rest.field-0.rest; branches = c.loop-run.branches }) c.loop-run.runs.items
-    (omega (arith, c.in_default.ensures.cases.0, c.loop-run.runs.ok.0)) c.loop-run.invariant
+    Keeps-node (map g.T.HasCube.cube c.args.items.now) c.args.numbers.items (record { literal = c.args.literal; least = c.least_of-least.result; numbers = c.in_ok-rest.field-0.rest; branches = c.loop-run.branches }) c.loop-run.runs.items
+    c.deref.result.now c.deref.ensures.value c.least_of-least.ensures (omega (arith, c.in_default.ensures.cases.0, c.loop-run.runs.ok.0)) c.loop-run.invariant
+
+pub returns-then-len-le-FEW : goal.returns-then-len-le-FEW
+returns-then-len-le-FEW g t c =
+    Keeps-leaf (map g.T.HasCube.cube c.args.items.now) (record { literal = c.args.literal; least = c.least_of-least.result; numbers = c.args.numbers; branches = c.new-branches.result })
+    c.deref.result.now c.deref.ensures.value c.least_of-least.ensures c.new-branches.ensures.items

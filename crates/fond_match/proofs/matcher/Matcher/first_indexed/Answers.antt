@@ -1,7 +1,7 @@
-use Rattle.std.proofs.Common.{◌∙◌, Some, None, length, map, fold, cond, ap, sym, arith}
+use Rattle.std.proofs.Common.{◌∙◌, ℕ, Some, None, length, map, cond, ap, sym, subst, arith}
 use Rattle.std.proofs.lemmas.Bool.{lt-ltb, le-ltb}
 use Rattle.std.proofs.lemmas.Option.{slice_get_within}
-use Rattle.fond_match.specs.Visits.{better, visits}
+use Rattle.fond_match.specs.Visits.{IsLeast, visits}
 use Rattle.fond_match.proofs.Found.{VisitsPassing, first_found}
 use Rattle.fond_match.proofs.Members.{range_member}
 use Rattle.fond_match.proofs.matcher.Matcher.first_indexed.Goals as goal
@@ -15,7 +15,8 @@ returns-then-found-self g c =
     let cubes = map g.T.HasCube.cube items in
     let complete : VisitsPassing g.T.HasCube.cube (g.Q.Query.lies query) (visits has c.args.self.now.root) items = λ number own at lies.
     c.requires.of.complete has number own at (λ atom sign is. g.met.Q.Query.has_each query own atom sign lies is) (range_member (length cubes) number (slice_get_within cubes number own at)) in
-    let least = c.search-found.ensures.least ∙ ap (λ best. fold (better (g.Q.Query.lies query) cubes) best (visits has c.args.self.now.root)) (sym c.requires.all) in
+    let P : ℕ → Type 0 = λ best. IsLeast (g.Q.Query.lies query) cubes best (visits has c.args.self.now.root) found in
+    let least = subst P (sym c.requires.all) c.search-found.ensures.least in
     ap (λ b. cond b (Some found) None) (sym (lt-ltb found (length items) (omega (arith, c.if-found-self.true, c.requires.all)))) ∙ sym (first_found g.T.HasCube.cube (g.Q.Query.lies query) (visits has c.args.self.now.root) items found complete least)
 
 pub returns-else-found-self : goal.returns-else-found-self
@@ -27,5 +28,6 @@ returns-else-found-self g c =
     let cubes = map g.T.HasCube.cube items in
     let complete : VisitsPassing g.T.HasCube.cube (g.Q.Query.lies query) (visits has c.args.self.now.root) items = λ number own at lies.
     c.requires.of.complete has number own at (λ atom sign is. g.met.Q.Query.has_each query own atom sign lies is) (range_member (length cubes) number (slice_get_within cubes number own at)) in
-    let least = c.search-found.ensures.least ∙ ap (λ best. fold (better (g.Q.Query.lies query) cubes) best (visits has c.args.self.now.root)) (sym c.requires.all) in
+    let P : ℕ → Type 0 = λ best. IsLeast (g.Q.Query.lies query) cubes best (visits has c.args.self.now.root) found in
+    let least = subst P (sym c.requires.all) c.search-found.ensures.least in
     ap (λ b. cond b (Some found) None) (sym (le-ltb found (length items) (omega (arith, c.if-found-self.false, c.requires.all)))) ∙ sym (first_found g.T.HasCube.cube (g.Q.Query.lies query) (visits has c.args.self.now.root) items found complete least)
