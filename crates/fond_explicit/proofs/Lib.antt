@@ -14,3 +14,4 @@ pub mod Grown
 pub mod Opened
 pub mod Choosing
 pub mod Runs
+pub mod Filed

@@ -2,10 +2,12 @@
 #![tactic(auto)]
 
 pub mod answer;
+mod act_index;
 mod choose;
 mod decide;
 mod earn;
 mod fate;
+mod filing;
 mod moves;
 mod opening;
 mod preds;
