@@ -163,7 +163,7 @@ are_candidates task index state found sorted filed collected moved ordered = rec
       let in_sorted = Contains-from_dedup eqb sorted n (Contains-get_or (dedup eqb sorted) k d small) in
       let in_found = Contains-permutation sorted found n (IsPermutation-sym found sorted moved) in_sorted in
       ⊎_elim (λ always. filed.always_within n always) (λ under. filed.under_within under.0 n under.1) (collected.only n in_found)
-  );
+      );
   rising = IsStrictlyIncreasing-dedup sorted ordered;
   all = λ number act is holds. Contains-dedup_nat sorted number (Contains-permutation found sorted number moved (⊎_elim
       (λ under. let truth = under.needs state holds in collected.all under.atom number (true_within state under.atom truth) truth under.has)

@@ -15,3 +15,4 @@ pub mod Opened
 pub mod Choosing
 pub mod Runs
 pub mod Filed
+pub mod Cascaded

@@ -207,7 +207,7 @@ module _ (goals : List Bool) (moves : List Move) (round bound : ℕ) (fates : Li
       (cases_lt node (length fates))
 
   -- what holds at the end of a round
-  pub dropped_round : list_any is_open fates ≡ true → IsRound goals moves (round + 1) 1 after
+  pub dropped_round : list_any is_open fates ≡ true → IsRound goals moves (round + 1) 0 after
   dropped_round some = record {
     whole = length-map fates (dropped round) ∙ now.whole;
     goals_hold = marks;

@@ -9,3 +9,4 @@ pub mod Openings
 pub mod Strata
 pub mod Runs
 pub mod Filings
+pub mod Cascades

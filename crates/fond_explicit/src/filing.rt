@@ -109,12 +109,7 @@ fn file(index: &mut ActIndex, atom: Option<u32>, number: u32) -> Result<(), NoMe
 }
 
 /// Files the action of a number under the rarest atom that its precondition needs.
-fn file_act(
-    index: &mut ActIndex,
-    counts: &[u32],
-    t: &Task,
-    number: u32,
-) -> Result<(), NoMemory>
+fn file_act(index: &mut ActIndex, counts: &[u32], t: &Task, number: u32) -> Result<(), NoMemory>
     requires { number < length t.now.acts }
     ensures { OnOk result (AreFiled t.now number index.old → AreFiled t.now (number + 1) index.new) }
 {
@@ -160,12 +155,7 @@ pub(crate) fn index_of(alloc: Global, t: &Task) -> Result<ActIndex, NoMemory>
 }
 
 /// Adds the actions that are filed under an atom, if it is true.
-fn add_filed(
-    index: &ActIndex,
-    state: &State,
-    atom: u32,
-    out: &mut Vec<u32>,
-) -> Result<(), NoMemory>
+fn add_filed(index: &ActIndex, state: &State, atom: u32, out: &mut Vec<u32>) -> Result<(), NoMemory>
     requires { atom < length state.now }
     ensures { OnOk result (out.new.items ≡ out.old.items ++ (if truth_at state.now atom then filed_under index.now.by_atom.items atom else [])) }
 {

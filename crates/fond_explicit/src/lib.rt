@@ -1,8 +1,9 @@
 //! Deciding a ground task by its states one by one.
 #![tactic(auto)]
 
-pub mod answer;
 mod act_index;
+pub mod answer;
+mod cascade;
 mod choose;
 mod decide;
 mod earn;

@@ -51,7 +51,15 @@ pub fn solve(alloc: Global, t: &Task, from: &State, budget: u32) -> Result<Solve
     };
     let mut acts = Vec::new(alloc);
     'batches: loop {
-        let has_room = open_batch(alloc, t, &index, &mut space, budget, &mut scratch, &mut acts)?;
+        let has_room = open_batch(
+            alloc,
+            t,
+            &index,
+            &mut space,
+            budget,
+            &mut scratch,
+            &mut acts,
+        )?;
         if let Some(solved) = decide(alloc, t, &space)? {
             return Ok(solved);
         }
