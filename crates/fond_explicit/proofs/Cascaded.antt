@@ -1,15 +1,15 @@
 -- A round after a cascade.
-use Rattle.std.proofs.Common.{◌≡◌, ℕ, ◌+◌, ◌<◌, ◌≤◌, List, Bool, true, false, length, get_or, refl, sym, ap, ◌∙◌, subst, ⊎_elim, inl, inr, arith}
-use Rattle.std.specs.Prelude.{◌⊎◌, ◌||◌, if◌then◌else◌, count_by}
+use Rattle.std.proofs.Common.{◌≡◌, ℕ, ◌<◌, ◌≤◌, List, Bool, true, false, length, get_or, sym, ap, ◌∙◌, ⊎_elim, inl, arith}
+use Rattle.std.specs.Prelude.{if◌then◌else◌}
 use Rattle.std.specs.List.{list_all, list_any}
 use Rattle.std.proofs.lemmas.Bool.{false≢true, cases_lt, or_cases, or_left, or_right}
 use Rattle.std.proofs.lemmas.List.{get_or_past}
 use Rattle.fond_explicit.specs.declared.fate.Fate.{Fate}
-use Rattle.fond_explicit.specs.declared.fate.Fate.TheVariants.{Open, Goal, Ranked, Fallen}
+use Rattle.fond_explicit.specs.declared.fate.Fate.TheVariants.{Open, Ranked, Fallen}
 use Rattle.fond_explicit.specs.Moves.{Move, move_at}
-use Rattle.fond_explicit.specs.Fates.{fate_of, is_marked, is_kept, fell_before, fell_in, forces}
+use Rattle.fond_explicit.specs.Fates.{fate_of, is_marked, fell_before, fell_in, forces}
 use Rattle.fond_explicit.specs.Rounds.{IsRound}
-use Rattle.fond_explicit.specs.Cascades.{IsSettledMore, FallsNow, IsCascade}
+use Rattle.fond_explicit.specs.Cascades.{IsSettledMore, IsCascade}
 use Rattle.fond_explicit.proofs.Tests.{all_then, any_then}
 
 module _ (goals : List Bool) (moves : List Move) (round after : ℕ) (old new : List Fate) (now : IsRound goals moves round 0 old) (cascade : IsCascade moves round after old new) where

@@ -1,8 +1,8 @@
 -- Atoms that forms need, and actions filed under them.
-use Rattle.std.proofs.Common.{◌≡◌, ◌≢◌, ℕ, zero, suc, ◌+◌, ◌<◌, ◌≤◌, List, [], ◌∷◌, ◌++◌, Bool, true, false, Option, Some, None, length, get_or, set, slice_get, refl, sym, ap, ◌∙◌, subst, ⊎_elim, inl, inr, arith}
-use Rattle.std.specs.Prelude.{◌⊎◌, Contains, All, IfSome, if◌then◌else◌}
+use Rattle.std.proofs.Common.{◌≡◌, ◌≢◌, ℕ, zero, suc, ◌+◌, ◌<◌, List, [], ◌∷◌, ◌++◌, Bool, true, false, Option, Some, None, length, get_or, set, slice_get, refl, sym, ap, ◌∙◌, subst, ⊎_elim, inl, inr, arith}
+use Rattle.std.specs.Prelude.{◌⊎◌, Contains, IfSome, if◌then◌else◌}
 use Rattle.std.specs.List.{list_all, dedup}
-use Rattle.std.specs.List.Sorted.{IsPermutation, IsSorted, IsStrictlyIncreasing}
+use Rattle.std.specs.List.Sorted.{IsPermutation, IsSorted}
 use Rattle.std.specs.Ordering.{nat_cmp}
 use Rattle.std.specs.declared.vec.Vec.{Vec}
 use Rattle.std.specs.declared.alloc.Global.{Global}
@@ -26,7 +26,7 @@ use Rattle.fond_task.specs.Truth.{is_true, is_true_step}
 use Rattle.fond_task.proofs.Found.{all_at}
 use Rattle.fond_game.proofs.Lists.{number_of}
 use Rattle.fond_explicit.specs.declared.act_index.ActIndex.{ActIndex}
-use Rattle.fond_explicit.specs.Filings.{Needs, filed_under, IsUnder, IsFiled, FilesOne, AreFiled, IsIndexOf, AreCollected, AreCandidates}
+use Rattle.fond_explicit.specs.Filings.{Needs, filed_under, FilesOne, AreFiled, IsIndexOf, AreCollected, AreCandidates}
 use Rattle.fond_explicit.proofs.Distinct.{nothing_in}
 
 is_true-And : (state : List Bool) (parts : Vec Form Global) → is_true state (And parts) ≡ list_all (is_true state) parts.items

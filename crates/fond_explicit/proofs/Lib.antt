@@ -16,3 +16,4 @@ pub mod Choosing
 pub mod Runs
 pub mod Filed
 pub mod Cascaded
+mod Worked

@@ -1,4 +1,4 @@
-use Rattle.std.proofs.Common.{◌≡◌, List, sym, ◌∙◌, subst}
+use Rattle.std.proofs.Common.{List, sym, ◌∙◌, subst}
 use Rattle.fond_explicit.specs.declared.fate.Fate.{Fate}
 use Rattle.fond_explicit.specs.Rounds.{IsRound}
 use Rattle.fond_explicit.proofs.Cascaded.{cascaded}

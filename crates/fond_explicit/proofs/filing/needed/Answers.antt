@@ -1,4 +1,4 @@
-use Rattle.std.proofs.Common.{List, ℕ, subst}
+use Rattle.std.proofs.Common.{List, subst}
 use Rattle.std.specs.Prelude.{IfSome}
 use Rattle.fond_task.specs.declared.form.Form.{Form}
 use Rattle.fond_explicit.proofs.Filed.{IsNeededByPart, needs_part}

@@ -1,8 +1,8 @@
-use Rattle.std.proofs.Common.{◌≡◌, ◌<◌, ℕ, Some, slice_get, get_or, length, sym, ap, ◌∙◌, subst, ⊎_elim, arith}
+use Rattle.std.proofs.Common.{◌≡◌, ℕ, slice_get, get_or, sym, ap, ◌∙◌, subst, ⊎_elim, arith}
 use Rattle.std.proofs.lemmas.Bool.{MatchBool-at_true, cases_lt}
 use Rattle.std.proofs.lemmas.Option.{same_Some, slice_get-get_or}
 use Rattle.fond_explicit.specs.Spaces.{HasMove}
-use Rattle.fond_explicit.proofs.Opened.{opening_none, opening_then}
+use Rattle.fond_explicit.proofs.Opened.{opening_then}
 use Rattle.fond_explicit.proofs.opening.open_acts.Goals as goal
 
 pub loop-act-preserved : goal.loop-act-preserved

@@ -1,4 +1,4 @@
-use Rattle.std.proofs.Common.{◌≡◌, arith}
+use Rattle.std.proofs.Common.{arith}
 use Rattle.fond_explicit.proofs.opening.open_batch.Goals as goal
 
 pub returns-then-not-branch-clause-keeps : goal.returns-then-not-branch-clause-keeps
