@@ -1,6 +1,6 @@
 -- The choices and the layers of one more node.
-use Rattle.std.proofs.Common.{◌≡◌, ◌≢◌, ℕ, ◌+◌, ◌<◌, ◌≤◌, List, [], ◌∷◌, ◌++◌, Bool, Some, length, map, slice_get, refl, sym, ap, ◌∙◌, subst, ⊎_elim, inl, inr, arith}
-use Rattle.std.specs.Prelude.{◌⊎◌, Contains, All}
+use Rattle.std.proofs.Common.{◌≡◌, ℕ, ◌+◌, ◌<◌, ◌≤◌, List, [], ◌∷◌, ◌++◌, Bool, Some, length, map, slice_get, sym, ap, ◌∙◌, subst, ⊎_elim, arith}
+use Rattle.std.specs.Prelude.{Contains, All}
 use Rattle.std.proofs.lemmas.Bool.{cases_lt, cases_eq}
 use Rattle.std.proofs.lemmas.List.{length-append, map-append}
 use Rattle.std.proofs.lemmas.List.Elements.{Contains-append_left, Contains-push, Contains-push_cases, All-from_get_or}
@@ -10,7 +10,7 @@ use Rattle.fond_state.specs.Cubes.{full_cube}
 use Rattle.fond_game.specs.Layers.{CubeView}
 use Rattle.fond_game.proofs.Lists.{Contains-here, Contains-later, Contains-cases}
 use Rattle.fond_explicit.specs.declared.fate.Fate.{Fate}
-use Rattle.fond_explicit.specs.declared.fate.Fate.TheVariants.{Open, Goal, Ranked, Fallen}
+use Rattle.fond_explicit.specs.declared.fate.Fate.TheVariants.{Ranked, Fallen}
 use Rattle.fond_explicit.specs.Moves.{Move, move_at}
 use Rattle.fond_explicit.specs.Fates.{fate_of}
 use Rattle.fond_explicit.specs.Answers.{ChoiceView}

@@ -1,20 +1,19 @@
 -- More states.
-use Rattle.std.proofs.Common.{◌≡◌, ℕ, zero, suc, ◌+◌, ◌<◌, ◌≤◌, List, [], ◌∷◌, ◌++◌, Bool, true, false, Some, length, slice_get, refl, sym, ap, ◌∙◌, subst, ⊎_elim, inl, inr, arith, take, get_or, append_assoc, append-nil}
+use Rattle.std.proofs.Common.{◌≡◌, ℕ, zero, suc, ◌+◌, ◌<◌, ◌≤◌, List, [], ◌∷◌, ◌++◌, Bool, true, Some, length, slice_get, sym, ap, ◌∙◌, subst, ⊎_elim, arith, take, get_or, append_assoc, append-nil}
 use Rattle.std.proofs.lemmas.Grind.{common_steps}
 use Rattle.std.proofs.lemmas.List.{take_more}
-use Rattle.std.specs.Prelude.{◌⊎◌, ◌&&◌, nat_le, nat_lt, Contains}
-use Rattle.std.specs.List.{list_all}
-use Rattle.std.proofs.lemmas.Bool.{and_parts, cases_lt, leb-true}
-use Rattle.std.proofs.lemmas.List.Elements.{Contains-append_cases, Contains-push_cases}
-use Rattle.std.proofs.lemmas.Option.{none-some, same_Some, slice_get_within}
+use Rattle.std.specs.Prelude.{nat_le}
+use Rattle.std.proofs.lemmas.Bool.{and_parts, leb-true}
+use Rattle.std.proofs.lemmas.List.Elements.{Contains-append_cases}
+use Rattle.std.proofs.lemmas.Option.{none-some}
 use Rattle.fond_task.specs.declared.task.Act.{Act}
 use Rattle.fond_task.specs.declared.task.Entry.{Entry}
 use Rattle.fond_task.specs.declared.task.Task.{Task}
 use Rattle.fond_task.specs.Steps.{next_state}
-use Rattle.fond_task.specs.Within.{is_act_within, is_entry_within, is_form_within}
+use Rattle.fond_task.specs.Within.{is_act_within}
 use Rattle.fond_task.proofs.Found.{all_at}
 use Rattle.fond_game.specs.Policies.{IsNext}
-use Rattle.fond_game.proofs.Lists.{Contains_numbered, number_of, Contains-cases}
+use Rattle.fond_game.proofs.Lists.{Contains-cases}
 use Rattle.fond_explicit.specs.Spaces.{AreNexts}
 use Rattle.fond_explicit.specs.Openings.{IsKeptAs, IsGrown}
 use Rattle.fond_explicit.proofs.Distinct.{nothing_in}

@@ -1,12 +1,12 @@
 -- Fates after open nodes were ranked.
-use Rattle.std.proofs.Common.{◌≡◌, ℕ, ◌+◌, ◌<◌, List, Bool, true, false, refl, sym, ap, ◌∙◌, subst, ⊎_elim}
+use Rattle.std.proofs.Common.{◌≡◌, ℕ, ◌<◌, List, Bool, true, false, refl, sym, ap, ◌∙◌, ⊎_elim}
 use Rattle.std.specs.Prelude.{◌⊎◌, ◌&&◌, ◌||◌, if◌then◌else◌}
 use Rattle.std.specs.List.{list_all, list_any}
 use Rattle.std.proofs.lemmas.Bool.{and_parts, and_from, false≢true, lt-ltb}
 use Rattle.fond_explicit.specs.declared.fate.Fate.{Fate}
 use Rattle.fond_explicit.specs.declared.fate.Fate.TheVariants.{Open, Goal, Ranked, Fallen}
 use Rattle.fond_explicit.specs.Moves.{Move}
-use Rattle.fond_explicit.specs.Fates.{fate_of, is_open, is_won, is_kept, is_below, is_marked, fell_before, fell_in, wins, earns, forces}
+use Rattle.fond_explicit.specs.Fates.{fate_of, is_won, is_kept, is_below, is_marked, fell_before, fell_in, wins, earns, forces}
 use Rattle.fond_explicit.specs.Rounds.{RanksBelow}
 use Rattle.fond_explicit.proofs.Tests.{all_then, any_then, all_same, any_same}
 

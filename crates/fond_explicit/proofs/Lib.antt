@@ -14,3 +14,6 @@ pub mod Grown
 pub mod Opened
 pub mod Choosing
 pub mod Runs
+pub mod Filed
+pub mod Cascaded
+mod Worked

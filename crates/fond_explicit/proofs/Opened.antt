@@ -1,13 +1,12 @@
 -- Spaces with more states and moves.
-use Rattle.std.proofs.Common.{◌≡◌, ℕ, ◌+◌, ◌<◌, ◌≤◌, List, [], ◌∷◌, ◌++◌, Bool, true, false, Some, length, get_or, slice_get, refl, sym, ap, ◌∙◌, subst, ⊎_elim, inl, inr, arith}
-use Rattle.std.specs.Prelude.{◌⊎◌, Contains}
+use Rattle.std.proofs.Common.{◌≡◌, ℕ, ◌+◌, ◌<◌, List, [], ◌∷◌, ◌++◌, Bool, true, Some, length, slice_get, refl, sym, ap, ◌∙◌, subst, ⊎_elim, arith}
 use Rattle.std.proofs.lemmas.Bool.{cases_lt}
 use Rattle.std.proofs.lemmas.List.{length-append}
 use Rattle.std.proofs.lemmas.List.Elements.{Contains-append_cases, Contains-push_cases}
 use Rattle.std.proofs.lemmas.Option.{same_Some, slice_get_within}
 use Rattle.std.proofs.Math.ListN.{get_or-append}
 use Rattle.std.proofs.Math.Seq.{get_or-append_seam}
-use Rattle.fond_play.specs.Games.{start, onward}
+use Rattle.fond_play.specs.Games.{onward}
 use Rattle.fond_task.specs.declared.task.Act.{Act}
 use Rattle.fond_task.specs.declared.task.Task.{Task}
 use Rattle.fond_task.specs.Truth.{is_true}
@@ -17,7 +16,7 @@ use Rattle.fond_game.proofs.Reached.{length-next_state}
 use Rattle.fond_explicit.specs.declared.space.Space.{Space}
 use Rattle.fond_explicit.specs.Moves.{Move, move_at, no_move}
 use Rattle.fond_explicit.specs.Answers.{IsReachable, IsPast}
-use Rattle.fond_explicit.specs.Spaces.{AreNexts, IsMoveOf, HasMove, IsOpened, IsSpace}
+use Rattle.fond_explicit.specs.Spaces.{IsMoveOf, HasMove, IsOpened, IsSpace}
 use Rattle.fond_explicit.specs.Openings.{IsSpaceFrom, IsGrown, IsFull, IsOpening}
 use Rattle.fond_explicit.proofs.Distinct.{distinct-push}
 use Rattle.fond_explicit.proofs.Grown.{Stay, front_was, grown_stay, nexts_stay}

@@ -1,12 +1,11 @@
 -- Moves whose targets are ranges of one list, with more targets and one more move.
-use Rattle.std.proofs.Common.{◌≡◌, ℕ, ◌+◌, ◌-◌, ◌≤◌, List, [], ◌∷◌, ◌++◌, length, map, take, drop, refl, sym, ap, ◌∙◌, arith}
+use Rattle.std.proofs.Common.{◌≡◌, ℕ, ◌+◌, ◌-◌, ◌≤◌, List, [], ◌∷◌, ◌++◌, length, map, take, drop, refl, ap, ◌∙◌, arith}
 use Rattle.std.specs.List.{All}
 use Rattle.std.proofs.lemmas.Grind.{common_steps}
-use Rattle.std.proofs.lemmas.List.{map-append, take-append-le}
+use Rattle.std.proofs.lemmas.List.{map-append}
 use Rattle.std.proofs.lemmas.List.Elements.{recursion_from_All}
 use Rattle.std.specs.List.{AllByRecursion}
 use Rattle.fond_explicit.specs.declared.moves.Head.{Head}
-use Rattle.fond_explicit.specs.Moves.{Move}
 use Rattle.fond_explicit.specs.Heads.{move_of, IsHead}
 
 range_kept : (targets more : List ℕ) (begin end : ℕ) → begin ≤ end → end ≤ length targets → take (end - begin) (drop begin (targets ++ more)) ≡ take (end - begin) (drop begin targets)

@@ -1,15 +1,15 @@
 -- One more node with a rank.
-use Rattle.std.proofs.Common.{◌≡◌, ◌≢◌, ℕ, ◌+◌, ◌<◌, ◌≤◌, List, Bool, true, false, length, get_or, set, refl, sym, ap, ◌∙◌, subst, ⊎_elim, inl, inr, arith}
-use Rattle.std.specs.Prelude.{◌⊎◌, count_by}
+use Rattle.std.proofs.Common.{◌≡◌, ◌≢◌, ℕ, ◌+◌, ◌<◌, List, Bool, true, length, set, refl, sym, ap, ◌∙◌, subst, ⊎_elim, inl, inr, arith}
+use Rattle.std.specs.Prelude.{count_by}
 use Rattle.std.proofs.lemmas.Bool.{false≢true, cases_eq}
 use Rattle.std.proofs.lemmas.List.{get_or-set_other, get_or-set_same, length-set}
 use Rattle.fond_explicit.specs.declared.fate.Fate.{Fate}
 use Rattle.fond_explicit.specs.declared.fate.Fate.TheVariants.{Open, Goal, Ranked, Fallen}
 use Rattle.fond_explicit.specs.Moves.{Move, move_at}
-use Rattle.fond_explicit.specs.Fates.{fate_of, is_open, is_kept, is_marked, wins, earns, IsEarned}
+use Rattle.fond_explicit.specs.Fates.{fate_of, is_open, is_kept, wins, earns, IsEarned}
 use Rattle.fond_explicit.specs.Rounds.{IsRound, IsSearch}
 use Rattle.fond_explicit.proofs.Tests.{count_same, count_less}
-use Rattle.fond_explicit.proofs.Later.{IsNext, IsLater, earns_later, forces_later, earns_bound, marked_next}
+use Rattle.fond_explicit.proofs.Later.{IsLater, earns_later, forces_later, earns_bound, marked_next}
 
 pub is_Open : (fate : Fate) → is_open fate ≡ true → fate ≡ Open
 is_Open Open is = refl

@@ -12,7 +12,7 @@ use Rattle.fond_explicit.specs.declared.fate.Fate.{Fate}
 use Rattle.fond_explicit.specs.declared.fate.Fate.TheVariants.{Open, Goal, Ranked, Fallen}
 use Rattle.fond_explicit.specs.Begun.{begun}
 use Rattle.fond_explicit.specs.Moves.{Move, move_at}
-use Rattle.fond_explicit.specs.Fates.{fate_of, is_open, is_marked, is_won, is_kept, fell_before, fell_in, wins, forces, AreWithin, AreSettled}
+use Rattle.fond_explicit.specs.Fates.{fate_of, is_open, is_marked, is_won, is_kept, fell_before, fell_in, forces, AreWithin, AreSettled}
 use Rattle.fond_explicit.specs.Rounds.{IsRound, IsSpent, dropped}
 use Rattle.fond_explicit.proofs.Tests.{all_then, any_then}
 use Rattle.fond_explicit.proofs.Lost.{unfair_lost, fair_lost}
@@ -207,7 +207,7 @@ module _ (goals : List Bool) (moves : List Move) (round bound : ℕ) (fates : Li
       (cases_lt node (length fates))
 
   -- what holds at the end of a round
-  pub dropped_round : list_any is_open fates ≡ true → IsRound goals moves (round + 1) 1 after
+  pub dropped_round : list_any is_open fates ≡ true → IsRound goals moves (round + 1) 0 after
   dropped_round some = record {
     whole = length-map fates (dropped round) ∙ now.whole;
     goals_hold = marks;

@@ -1,5 +1,5 @@
 -- Parts of the search for ranks, one after the other.
-use Rattle.std.proofs.Common.{◌≡◌, ℕ, ◌+◌, ◌<◌, ◌≤◌, List, Bool, arith}
+use Rattle.std.proofs.Common.{ℕ, ◌<◌, ◌≤◌, List, Bool, arith}
 use Rattle.fond_explicit.specs.declared.fate.Fate.{Fate}
 use Rattle.fond_explicit.specs.Moves.{Move}
 use Rattle.fond_explicit.specs.Rounds.{IsRound, IsSearch}

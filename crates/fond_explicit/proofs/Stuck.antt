@@ -1,6 +1,6 @@
 -- The rounds in which nodes fell are layers that are stuck.
-use Rattle.std.proofs.Common.{◌≡◌, ℕ, zero, suc, ◌+◌, ◌<◌, List, [], ◌∷◌, ◌++◌, Bool, true, false, Option, Some, None, length, slice_get, refl, sym, ap, ◌∙◌, subst, ⊎_elim, inl, inr, arith}
-use Rattle.std.specs.Prelude.{◌⊎◌, ◌&&◌, ◌||◌, Contains, IsTrue, if◌then◌else◌, slice_index_or}
+use Rattle.std.proofs.Common.{◌≡◌, ℕ, zero, suc, ◌<◌, List, [], ◌∷◌, ◌++◌, Bool, true, false, Some, None, length, slice_get, refl, sym, ap, ◌∙◌, subst, ⊎_elim, inl, inr, arith}
+use Rattle.std.specs.Prelude.{Contains, if◌then◌else◌}
 use Rattle.std.specs.List.{list_all, list_any}
 use Rattle.std.proofs.lemmas.Bool.{and_parts, or_cases, false≢true, ltb-true, eqb-true, cases_Bool, false_from_ne_true, cond-false, cases_lt}
 use Rattle.std.proofs.lemmas.Option.{none-some, same_Some, slice_get_within, slice_get-get_or, get_or_from_slice_get}
@@ -8,7 +8,6 @@ use Rattle.std.proofs.lemmas.List.{get_or-map, get_or_past, length-map}
 use Rattle.fond_text.specs.Lists.{AreDistinct}
 use Rattle.fond_state.specs.Cubes.{full_cube, CubeLiesIn, LiesIn}
 use Rattle.fond_task.specs.declared.form.Form.{Form}
-use Rattle.fond_task.specs.declared.form.Kleene.{Kleene}
 use Rattle.fond_task.specs.declared.form.Kleene.TheVariants.{No, Yes}
 use Rattle.fond_task.specs.declared.task.Act.{Act}
 use Rattle.fond_task.specs.declared.task.Entry.{Entry}
@@ -21,15 +20,15 @@ use Rattle.fond_task.specs.Images.{image}
 use Rattle.fond_task.proofs.Exact.{exact-value, exact-image}
 use Rattle.fond_task.proofs.Found.{all_at}
 use Rattle.fond_game.specs.Policies.{IsGoal}
-use Rattle.fond_game.specs.Layers.{CubeView, LiesInLayer, Leads, SomeLeads, EachLeads, Forces, IsSureCube, IsSureLayer, AreSureLayers}
+use Rattle.fond_game.specs.Layers.{CubeView, Leads, Forces, IsSureCube, IsSureLayer}
 use Rattle.fond_game.specs.Certificates.{LiesInLayers}
-use Rattle.fond_game.proofs.Lists.{Contains_numbered, number_of, same_numbered, Contains-here, Contains-later}
+use Rattle.fond_game.proofs.Lists.{Contains_numbered, number_of, Contains-here, Contains-later}
 use Rattle.fond_explicit.specs.declared.fate.Fate.{Fate}
 use Rattle.fond_explicit.specs.declared.fate.Fate.TheVariants.{Open, Goal, Ranked, Fallen}
 use Rattle.fond_explicit.specs.Moves.{Move, move_at}
 use Rattle.fond_explicit.specs.Fates.{fate_of, is_marked, fell_before, fell_in, AreSettled}
 use Rattle.fond_explicit.specs.Answers.{AreStuck}
-use Rattle.fond_explicit.specs.Spaces.{AreNexts, IsSpace, IsFallen, layer_at, AreRounds, AreHopeful}
+use Rattle.fond_explicit.specs.Spaces.{AreNexts, IsSpace, layer_at, AreRounds, AreHopeful}
 use Rattle.fond_explicit.proofs.Nexts.{LeadsTo, some_next, each_next}
 use Rattle.fond_explicit.proofs.Distinct.{nothing_in, one_number, distinct-concat, same_full}
 

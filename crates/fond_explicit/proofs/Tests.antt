@@ -1,8 +1,8 @@
 -- Tests of the items of a list that follow from other tests, item by item.
-use Rattle.std.proofs.Common.{◌≡◌, ℕ, ◌+◌, ◌<◌, List, [], ◌∷◌, Bool, true, false, cond, length, get_or, set, refl, sym, ap, ◌∙◌, arith, ⊎_elim}
-use Rattle.std.specs.Prelude.{◌⊎◌, ◌&&◌, ◌||◌, All, count_by}
-use Rattle.std.specs.List.{list_all, list_any, AllByRecursion}
-use Rattle.std.proofs.lemmas.Bool.{and_parts, and_from, and_cases, or_cases, or_left, or_right, or_parts, false≢true, cases_Bool}
+use Rattle.std.proofs.Common.{◌≡◌, ℕ, ◌+◌, ◌<◌, List, [], ◌∷◌, Bool, true, false, cond, length, get_or, set, refl, ap, ◌∙◌, arith, ⊎_elim}
+use Rattle.std.specs.Prelude.{◌&&◌, ◌||◌, count_by}
+use Rattle.std.specs.List.{list_all, list_any}
+use Rattle.std.proofs.lemmas.Bool.{and_parts, and_from, or_cases, or_left, or_right, false≢true}
 use Rattle.std.proofs.lemmas.List.Sums.{sum_by-set}
 
 module _ {X : Type 0} (p q : X → Bool) where

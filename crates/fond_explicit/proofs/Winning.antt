@@ -1,6 +1,6 @@
 -- The nodes with ranks are choices that win.
 use Rattle.std.proofs.Common.{◌≡◌, ℕ, ◌<◌, List, Bool, true, false, Some, length, slice_get, refl, sym, ap, ◌∙◌, subst, ⊎_elim, inl, inr, arith}
-use Rattle.std.specs.Prelude.{◌⊎◌, ◌&&◌, Contains, if◌then◌else◌}
+use Rattle.std.specs.Prelude.{◌&&◌, Contains, if◌then◌else◌}
 use Rattle.std.specs.List.{list_all, list_any}
 use Rattle.std.proofs.lemmas.Bool.{and_parts, false≢true, true≢false, ltb-true}
 use Rattle.std.proofs.lemmas.Option.{same_Some, slice_get_within}
@@ -9,15 +9,15 @@ use Rattle.fond_task.specs.declared.task.Entry.{Entry}
 use Rattle.fond_task.specs.declared.task.Task.{Task}
 use Rattle.fond_task.specs.Truth.{is_true}
 use Rattle.fond_task.specs.Steps.{next_state}
-use Rattle.fond_game.specs.Policies.{IsGoal, IsApplicable, IsNext, IsUnfair}
+use Rattle.fond_game.specs.Policies.{IsGoal, IsNext}
 use Rattle.fond_game.proofs.Lists.{same_numbered}
 use Rattle.fond_explicit.specs.declared.fate.Fate.{Fate}
 use Rattle.fond_explicit.specs.declared.fate.Fate.TheVariants.{Open, Goal, Ranked, Fallen}
 use Rattle.fond_explicit.specs.Moves.{Move, move_at}
 use Rattle.fond_explicit.specs.Fates.{fate_of, is_open, is_marked, is_kept, is_below, AreSettled}
-use Rattle.fond_explicit.specs.Answers.{ChoiceView, HasChoice, IsHeld, IsNearer, IsReachable, IsWinning, AreWinning}
+use Rattle.fond_explicit.specs.Answers.{ChoiceView, IsHeld, IsNearer, IsReachable, IsWinning, AreWinning}
 use Rattle.fond_explicit.specs.Spaces.{AreNexts, IsSpace, AreRanks, AreSound}
-use Rattle.fond_explicit.proofs.Nexts.{LeadsTo, some_next, each_next}
+use Rattle.fond_explicit.proofs.Nexts.{some_next, each_next}
 
 is_held : (task : Task) (choices : List ChoiceView) (rank : ℕ) (state : List Bool) → IsNearer task choices rank state → IsHeld task choices state
 is_held task choices rank state nearer = ⊎_elim (λ goal. inl goal) (λ small. inr (record { choice = small.choice; one = small.one; here = small.here })) nearer

@@ -8,3 +8,5 @@ pub mod Spaces
 pub mod Openings
 pub mod Strata
 pub mod Runs
+pub mod Filings
+pub mod Cascades

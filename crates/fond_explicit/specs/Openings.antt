@@ -1,12 +1,10 @@
 -- Opening states one by one.
-use Rattle.std.specs.Prelude.{◌≡◌, ◌⊎◌, ℕ, ◌<◌, ◌≤◌, List, [], ◌∷◌, ◌++◌, Bool, true, false, Option, Some, None, Contains, length, slice_get}
+use Rattle.std.specs.Prelude.{◌≡◌, ◌⊎◌, ℕ, ◌≤◌, List, [], ◌∷◌, ◌++◌, Bool, Option, Some, None, Contains, length, slice_get}
 use Rattle.fond_text.specs.Lists.{AreDistinct}
-use Rattle.fond_task.specs.declared.task.Act.{Act}
 use Rattle.fond_task.specs.declared.task.Task.{Task}
-use Rattle.fond_task.specs.Truth.{is_true}
 use Rattle.fond_game.specs.Policies.{IsNext}
 use Rattle.fond_explicit.specs.declared.space.Space.{Space}
-use Rattle.fond_explicit.specs.Answers.{IsReachable, IsPast}
+use Rattle.fond_explicit.specs.Answers.{IsReachable}
 use Rattle.fond_explicit.specs.Spaces.{HasMove, IsSpace}
 
 -- a space is right from a state on

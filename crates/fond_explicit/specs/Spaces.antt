@@ -1,5 +1,5 @@
 -- How a graph stands for the states of a task.
-use Rattle.std.specs.Prelude.{◌≡◌, ℕ, ◌<◌, ◌≤◌, ◌&&◌, ◌||◌, nat_le, ⊤, List, [], ◌∷◌, Bool, true, false, Some, IsTrue, Contains, length, map, slice_get, slice_index_or}
+use Rattle.std.specs.Prelude.{◌≡◌, ℕ, ◌<◌, ◌≤◌, ◌&&◌, ◌||◌, nat_le, ⊤, List, [], ◌∷◌, Bool, true, false, Some, Contains, length, map, slice_get, slice_index_or}
 use Rattle.fond_text.specs.Lists.{AreDistinct}
 use Rattle.fond_state.specs.Cubes.{full_cube}
 use Rattle.fond_task.specs.declared.task.Act.{Act}

@@ -1,6 +1,6 @@
 //! The fates of nodes.
 
-ghost use Rattle.fond_explicit.specs.Fates.{fate_of, is_open, is_won, is_kept};
+ghost use Rattle.fond_explicit.specs.Fates.{fate_of, is_open, is_won, is_kept, fell_before};
 ghost use Rattle.std.specs.Prelude.{◌≡◌};
 
 /// What becomes of a node: it is not decided yet, or a goal, or won with a rank by the move of a number, or lost since a
@@ -40,6 +40,16 @@ pub(crate) fn is_kept(fate: Fate) -> bool
     match fate {
         Fate::Fallen(_) => false,
         _ => true,
+    }
+}
+
+/// Whether the fate is that of a node that fell before a round.
+pub(crate) fn fell_before(fate: Fate, round: u32) -> bool
+    ensures { result ≡ fell_before round fate }
+{
+    match fate {
+        Fate::Fallen(fell) => fell < round,
+        _ => false,
     }
 }
 

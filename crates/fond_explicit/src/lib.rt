@@ -1,11 +1,14 @@
 //! Deciding a ground task by its states one by one.
 #![tactic(auto)]
 
+mod act_index;
 pub mod answer;
+mod cascade;
 mod choose;
 mod decide;
 mod earn;
 mod fate;
+mod filing;
 mod moves;
 mod opening;
 mod preds;

@@ -1,6 +1,7 @@
 //! Opening states: the moves out of a state, and the states to which they lead.
 
 ghost use Rattle.fond_explicit.specs.Answers.{IsPast};
+ghost use Rattle.fond_explicit.specs.Filings.{IsIndexOf, AreCandidates};
 ghost use Rattle.fond_explicit.specs.Openings.{IsSpaceFrom, IsReached, IsGrown, IsFull, IsOpening};
 ghost use Rattle.fond_explicit.specs.Spaces.{AreNexts, HasMove};
 ghost use Rattle.fond_game.specs.Policies.{IsGoal};
@@ -8,6 +9,8 @@ ghost use Rattle.fond_task.specs.Truth.{is_true};
 ghost use Rattle.fond_task.specs.declared.task.Act.{Act};
 ghost use Rattle.std.specs.Prelude.{◌≡◌, ◌⊎◌, ◌<◌, ◌≤◌, ◌+◌, ◌-◌, ◌^◌, ℕ, List, Bool, true, false, Some, length, slice_get, IfOk, MatchBool};
 
+use crate::act_index::ActIndex;
+use crate::filing::candidates;
 use crate::space::{Scratch, Space};
 use fond_state::state::State;
 use fond_store::store::Store;
@@ -109,11 +112,12 @@ fn open_act(
     Ok(true)
 }
 
-/// Adds the moves of all actions that are applicable in the state to be opened. Whether there is room for the states to
+/// Adds the moves of the candidates that are applicable in the state to be opened. Whether there is room for the states to
 /// which they lead.
 fn open_acts(
     alloc: Global,
     t: &Task,
+    acts: &[u32],
     space: &mut Space,
     state: &State,
     budget: u32,
@@ -125,13 +129,14 @@ fn open_acts(
     requires next_long { length scratch.old.next ≡ length t.now.atoms }
     requires here { slice_get space.old.states space.old.opened ≡ Some state.now }
     requires no_goal { ¬ IsGoal t.now state.now }
+    requires candidates { AreCandidates t.now state.now acts.now }
     ensures next_long { length scratch.new.next ≡ length t.now.atoms }
     ensures few { IfOk result (λ _. length space.new.states ≤ budget) }
     ensures opening { IfOk result (λ _. IsOpening t.now state.now space.old space.new) }
     ensures room { IfOk result (λ room. MatchBool room ((number : ℕ) (a : Act) → slice_get t.now.acts number ≡ Some a → is_true state.now a.pre ≡ true → HasMove space.new.moves space.old.opened number) (IsFull t.now state.now budget space.new.states)) }
 {
-    for act in 0..t.acts.len() as u32 {
-        if !open_act(alloc, t, space, state, act, budget, scratch)? {
+    for act in acts {
+        if !open_act(alloc, t, space, state, *act, budget, scratch)? {
             return Ok(false);
         }
     }
@@ -139,17 +144,20 @@ fn open_acts(
 }
 
 /// Opens the next state: afterwards all moves out of it are there, unless there is no room for the states to which they lead.
-/// Whether there is room. Takes time in the size of the preconditions, and for each action that is applicable, in the number
-/// of atoms times that of the outcomes.
+/// Whether there is room. Takes time in the number of atoms and, for each candidate, in the size of its precondition and, if
+/// it is applicable, in the number of atoms times that of the outcomes.
 fn open_next(
     alloc: Global,
     t: &Task,
+    index: &ActIndex,
     space: &mut Space,
     budget: u32,
     scratch: &mut Scratch,
+    acts: &mut Vec<u32>,
 ) -> Result<bool, NoMemory>
     requires few { length space.old.states ≤ budget }
     requires small { budget < 2 ^ 32 - 1 }
+    requires index { IsIndexOf t.now index.now }
     requires next_long { length scratch.old.next ≡ length t.now.atoms }
     requires left { space.old.opened < length space.old.states }
     requires space { (from : List Bool) × IsSpaceFrom t.now from space.old }
@@ -164,7 +172,8 @@ fn open_next(
         space.opened += 1;
         return Ok(true);
     }
-    if !open_acts(alloc, t, space, &state, budget, scratch)? {
+    candidates(index, t, &state, acts)?;
+    if !open_acts(alloc, t, acts.as_slice(), space, &state, budget, scratch)? {
         return Ok(false);
     }
     space.opened += 1;
@@ -176,12 +185,15 @@ fn open_next(
 pub(crate) fn open_batch(
     alloc: Global,
     t: &Task,
+    index: &ActIndex,
     space: &mut Space,
     budget: u32,
     scratch: &mut Scratch,
+    acts: &mut Vec<u32>,
 ) -> Result<bool, NoMemory>
     requires few { length space.old.states ≤ budget }
     requires small { budget < 2 ^ 32 - 1 }
+    requires index { IsIndexOf t.now index.now }
     requires next_long { length scratch.old.next ≡ length t.now.atoms }
     requires space { (from : List Bool) × IsSpaceFrom t.now from space.old }
     ensures next_long { length scratch.new.next ≡ length t.now.atoms }
@@ -194,7 +206,7 @@ pub(crate) fn open_batch(
         if space.opened >= space.states.len() {
             return Ok(true);
         }
-        if !open_next(alloc, t, space, budget, scratch)? {
+        if !open_next(alloc, t, index, space, budget, scratch, acts)? {
             return Ok(false);
         }
     }

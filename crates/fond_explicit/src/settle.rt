@@ -1,7 +1,8 @@
 //! The nested fixpoint over a graph: rounds of ranks and falls.
 //!
 //! In each round the nodes that have not fallen are ranked backwards from the goals, and those that get no rank fall.
-//! The search ends when all are ranked. It is the algorithm for strong cyclic planning of Cimatti, Pistore, Roveri and
+//! Nodes that fall only because of these fall in rounds of their own, without a new search for ranks. The search ends when
+//! all are ranked. It is the algorithm for strong cyclic planning of Cimatti, Pistore, Roveri and
 //! Traverso (2003), with moves whose outcome an opponent picks, and it keeps in which round a node fell.
 
 ghost use Rattle.fond_explicit.specs.Fates.{is_open, AreSettled, AreWithin};
@@ -10,6 +11,7 @@ ghost use Rattle.fond_explicit.specs.Begun.{begun};
 ghost use Rattle.std.specs.List.{list_any};
 ghost use Rattle.std.specs.Prelude.{◌≡◌, ◌<◌, ◌^◌, length, map, IfOk, OnOk};
 
+use crate::cascade::cascade;
 use crate::fate::{Fate, is_open};
 use crate::moves::Moves;
 use crate::preds::Preds;
@@ -69,14 +71,14 @@ fn settle_all(
     rank_all(alloc, moves, preds, fates)?;
     'rounds: while has_open(fates) {
         drop_open(fates, round);
-        round += 1;
+        round = cascade(alloc, moves, preds, fates, round + 1)?;
         rank_all(alloc, moves, preds, fates)?;
     }
     Ok(())
 }
 
-/// The fates of the nodes of a graph. `goals` says for each node whether it is a goal. Takes, for each round in which nodes
-/// fall, time in the number of nodes and of the targets of all moves.
+/// The fates of the nodes of a graph. `goals` says for each node whether it is a goal. Takes, for each time that ranks are
+/// searched for, time in the number of nodes and of the targets of all moves.
 pub(crate) fn settle(
     alloc: Global,
     goals: &[bool],

@@ -6,6 +6,7 @@ ghost use Rattle.std.specs.Prelude.{◌≡◌, ◌≤◌, length, IfOk};
 
 use crate::answer::Solved;
 use crate::decide::decide;
+use crate::filing::index_of;
 use crate::moves::Moves;
 use crate::opening::open_batch;
 use crate::space::{Scratch, Space};
@@ -32,8 +33,8 @@ fn begin(alloc: Global, t: &Task, from: &State) -> Result<Space, NoMemory>
 
 /// Decides a task from a state on, or finds that more than `budget` states are reachable. States are opened breadth first in
 /// batches that double, and after each batch the nested fixpoint runs over what is opened. Takes time in the number of the
-/// states opened times the size of the preconditions, and in that of their moves times the number of atoms and, where
-/// many rounds are needed, times the number of rounds. At most `budget` states are kept.
+/// states opened and of their moves, times the number of atoms, and in that of the moves times that of the rounds in which
+/// states fall. At most `budget` states are kept.
 pub fn solve(alloc: Global, t: &Task, from: &State, budget: u32) -> Result<Solved, NoMemory>
     requires few { budget ≤ 1000000 }
     requires long { length from.now ≡ length t.now.atoms }
@@ -42,13 +43,23 @@ pub fn solve(alloc: Global, t: &Task, from: &State, budget: u32) -> Result<Solve
     if budget == 0 {
         return Ok(Solved::Spent);
     }
+    let index = index_of(alloc, t)?;
     let mut space = begin(alloc, t, from)?;
     let mut scratch = Scratch {
         next: from.copy(alloc)?,
         targets: Vec::new(alloc),
     };
+    let mut acts = Vec::new(alloc);
     'batches: loop {
-        let has_room = open_batch(alloc, t, &mut space, budget, &mut scratch)?;
+        let has_room = open_batch(
+            alloc,
+            t,
+            &index,
+            &mut space,
+            budget,
+            &mut scratch,
+            &mut acts,
+        )?;
         if let Some(solved) = decide(alloc, t, &space)? {
             return Ok(solved);
         }

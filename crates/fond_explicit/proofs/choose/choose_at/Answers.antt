@@ -1,4 +1,4 @@
-use Rattle.std.proofs.Common.{◌≡◌, ◌+◌, ◌∷◌, [], ◌++◌, List, Some, slice_get, refl, sym, ap, ◌∙◌, subst}
+use Rattle.std.proofs.Common.{◌+◌, List, Some, sym, ap, ◌∙◌, subst}
 use Rattle.fond_explicit.specs.Answers.{ChoiceView}
 use Rattle.fond_explicit.specs.Spaces.{AreRanks}
 use Rattle.fond_explicit.proofs.Choosing.{ranks_skip, ranks_more}

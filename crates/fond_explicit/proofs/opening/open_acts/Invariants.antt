@@ -1,4 +1,4 @@
-use Rattle.std.proofs.Common.{◌≡◌, ℕ, ◌<◌, ◌≤◌, Some, slice_get, length, true}
+use Rattle.std.proofs.Common.{◌≡◌, ℕ, ◌<◌, ◌≤◌, Some, slice_get, get_or, length, true}
 use Rattle.fond_task.specs.declared.task.Act.{Act}
 use Rattle.fond_task.specs.Truth.{is_true}
 use Rattle.fond_explicit.specs.Openings.{IsOpening}
@@ -10,5 +10,5 @@ invariant-loop-act l = record {
   next_long : length l.scratch.next ≡ length l.t.atoms;
   few : length l.space.states ≤ l.budget;
   opening : IsOpening l.t l.state l.fn.space l.space;
-  done : (number : ℕ) (a : Act) → number < l.act → slice_get l.t.acts number ≡ Some a → is_true l.state a.pre ≡ true → HasMove l.space.moves l.fn.space.opened number;
+  done : (k : ℕ) (a : Act) → k < l.act-index → slice_get l.t.acts (get_or l.acts k 0) ≡ Some a → is_true l.state a.pre ≡ true → HasMove l.space.moves l.fn.space.opened (get_or l.acts k 0);
 }

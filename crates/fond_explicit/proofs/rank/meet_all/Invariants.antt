@@ -1,4 +1,4 @@
-use Rattle.std.proofs.Common.{◌≡◌, length, vec_len}
+use Rattle.std.proofs.Common.{vec_len}
 use Rattle.fond_explicit.specs.Rounds.{IsSearch}
 use Rattle.fond_explicit.proofs.rank.meet_all.Given as goal
 

@@ -1,8 +1,6 @@
-use Rattle.std.proofs.Common.{◌≡◌, ◌+◌, ◌<◌, ℕ, List, length, sym, ap, subst, arith, vec_len}
-use Rattle.fond_explicit.specs.declared.fate.Fate.{Fate}
+use Rattle.std.proofs.Common.{◌≡◌, ◌+◌, ℕ, sym, subst, arith, vec_len}
 use Rattle.fond_explicit.specs.declared.fate.Fate.TheVariants.{Ranked}
 use Rattle.std.specs.Prelude.{slice_set}
-use Rattle.fond_explicit.specs.Moves.{move_at}
 use Rattle.fond_explicit.specs.Rounds.{IsSearch}
 use Rattle.fond_explicit.proofs.Ranked.{is_search}
 use Rattle.fond_explicit.proofs.rank.rank.Goals as goal

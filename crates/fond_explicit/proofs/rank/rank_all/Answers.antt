@@ -1,4 +1,4 @@
-use Rattle.std.proofs.Common.{◌+◌, ℕ, vec_len, arith}
+use Rattle.std.proofs.Common.{◌+◌, vec_len, arith}
 use Rattle.fond_explicit.proofs.Searched.{search_then, round_above}
 use Rattle.fond_explicit.proofs.rank.rank_all.Goals as goal
 

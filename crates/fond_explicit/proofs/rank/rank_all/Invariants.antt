@@ -1,4 +1,4 @@
-use Rattle.std.proofs.Common.{◌≡◌, ℕ, ◌≤◌, length, vec_len}
+use Rattle.std.proofs.Common.{◌≡◌, ℕ, length, vec_len}
 use Rattle.std.specs.Prelude.{count_by}
 use Rattle.fond_explicit.specs.Fates.{is_open}
 use Rattle.fond_explicit.specs.Rounds.{IsSearch}

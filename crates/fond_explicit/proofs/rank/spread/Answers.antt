@@ -1,4 +1,4 @@
-use Rattle.std.proofs.Common.{◌+◌, vec_len, arith}
+use Rattle.std.proofs.Common.{vec_len, arith}
 use Rattle.fond_explicit.proofs.Searched.{search_none, search_then}
 use Rattle.fond_explicit.proofs.rank.spread.Goals as goal
 

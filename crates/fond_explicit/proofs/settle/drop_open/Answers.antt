@@ -1,6 +1,5 @@
-use Rattle.std.proofs.Common.{◌≡◌, ◌+◌, ◌++◌, List, take, drop, map, get_or, set, length, ap, ◌∙◌, sym}
+use Rattle.std.proofs.Common.{get_or, set, ap, ◌∙◌}
 use Rattle.std.proofs.Common.{add-one}
-use Rattle.fond_explicit.specs.declared.fate.Fate.{Fate}
 use Rattle.fond_explicit.specs.declared.fate.Fate.TheVariants.{Open}
 use Rattle.fond_explicit.specs.Rounds.{dropped}
 use Rattle.fond_explicit.proofs.Mapped.{set_mapped}

@@ -1,4 +1,4 @@
-use Rattle.std.proofs.Common.{◌≡◌, ℕ, ◌-◌, length}
+use Rattle.std.proofs.Common.{ℕ, ◌-◌, length}
 use Rattle.fond_explicit.specs.Rounds.{IsRound, IsSpent}
 use Rattle.fond_explicit.proofs.settle.settle_all.Given as goal
 

@@ -1,4 +1,4 @@
-use Rattle.std.proofs.Common.{List, Bool, ℕ, subst, [], ◌∷◌}
+use Rattle.std.proofs.Common.{List, Bool, subst}
 use Rattle.fond_store.specs.Stores.{Adds}
 use Rattle.fond_explicit.proofs.Runs.{begun_space}
 use Rattle.fond_explicit.proofs.solve.begin.Goals as goal

@@ -1,4 +1,3 @@
-use Rattle.std.proofs.Common.{arith}
 use Rattle.fond_explicit.proofs.Runs.{none_fit}
 use Rattle.fond_explicit.proofs.solve.solve.Goals as goal
 

@@ -1,4 +1,4 @@
-use Rattle.std.proofs.Common.{◌≡◌, ◌+◌, ◌∷◌, [], ◌++◌, List, Some, slice_get, refl, sym, ap, ◌∙◌, subst}
+use Rattle.std.proofs.Common.{[], sym, ◌∙◌, subst}
 use Rattle.fond_game.specs.Layers.{CubeView}
 use Rattle.fond_explicit.specs.Strata.{IsPut}
 use Rattle.fond_explicit.proofs.Choosing.{rounds_skip, rounds_more}

@@ -1,4 +1,4 @@
-use Rattle.std.proofs.Common.{◌≡◌, ℕ, ◌≤◌, length}
+use Rattle.std.proofs.Common.{◌≤◌, length}
 use Rattle.fond_explicit.specs.Spaces.{AreRounds}
 use Rattle.fond_explicit.proofs.strata.strata.Given as goal
 

@@ -1,7 +1,6 @@
 use Rattle.std.proofs.Common.{◌≡◌, ◌∷◌, [], ◌++◌, ◌+◌, map, length, arith, ap, ◌∙◌}
 use Rattle.std.proofs.lemmas.List.{length-append}
 use Rattle.fond_explicit.specs.declared.moves.Head.{Head}
-use Rattle.fond_explicit.specs.Moves.{Move}
 use Rattle.fond_explicit.specs.Heads.{move_of}
 use Rattle.fond_explicit.proofs.Pushed.{pushed}
 use Rattle.fond_explicit.proofs.moves.Moves.push.Goals as goal

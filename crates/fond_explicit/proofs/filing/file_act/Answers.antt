@@ -1,0 +1,5 @@
+use Rattle.fond_explicit.proofs.Filed.{filed_more}
+use Rattle.fond_explicit.proofs.filing.file_act.Goals as goal
+
+pub returns : goal.returns
+returns c = λ before. filed_more c.args.t.now c.args.number c.args.index.now c.file.new.index c.get.result.now c.needed-atom.result c.get.ensures c.needed-atom.ensures c.in_ok-file.ensures before
