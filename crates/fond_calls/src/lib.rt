@@ -7,6 +7,8 @@ mod check_tests;
 #[cfg(test)]
 mod coin;
 #[cfg(test)]
+mod decide_tests;
+#[cfg(test)]
 mod edge_tests;
 #[cfg(test)]
 mod exec_tests;

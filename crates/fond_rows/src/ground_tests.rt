@@ -1,4 +1,4 @@
-use crate::rows::{Row, check};
+use crate::rows::{BLOCKS, BLOCKS_P, Row, check};
 use std::test::Fail;
 
 const FOUR: &str =
@@ -13,12 +13,6 @@ const UPPER: &str =
 
 const UPPER_P: &str =
     "(define (problem z) (:domain other) (:objects c1)\n(:init (not (heads C1))) (:goal (heads c1))\n(:metric minimize (total-cost)))\n";
-
-const BLOCKS: &str =
-    "(define (domain blocks)\n(:requirements :non-deterministic :negative-preconditions :equality :typing)\n(:types block)\n(:predicates (holding ?b - block) (emptyhand) (on-table ?b - block)\n (on ?b1 ?b2 - block) (clear ?b - block))\n(:action pick-up :parameters (?b1 ?b2 - block)\n :precondition (and (not (= ?b1 ?b2)) (emptyhand) (clear ?b1) (on ?b1 ?b2))\n :effect (oneof (and (holding ?b1) (clear ?b2) (not (emptyhand)) (not (clear ?b1))\n   (not (on ?b1 ?b2)))\n  (and (clear ?b2) (on-table ?b1) (not (on ?b1 ?b2)))))\n(:action pick-up-from-table :parameters (?b - block)\n :precondition (and (emptyhand) (clear ?b) (on-table ?b))\n :effect (oneof (and)\n  (and (holding ?b) (not (emptyhand)) (not (on-table ?b)) (not (clear ?b)))))\n(:action put-on-block :parameters (?b1 ?b2 - block)\n :precondition (and (not (= ?b1 ?b2)) (holding ?b1) (clear ?b2))\n :effect (oneof (and (on ?b1 ?b2) (emptyhand) (clear ?b1) (not (holding ?b1))\n   (not (clear ?b2)))\n  (and (on-table ?b1) (emptyhand) (clear ?b1) (not (holding ?b1)))))\n(:action put-down :parameters (?b - block) :precondition (holding ?b)\n :effect (and (on-table ?b) (emptyhand) (clear ?b) (not (holding ?b)))))\n";
-
-const BLOCKS_P: &str =
-    "(define (problem four-blocks) (:domain blocks) (:objects a b c d - block)\n(:init (emptyhand) (on-table a) (on b a) (clear b) (on-table c) (on d c) (clear d))\n(:goal (and (on a b) (on b c) (on c d))))\n";
 
 const WIDE: &str =
     "(define (domain w) (:predicates (a))\n(:action m :effect (oneof (a) (a) (a) (a) (a) (a) (a) (a) (a) (a) (a) (a) (a) (a) (a) (a) (a) (a) (a) (a) (a) (a) (a) (a) (a) (a) (a) (a) (a) (a) (a) (a) (a) (a) (a) (a) (a) (a) (a) (a) (a) (a) (a) (a) (a) (a) (a) (a) (a) (a) (a) (a) (a) (a) (a) (a) (a) (a) (a) (a) (a) (a) (a) (a) (a) (a) (a) (a) (a) (a) (a) (a) (a) (a) (a) (a) (a) (a) (a) (a) (a) (a) (a) (a) (a) (a) (a) (a) (a) (a) (a) (a) (a) (a) (a) (a) (a) (a) (a) (a) (a) (a) (a) (a) (a) (a) (a) (a) (a) (a) (a) (a) (a) (a) (a) (a) (a) (a) (a) (a) (a) (a) (a) (a) (a) (a) (a) (a) (a) (a) (a) (a) (a) (a) (a) (a) (a) (a) (a) (a) (a) (a) (a) (a) (a) (a) (a) (a) (a) (a) (a) (a) (a) (a) (a) (a) (a) (a) (a) (a) (a) (a) (a) (a) (a) (a) (a) (a) (a) (a) (a) (a) (a) (a) (a) (a) (a) (a) (a) (a) (a) (a) (a) (a) (a) (a) (a) (a) (a) (a) (a) (a) (a) (a) (a) (a) (a) (a) (a) (a) (a) (a) (a) (a) (a) (a) (a) (a) (a) (a) (a) (a) (a) (a) (a) (a) (a) (a) (a) (a) (a) (a) (a) (a) (a) (a) (a) (a) (a) (a) (a) (a) (a) (a) (a) (a) (a) (a) (a) (a) (a) (a) (a) (a) (a) (a) (a) (a) (a) (a) (a) (a) (a) (a) (a) (a))))\n";

@@ -20,6 +20,8 @@ mod name_tests;
 #[cfg(test)]
 mod order_tests;
 #[cfg(test)]
+mod plan_tests;
+#[cfg(test)]
 mod problem_tests;
 #[cfg(test)]
 mod read_tests;

@@ -16,6 +16,13 @@ pub const COIN: &str =
 
 pub const COIN_P: &str = "(define (problem c) (:domain coin) (:goal (heads)))\n";
 
+/// The blocks world, in which blocks may fall onto the table.
+pub const BLOCKS: &str =
+    "(define (domain blocks)\n(:requirements :non-deterministic :negative-preconditions :equality :typing)\n(:types block)\n(:predicates (holding ?b - block) (emptyhand) (on-table ?b - block)\n (on ?b1 ?b2 - block) (clear ?b - block))\n(:action pick-up :parameters (?b1 ?b2 - block)\n :precondition (and (not (= ?b1 ?b2)) (emptyhand) (clear ?b1) (on ?b1 ?b2))\n :effect (oneof (and (holding ?b1) (clear ?b2) (not (emptyhand)) (not (clear ?b1))\n   (not (on ?b1 ?b2)))\n  (and (clear ?b2) (on-table ?b1) (not (on ?b1 ?b2)))))\n(:action pick-up-from-table :parameters (?b - block)\n :precondition (and (emptyhand) (clear ?b) (on-table ?b))\n :effect (oneof (and)\n  (and (holding ?b) (not (emptyhand)) (not (on-table ?b)) (not (clear ?b)))))\n(:action put-on-block :parameters (?b1 ?b2 - block)\n :precondition (and (not (= ?b1 ?b2)) (holding ?b1) (clear ?b2))\n :effect (oneof (and (on ?b1 ?b2) (emptyhand) (clear ?b1) (not (holding ?b1))\n   (not (clear ?b2)))\n  (and (on-table ?b1) (emptyhand) (clear ?b1) (not (holding ?b1)))))\n(:action put-down :parameters (?b - block) :precondition (holding ?b)\n :effect (and (on-table ?b) (emptyhand) (clear ?b) (not (holding ?b)))))\n";
+
+pub const BLOCKS_P: &str =
+    "(define (problem four-blocks) (:domain blocks) (:objects a b c d - block)\n(:init (emptyhand) (on-table a) (on b a) (clear b) (on-table c) (on d c) (clear d))\n(:goal (and (on a b) (on b c) (on c d))))\n";
+
 /// The words of `succ` with the action `(a)`.
 pub const ACTION: [&str; 4] = ["succ", "domain", "problem", "(a)"];
 
@@ -27,6 +34,9 @@ pub const RUN: [&str; 6] = ["run", "domain", "problem", "side", "cert", "script"
 
 /// The words of `check` over four files.
 pub const CHECK: [&str; 5] = ["check", "domain", "problem", "side", "cert"];
+
+/// The words of `plan` over three files, with a budget.
+pub const PLAN: [&str; 5] = ["plan", "domain", "problem", "side", "1000"];
 
 /// A worked example: the words, the files of the shelf by name and text, and the status and the text of the answer.
 #[derive(Clone, Copy)]
@@ -95,7 +105,7 @@ fn answer_to(
 ) -> Result<Told, Fail> {
     let words = words(alloc, line)?;
     let mut shelf = MemoryShelf::new(files, calls(alloc, bad_read)?);
-    let mut sink = MemorySink::new(alloc, 4096, 7, calls(alloc, bad_write)?).map_err(|_| "sink")?;
+    let mut sink = MemorySink::new(alloc, 65536, 7, calls(alloc, bad_write)?).map_err(|_| "sink")?;
     let status = run_tool(alloc, &words, &mut shelf, &mut sink).number();
     let text = Bytes::copy(alloc, sink.bytes()).map_err(|_| "text")?;
     Ok(Told { status, text })
@@ -197,5 +207,29 @@ pub fn check_runs(
         };
         check(rt, alloc, row)?;
     }
+    Ok(())
+}
+
+/// `plan` answers these files with this status, and `check` its text with this one.
+pub fn check_plan(
+    rt: &impl Abort,
+    alloc: Global,
+    [domain, problem, side]: [&str; 3],
+    status: u8,
+    verdict: &str,
+) -> Result<(), Fail> {
+    let task = [("domain", domain), ("problem", problem), ("side", side)];
+    let planned = answer_to(alloc, &PLAN, shelf_files(alloc, &task)?, None, None)?;
+    assert_eq!(rt; planned.status, status, "{domain}");
+    let mut files = shelf_files(alloc, &task)?;
+    let name = Word::copy(alloc, b"cert").map_err(|_| "name")?;
+    files
+        .push(ShelfFile {
+            name,
+            bytes: planned.text,
+        })
+        .map_err(|_| "file")?;
+    let checked = answer_to(alloc, &CHECK, files, None, None)?;
+    assert_eq!(rt; checked.text.as_slice(), verdict.as_bytes(), "{domain}");
     Ok(())
 }

@@ -1,0 +1,133 @@
+//! Worked examples of `plan`: what it prints, and that `check` accepts it.
+
+use crate::rows::{BLOCKS, BLOCKS_P, COIN, COIN_P, Row, check, check_plan, check_with};
+use crate::tasks::{
+    COIN_FILES, DETOUR_FILES, MIX_FILES, PIT_FILES, SWAP_FILES, UNFAIR_FILES, WON_FILES,
+};
+use std::test::Fail;
+
+const IDLE_FILES: [&str; 3] = [
+    "(define (domain idle) (:predicates (p) (g))\n(:action go :precondition (p) :effect (g)))\n",
+    "(define (problem i) (:domain idle) (:goal (g)))\n",
+    "",
+];
+
+const NAMES_FILES: [&str; 3] = [
+    "(define (domain x)\n(:types t u) (:predicates (p ?a - t))\n(:action a :effect (q)))\n",
+    "(define (problem y) (:domain x) (:objects o - u)\n(:init (p o)) (:goal ()))\n",
+    "",
+];
+
+/// A name, the files of the task, the budget, and the status and the text of the answer.
+const ROWS: [(&str, [&str; 3], &str, u8, &str); 9] = [
+    (
+        "a goal that holds at once",
+        WON_FILES,
+        "1",
+        0,
+        "dualfond 1 policy\nreach 1\nend\n",
+    ),
+    (
+        "an opponent who never shows heads",
+        UNFAIR_FILES,
+        "10",
+        1,
+        "dualfond 1 refusal\nlayer\ncube -(heads)\nend\n",
+    ),
+    (
+        "no action",
+        IDLE_FILES,
+        "5",
+        1,
+        "dualfond 1 refusal\nlayer\ncube -(g)\nend\n",
+    ),
+    ("a budget too small", SWAP_FILES, "1", 2, "undecided 1\n"),
+    (
+        "a predicate that is not declared",
+        NAMES_FILES,
+        "5",
+        3,
+        "refused domain 3 21 F15\n",
+    ),
+    (
+        "an unfair schema that is not there",
+        [COIN, COIN_P, "spin"],
+        "5",
+        3,
+        "refused side 1 1 F20\n",
+    ),
+    ("a budget of 0", COIN_FILES, "0", 4, "bad words\n"),
+    (
+        "a budget past the largest",
+        COIN_FILES,
+        "1000001",
+        4,
+        "bad words\n",
+    ),
+    (
+        "a budget with a leading zero",
+        COIN_FILES,
+        "010",
+        4,
+        "bad words\n",
+    ),
+];
+
+#[test]
+fn tasks_are_decided(rt: HostRuntime) -> Result<(), Fail> {
+    for (name, [domain, problem, side], budget, status, text) in ROWS {
+        let row = Row {
+            name,
+            words: &["plan", "domain", "problem", "side", budget],
+            files: &[("domain", domain), ("problem", problem), ("side", side)],
+            status,
+            text,
+        };
+        check(&rt, rt.alloc(), row)?;
+    }
+    Ok(())
+}
+
+/// The row of the coin at its goal, with a problem that is not there, or with a write that fails.
+const WON: Row<'_> = Row {
+    name: "a fault outside",
+    words: &["plan", "domain", "problem", "side", "5"],
+    files: &[("domain", COIN), ("side", "")],
+    status: 5,
+    text: "read fault\n",
+};
+
+#[test]
+fn a_missing_problem_is_a_read_fault(rt: HostRuntime) -> Result<(), Fail> {
+    check(&rt, rt.alloc(), WON)
+}
+
+#[test]
+fn a_failing_write_is_a_write_fault(rt: HostRuntime) -> Result<(), Fail> {
+    let row = Row {
+        files: &[("domain", COIN), ("problem", COIN_P), ("side", "")],
+        status: 6,
+        text: "",
+        ..WON
+    };
+    check_with(&rt, rt.alloc(), row, None, Some(0))
+}
+
+/// The files of tasks, the status of `plan`, and the text of `check` for what it prints.
+const PLANNED: [([&str; 3], u8, &str); 7] = [
+    (COIN_FILES, 0, "accepted policy plain\n"),
+    (MIX_FILES, 0, "accepted policy plain\n"),
+    (DETOUR_FILES, 0, "accepted policy plain\n"),
+    (PIT_FILES, 1, "accepted refusal\n"),
+    (SWAP_FILES, 1, "accepted refusal\n"),
+    (UNFAIR_FILES, 1, "accepted refusal\n"),
+    ([BLOCKS, BLOCKS_P, ""], 0, "accepted policy plain\n"),
+];
+
+#[test]
+fn plans_are_accepted(rt: HostRuntime) -> Result<(), Fail> {
+    for (files, status, verdict) in PLANNED {
+        check_plan(&rt, rt.alloc(), files, status, verdict)?;
+    }
+    Ok(())
+}
