@@ -85,8 +85,8 @@ pub record AreStuck (task : Task) (from : List Bool) (layers : List (List CubeVi
   pub each : (layer : List CubeView) → Contains layers layer → (cube : CubeView) → Contains layer cube → IsReachableCube task from cube
   pub once : AreDistinct (flat_map (λ layer. layer) layers)
 
--- an answer about a task from a state on, if at most so many states are to be opened, is right: choices that win and layers
--- that are stuck; or layers that are stuck, one of which has the state; or more states are reachable
+-- an answer about a task from a state on, for a budget, is right: choices that win and layers that are stuck; or layers that
+-- are stuck, one of which has the state; or more states are reachable than the budget
 abbrev pub IsRight : Task → List Bool → ℕ → Solved → Type 0
 IsRight task from budget (Won choices layers) = AreWinning task from choices × AreStuck task from layers
 IsRight task from budget (Lost layers) = AreStuck task from layers × LiesInLayers from layers
