@@ -11,7 +11,8 @@ fn a_fair_coin_is_won(rt: HostRuntime) -> Result<(), Fail> {
             assert_eq!(rt; choices.len(), 1);
             assert_eq!(rt; layers.len(), 0);
         }
-        _ => assert!(rt; false),
+        Solved::Lost(_layers) => assert!(rt; false),
+        Solved::Spent => assert!(rt; false),
     }
     Ok(())
 }
