@@ -4,6 +4,7 @@ use crate::rows::{BLOCKS, BLOCKS_P, COIN, COIN_P, Row, check, check_plan, check_
 use crate::tasks::{
     COIN_FILES, DETOUR_FILES, MIX_FILES, PIT_FILES, SWAP_FILES, UNFAIR_FILES, WON_FILES,
 };
+use fond_tool::laws::{correct_are_accepted, planned_are_accepted};
 use std::test::Fail;
 
 const IDLE_FILES: [&str; 3] = [
@@ -130,4 +131,10 @@ fn plans_are_accepted(rt: HostRuntime) -> Result<(), Fail> {
         check_plan(&rt, rt.alloc(), files, status, verdict)?;
     }
     Ok(())
+}
+
+#[test]
+fn laws_of_replies_can_be_called() {
+    correct_are_accepted();
+    planned_are_accepted();
 }

@@ -1,3 +1,4 @@
+mod Accepted
 mod Answered
 mod Checks
 mod Ends
@@ -6,3 +7,4 @@ mod Lists
 mod Planned
 mod Rejections
 mod Runs
+mod Solvable

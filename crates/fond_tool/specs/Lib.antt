@@ -6,6 +6,7 @@ pub mod Decided
 pub mod Ends
 pub mod Fetches
 pub mod GroundRuns
+pub mod Laws
 pub mod Numbers
 pub mod Plans
 pub mod Rejections

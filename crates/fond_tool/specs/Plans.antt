@@ -17,11 +17,11 @@ use Rattle.fond_tool.specs.Replies.{Reply, line_reply}
 use Rattle.fond_tool.specs.declared.status.Status.TheVariants.{Done, Unsolvable, Undecided}
 
 -- what `plan` replies in a task with this ground task: the text of a correct policy certificate, whose rules are a solution
--- of the task; the text of a correct refusal, and the task has no solution; or `undecided`, and more states are reachable
+-- of the task, which then is solvable; the text of a correct refusal, and the task has no solution; or `undecided`, and more states are reachable
 -- than the budget
 pub data AnswersPlan (task : LiftedTask) (game : Task) (budget : ℕ) : Reply → Type 0 where
   policy : (layers : List (List CubeView)) (pairs : List Pair) (rules : List Rule) (reach : ℕ) (text : List ℕ) → IsCertText game (Policy layers pairs rules reach) text
-      → IsRightPolicy game layers pairs rules reach → IsSolution task (rules_policy task game rules) → AnswersPlan task game budget (record { text = text; status = Done })
+      → IsRightPolicy game layers pairs rules reach → IsSolution task (rules_policy task game rules) → IsSolvable task → AnswersPlan task game budget (record { text = text; status = Done })
   unsolvable : (layers : List (List CubeView)) (text : List ℕ) → IsCertText game (Refusal layers) text → IsRightRefusal game layers → ¬ IsSolvable task
       → AnswersPlan task game budget (record { text = text; status = Unsolvable })
   undecided : More task budget → AnswersPlan task game budget (line_reply (codes "undecided " ++ decimal budget) Undecided)

@@ -7,6 +7,7 @@ mod answer;
 mod check;
 mod commands;
 mod fetch;
+pub mod laws;
 mod plan;
 mod rejection;
 mod run;
