@@ -1,10 +1,9 @@
 -- Cubes by their literals: those that a cube takes, keeps or loses.
-use Rattle.std.proofs.Common.{◌≡◌, ◌≢◌, ℕ, zero, suc, ◌<◌, ◌≤◌, List, Bool, true, false, Option, Some, None, length, map, replicate, set, refl, sym, ap, ◌∙◌, subst, ⊎_elim, arith}
-use Rattle.std.specs.Prelude.{◌⊎◌}
+use Rattle.std.proofs.Common.{◌≡◌, ℕ, zero, suc, ◌<◌, List, Bool, false, Some, None, length, replicate, set, refl, sym, ap, ◌∙◌, subst, ⊎_elim}
 use Rattle.std.proofs.lemmas.Bool.{cases_eq, cases_lt}
 use Rattle.std.proofs.lemmas.List.{get_or-map, get_or-set_same, get_or-set_other, get_or_past, length-set, length-map}
 use Rattle.std.proofs.lemmas.Option.{none-some, same_Some}
-use Rattle.fond_state.specs.Cubes.{LiesIn, CubeLiesIn, full_cube, literal_at, truth_at, without_literal}
+use Rattle.fond_state.specs.Cubes.{LiesIn, CubeLiesIn, full_cube, literal_at, without_literal}
 use Rattle.fond_game.specs.Layers.{CubeView}
 use Rattle.fond_regress.specs.Taken.{TakesFrom}
 
@@ -36,13 +35,16 @@ takes_twice source one two three first second = (second.0 ∙ first.0, λ lies. 
 
 -- a literal of the source is put
 pub takes_literal : (source before after : CubeView) (atom : ℕ) (sign : Bool) → literal_at source atom ≡ Some sign → length before ≡ length source → after ≡ set before atom (Some sign) → TakesFrom source before after
-takes_literal source before after atom sign has long is = (ap length is ∙ length-set before atom (Some sign), λ lies k known at. ⊎_elim
-    (λ same.
-    let small : atom < length before = subst (λ n. atom < n) (sym long) (literal_within source atom sign has) in
-    let here : literal_at after k ≡ Some sign = ap (λ c. literal_at c k) is ∙ ap (λ n. literal_at (set before atom (Some sign)) n) same ∙ get_or-set_same before atom (Some sign) None small in
-    ap (literal_at source) same ∙ has ∙ sym here ∙ at)
-    (λ other. lies k known (sym (ap (λ c. literal_at c k) is ∙ get_or-set_other before atom k (Some sign) None other) ∙ at))
-    (cases_eq k atom))
+takes_literal source before after atom sign has long is = (
+  ap length is ∙ length-set before atom (Some sign),
+  λ lies k known at. ⊎_elim
+      (λ same.
+      let small : atom < length before = subst (λ n. atom < n) (sym long) (literal_within source atom sign has) in
+      let here : literal_at after k ≡ Some sign = ap (λ c. literal_at c k) is ∙ ap (λ n. literal_at (set before atom (Some sign)) n) same ∙ get_or-set_same before atom (Some sign) None small in
+      ap (literal_at source) same ∙ has ∙ sym here ∙ at)
+      (λ other. lies k known (sym (ap (λ c. literal_at c k) is ∙ get_or-set_other before atom k (Some sign) None other) ∙ at))
+      (cases_eq k atom),
+)
 
 -- a cube that lies in another one still does if both lose the literal of an atom
 pub lies_without : (cube other : CubeView) (atom : ℕ) → length cube ≡ length other → CubeLiesIn cube other → CubeLiesIn (without_literal cube atom) (without_literal other atom)

@@ -1,7 +1,7 @@
 -- A rule or a pair that is sure is sure with more literals.
-use Rattle.std.proofs.Common.{◌≡◌, ℕ, List, Bool, Some, None, length, slice_get, sym, ap, ◌∙◌, subst}
+use Rattle.std.proofs.Common.{◌≡◌, ℕ, List, Bool, Some, None, length, sym, ap, ◌∙◌}
 use Rattle.std.proofs.lemmas.List.{length-set}
-use Rattle.fond_state.specs.Cubes.{CubeLiesIn, Contradicts, literal_at, without_literal}
+use Rattle.fond_state.specs.Cubes.{CubeLiesIn, literal_at, without_literal}
 use Rattle.fond_task.specs.declared.task.Act.{Act}
 use Rattle.fond_task.specs.declared.task.Task.{Task}
 use Rattle.fond_task.specs.Images.{image}
@@ -13,6 +13,7 @@ use Rattle.fond_game.specs.declared.rule.Targets.{Targets}
 use Rattle.fond_game.specs.declared.rule.Targets.TheVariants.{One, All}
 use Rattle.fond_game.specs.Layers.{CubeView, IsSurePair}
 use Rattle.fond_game.specs.Rules.{Meets, AreMet, IsSureRule}
+use Rattle.fond_regress.specs.Shorter.{IsShorter, IsShorterPair}
 use Rattle.fond_regress.proofs.Cubes.{lies_without}
 use Rattle.fond_regress.proofs.Images.{image_more}
 use Rattle.fond_regress.proofs.Values.{yes_stays}
@@ -26,9 +27,13 @@ module _ (task : Task) where
     module _ (cube more : CubeView) (long : length more ≡ length cube) (lies : CubeLiesIn more cube) where
       met_more : (act : Act) (targets : Targets) → AreMet task rules number cube act targets → AreMet task rules number more act targets
       met_more act (One outcome target) met = (met.0, met.1, (met.2.0, met.2.1, meets_more (image cube met.2.0) (image more met.2.0) target (image_more cube more lies met.2.0 long) met.2.2))
-      met_more act (All targets) met = (met.0, met.1, λ at target entries is there.
-          let one = met.2 at target entries is there in
-          (one.0, meets_more (image cube entries) (image more entries) target (image_more cube more lies entries long) one.1))
+      met_more act (All targets) met = (
+        met.0,
+        met.1,
+        λ at target entries is there.
+            let one = met.2 at target entries is there in
+            (one.0, meets_more (image cube entries) (image more entries) target (image_more cube more lies entries long) one.1),
+      )
 
     -- a sure rule is sure with more literals
     pub sure_more : (rule : Rule) (more : CubeView) → length more ≡ length rule.cond → CubeLiesIn more rule.cond → IsSureRule task pairs rules number rule → IsSureRule task pairs rules number (record rule { cond = more })
@@ -70,3 +75,18 @@ module _ (task : Task) where
     pair_needs_still pair fewer atom long lies needs sign is sure =
         let same = length-set pair.cond atom None ∙ long ∙ sym (length-set fewer atom None) in
         needs sign (lies atom sign is) (sure_pair_more (record pair { cond = without_literal fewer atom }) (without_literal pair.cond atom) same (lies_without pair.cond fewer atom long lies) sure)
+
+-- a rule that is shorter than a shorter one is shorter
+pub shorter_twice : (one two three : Rule) → IsShorter one two → IsShorter two three → IsShorter one three
+shorter_twice one two three first second = record {
+  long = first.long ∙ second.long;
+  lies = λ atom sign is. second.lies atom sign (first.lies atom sign is);
+  same = first.same ∙ ap (λ (rule : Rule). record rule { cond = one.cond }) second.same;
+}
+
+pub shorter_pair_twice : (one two three : Pair) → IsShorterPair one two → IsShorterPair two three → IsShorterPair one three
+shorter_pair_twice one two three first second = record {
+  long = first.long ∙ second.long;
+  lies = λ atom sign is. second.lies atom sign (first.lies atom sign is);
+  same = first.same ∙ ap (λ (pair : Pair). record pair { cond = one.cond }) second.same;
+}

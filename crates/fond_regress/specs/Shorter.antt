@@ -1,9 +1,10 @@
 -- Rules and pairs with fewer literals.
-use Rattle.std.specs.Prelude.{◌≡◌, ℕ, List, Some, slice_get, length}
-use Rattle.fond_state.specs.Cubes.{CubeLiesIn}
+use Rattle.std.specs.Prelude.{◌≡◌, ℕ, List, Bool, Some, slice_get, length}
+use Rattle.fond_state.specs.Cubes.{CubeLiesIn, literal_at, without_literal}
+use Rattle.fond_task.specs.declared.task.Task.{Task}
 use Rattle.fond_game.specs.declared.rule.Pair.{Pair}
 use Rattle.fond_game.specs.declared.rule.Rule.{Rule}
-use Rattle.fond_game.specs.Layers.{CubeView}
+use Rattle.fond_game.specs.Layers.{CubeView, IsSurePair}
 
 -- a rule is another one with at most its literals
 pub record IsShorter (rule other : Rule) : Type 0 where
@@ -17,7 +18,12 @@ pub record IsShorterPair (pair other : Pair) : Type 0 where
   pub lies : CubeLiesIn other.cond pair.cond
   pub same : pair ≡ record other { cond = pair.cond }
 
--- a list of layers has a layer of this number, and that a cube of this one
+-- a pair is not sure without its literal of an atom, if it has one
+abbrev pub NeedsPairLiteral : Task → List (List CubeView) → Pair → ℕ → Type 0
+NeedsPairLiteral task layers pair atom =
+    (sign : Bool) → literal_at pair.cond atom ≡ Some sign → ¬ IsSurePair task layers (record pair { cond = without_literal pair.cond atom })
+
+-- there is a layer of this number, and a cube of this number in it
 pub record HasCube (layers : List (List CubeView)) (layer cube : ℕ) : Type 0 where
   pub cubes : List CubeView
   pub has_layer : slice_get layers layer ≡ Some cubes

@@ -10,13 +10,7 @@ use fond_state::cube::Cube;
 use fond_task::task::Outcome;
 
 /// Takes why the first entry that surely gives the atom this sign does so, and returns whether there is one.
-fn explain_change(
-    entries: &Outcome,
-    source: &Cube,
-    atom: u32,
-    sign: bool,
-    out: &mut Cube,
-) -> bool
+fn explain_change(entries: &Outcome, source: &Cube, atom: u32, sign: bool, out: &mut Cube) -> bool
     requires within { IsTrue (list_all (is_entry_within (length source.now)) entries.now) }
     requires long { length out.old ≡ length source.now }
     ensures { TakesFrom source.now out.old out.new }
