@@ -1,5 +1,5 @@
 -- Rules and pairs with fewer literals.
-use Rattle.std.specs.Prelude.{◌≡◌, ℕ, List, Bool, Some, slice_get, length}
+use Rattle.std.specs.Prelude.{◌≡◌, ℕ, List, Bool, Some, length}
 use Rattle.fond_state.specs.Cubes.{CubeLiesIn, literal_at, without_literal}
 use Rattle.fond_task.specs.declared.task.Task.{Task}
 use Rattle.fond_game.specs.declared.rule.Pair.{Pair}
@@ -22,10 +22,3 @@ pub record IsShorterPair (pair other : Pair) : Type 0 where
 abbrev pub NeedsPairLiteral : Task → List (List CubeView) → Pair → ℕ → Type 0
 NeedsPairLiteral task layers pair atom =
     (sign : Bool) → literal_at pair.cond atom ≡ Some sign → ¬ IsSurePair task layers (record pair { cond = without_literal pair.cond atom })
-
--- there is a layer of this number, and a cube of this number in it
-pub record HasCube (layers : List (List CubeView)) (layer cube : ℕ) : Type 0 where
-  pub cubes : List CubeView
-  pub has_layer : slice_get layers layer ≡ Some cubes
-  pub target : CubeView
-  pub has_cube : slice_get cubes cube ≡ Some target

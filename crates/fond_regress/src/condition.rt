@@ -114,10 +114,11 @@ fn copy_targets(alloc: Global, targets: &Targets) -> Result<Targets, NoMemory>
     }
 }
 
-/// A condition that holds in the state, with which the rule after all rules is lean. Takes what regression gives, or the
-/// full cube of the state if that is not enough, and drops each literal that is not needed. Takes the time of
-/// `sure_rule` once for each literal that it starts with, and once more, and before that, for each literal that
-/// regression looks at, time in the size of an outcome; the memory of a few cubes and a copy of the targets.
+/// A condition that holds in the state and with which the rule after all rules is lean. Starts with what regression of
+/// the targets through the outcomes gives (`Origin::regressed`), or with the full cube of the state if the rule is not
+/// sure with that, and drops each literal that is not needed. Takes the time of `sure_rule` once for each literal of the
+/// start and once more, and before that the time of the regression. Takes the memory of six cubes and of a copy of the
+/// targets.
 pub fn lean_condition(
     alloc: Global,
     t: &Task,

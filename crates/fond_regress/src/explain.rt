@@ -20,7 +20,7 @@ pub(crate) fn take_literal(source: &Cube, atom: u32, out: &mut Cube)
     }
 }
 
-/// Whether the form has the value Yes on the cube, or No if it is asked whether it fails.
+/// Whether the form has the value Yes on the cube, if it is to hold, or No, if it is not to.
 pub(crate) fn has_value(form: &Form, cube: &Cube, holds: bool) -> bool
     requires { IsTrue (is_form_within (length cube.now) form.now) }
     ensures { Decides result (value cube.now form.now ≡ (if holds then Yes else No)) }
@@ -32,8 +32,9 @@ pub(crate) fn has_value(form: &Form, cube: &Cube, holds: bool) -> bool
     }
 }
 
-/// Takes literals of `source` because of which the form has the value Yes on it, or No if it fails: those of all parts
-/// if each counts, or those of the first part that decides. Takes at most time in the size of the form times its depth.
+/// Takes literals of `source` because of which the form has the value Yes on it, or the value No if the form is not to
+/// hold. For a conjunction that is to hold and a disjunction that is not, these are literals for each part; else they are
+/// those for the first part that decides. Takes at most time in the size of the form times its depth.
 pub(crate) fn explain(form: &Form, source: &Cube, holds: bool, out: &mut Cube)
     requires within { IsTrue (is_form_within (length source.now) form.now) }
     requires long { length out.old ≡ length source.now }

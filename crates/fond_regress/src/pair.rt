@@ -4,7 +4,8 @@ ghost use Rattle.fond_game.specs.Layers.{CubeView, IsSurePair};
 ghost use Rattle.fond_game.specs.Rules.{IsLeanPair};
 ghost use Rattle.fond_game.specs.declared.rule.Pair.{Pair};
 ghost use Rattle.fond_layers.specs.Over.{AreOver};
-ghost use Rattle.fond_regress.specs.Shorter.{IsShorterPair, NeedsPairLiteral, HasCube};
+ghost use Rattle.fond_regress.specs.Named.{HasCube};
+ghost use Rattle.fond_regress.specs.Shorter.{IsShorterPair, NeedsPairLiteral};
 ghost use Rattle.fond_state.specs.Cubes.{CubeLiesIn, LiesIn, full_cube};
 ghost use Rattle.fond_task.specs.declared.task.Act.{Act};
 ghost use Rattle.std.specs.Prelude.{◌≡◌, ◌<◌, List, Some, length, slice_get, Decides, IfOk};
@@ -22,13 +23,13 @@ use std::alloc::Global;
 
 /// Where a pair is tested: for which task, and beside which layers.
 #[derive(Drop)]
-struct Bars<'a> {
+struct Place<'a> {
     task: &'a Task,
     layers: &'a Layers,
     ghost over: { AreOver (length task.now.atoms) layers.now },
 }
 
-impl<'a> Bars<'a> {
+impl<'a> Place<'a> {
     /// The cube that a pair names.
     fn named(&self, layer: u32, cube: u32) -> &Cube
         requires { HasCube self.now.layers.now layer cube }
@@ -49,7 +50,7 @@ impl<'a> Bars<'a> {
         sure_pair(self.task, self.named(pair.layer, pair.cube), pair, pad)
     }
 
-    /// Literals of `full` because of which the pair of this action, outcome, layer and cube is sure.
+    /// Literals of `full` because of which the outcome of the action leads into the cube.
     fn regressed(
         &self,
         alloc: Global,
@@ -121,9 +122,10 @@ impl<'a> Bars<'a> {
 }
 
 /// A lean pair of this action, outcome, layer and cube whose condition holds in the state. Starts with what regression
-/// gives, or with the full cube of the state if that is not enough, and drops each literal that is not needed. Takes the
-/// time of `sure_pair` once for each literal that it starts with, and once more, and before that, for each literal of the
-/// cube, time in the size of the outcome; the memory of a few cubes.
+/// of the cube through the outcome gives, or with the full cube of the state if the pair is not sure with that, and drops
+/// each literal that is not needed. Takes the time of `sure_pair` once for each literal of the start and once more, and
+/// before that, for each literal of the layer's cube, time in the size of the outcome times the depth of its conditions.
+/// Takes the memory of four cubes.
 pub fn lean_pair(
     alloc: Global,
     t: &Task,
@@ -142,18 +144,18 @@ pub fn lean_pair(
     ensures holds { IfOk result (λ pair. LiesIn s.now pair.cond) }
     ensures lean { IfOk result (λ pair. IsLeanPair t.now layers.now pair) }
 {
-    let bars = Bars { task: t, layers };
+    let place = Place { task: t, layers };
     let full = Cube::full(alloc, s)?;
-    let dead = bars.named(layer, cube);
+    let dead = place.named(layer, cube);
     let mut pair = Pair {
-        cond: bars.regressed(alloc, &full, act, outcome, dead)?,
+        cond: place.regressed(alloc, &full, act, outcome, dead)?,
         act,
         outcome,
         layer,
         cube,
     };
     let mut pad = Pad::new(alloc, s.len() as u32)?;
-    bars.make_sure(&full, &mut pair, &mut pad);
-    bars.drop_each(&mut pair, &mut pad);
+    place.make_sure(&full, &mut pair, &mut pad);
+    place.drop_each(&mut pair, &mut pad);
     Ok(pair)
 }

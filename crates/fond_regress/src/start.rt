@@ -1,13 +1,12 @@
 //! The condition that regression gives a rule, with which it need not be sure.
 
-ghost use Rattle.fond_game.specs.declared.rule.Rule.{Rule};
 ghost use Rattle.fond_regress.specs.Taken.{TakesFrom};
 ghost use Rattle.fond_rules.specs.Belongs.{ArePairsOver};
-ghost use Rattle.fond_rules.specs.Select.{AreOver};
 ghost use Rattle.fond_state.specs.Cubes.{CubeLiesIn};
+ghost use Rattle.fond_task.specs.Images.{image};
 ghost use Rattle.fond_task.specs.Within.{is_entry_within};
 ghost use Rattle.std.specs.List.{list_all};
-ghost use Rattle.std.specs.Prelude.{◌≡◌, ◌<◌, length, IfOk, IsTrue};
+ghost use Rattle.std.specs.Prelude.{◌≡◌, ◌<◌, Bool, not, Some, length, Decides, IfOk, IsTrue};
 
 use crate::explain::{explain, take_literal};
 use crate::regress::regress;
@@ -30,7 +29,9 @@ pub(crate) struct Origin<'a> {
 }
 
 /// Whether there are two literals, of opposite signs.
-fn are_opposite(known: Option<bool>, other: Option<bool>) -> bool {
+fn are_opposite(known: Option<bool>, other: Option<bool>) -> bool
+    ensures { Decides result ((sign : Bool) × (known ≡ Some sign) × (other ≡ Some (not sign))) }
+{
     match (known, other) {
         (Some(sign), Some(opposite)) => sign != opposite,
         _ => false,
@@ -65,9 +66,10 @@ fn oppose_pairs(pairs: &Pairs, act: u32, source: &Cube, out: &mut Cube)
 }
 
 impl<'a> Origin<'a> {
-    /// The literals because of which the goal is Yes on the image of the source under the entries.
+    /// Literals of the image of the source under the entries because of which the goal is Yes on it.
     fn goal_literals(&self, alloc: Global, entries: &Outcome) -> Result<Cube, NoMemory>
         requires { IsTrue (list_all (is_entry_within (length self.now.source.now)) entries.now) }
+        ensures { IfOk result (λ c. CubeLiesIn (image self.now.source.now entries.now) c) }
     {
         let atoms = self.source.len() as u32;
         let mut image = Cube::new(alloc, atoms)?;
@@ -148,9 +150,9 @@ impl<'a> Origin<'a> {
     }
 
     /// Literals of the source because of which the action is applicable, its targets are met, and it is barred by no
-    /// pair. Takes time in the size of the precondition times its depth, in the number of pairs plus that of the pairs
-    /// of the action times that of the atoms, and for each target in the number of atoms and the size of the goal, and
-    /// for each of its literals in the size of the outcome.
+    /// pair. Takes time in the size of the precondition times its depth; for each target in the number of atoms or the
+    /// size of the goal times its depth, and for each of its literals in the size of the outcome times the depth of its
+    /// conditions; in the number of all pairs; and for each pair of the action in the number of atoms.
     pub(crate) fn regressed(
         &self,
         alloc: Global,

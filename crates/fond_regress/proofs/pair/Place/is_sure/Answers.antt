@@ -1,4 +1,4 @@
-use Rattle.fond_regress.proofs.pair.Bars.is_sure.Goals as goal
+use Rattle.fond_regress.proofs.pair.Place.is_sure.Goals as goal
 
 pub returns-clause-decides : goal.returns-clause-decides
 returns-clause-decides c =

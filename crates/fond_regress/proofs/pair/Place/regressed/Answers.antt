@@ -3,7 +3,7 @@ use Rattle.fond_state.specs.Cubes.{CubeLiesIn}
 use Rattle.fond_task.proofs.Found.{outcome_within}
 use Rattle.fond_game.specs.Layers.{CubeView}
 use Rattle.fond_regress.proofs.Cubes.{lies_in_empty}
-use Rattle.fond_regress.proofs.pair.Bars.regressed.Goals as goal
+use Rattle.fond_regress.proofs.pair.Place.regressed.Goals as goal
 
 pub regress-requires-clause-within : goal.regress-requires-clause-within
 regress-requires-clause-within c =

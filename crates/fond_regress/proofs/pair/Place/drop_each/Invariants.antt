@@ -1,7 +1,7 @@
 use Rattle.std.proofs.Common.{◌≡◌, ℕ, ◌<◌, length}
 use Rattle.fond_game.specs.Layers.{IsSurePair}
 use Rattle.fond_regress.specs.Shorter.{IsShorterPair, NeedsPairLiteral}
-use Rattle.fond_regress.proofs.pair.Bars.drop_each.Given as goal
+use Rattle.fond_regress.proofs.pair.Place.drop_each.Given as goal
 
 abbrev pub invariant-loop-atom : goal.invariant-loop-atom
 invariant-loop-atom l = record {
