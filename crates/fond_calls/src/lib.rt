@@ -13,6 +13,8 @@ mod edge_tests;
 #[cfg(test)]
 mod exec_tests;
 #[cfg(test)]
+mod explicit_tests;
+#[cfg(test)]
 mod grammar_tests;
 #[cfg(test)]
 mod ground_tests;

@@ -1,7 +1,10 @@
 -- Small tasks, worked out by hand and computed with the definitions.
-use Rattle.std.proofs.Common.{◌≡◌, ℕ, ◌<◌, List, [], ◌∷◌, Bool, true, false, Some, refl, sym, ◌∙◌, subst, inl, inr, ⊎_elim, arith}
+use Rattle.std.proofs.Common.{codes, All as EachOf, ◌≡◌, ℕ, ◌<◌, List, [], ◌∷◌, Bool, true, false, Some, refl, sym, ◌∙◌, subst, inl, inr, ⊎_elim, arith}
 use Rattle.std.specs.Prelude.{◌⊎◌, Contains, ⊤}
 use Rattle.std.proofs.lemmas.Bool.{false≢true}
+use Rattle.std.proofs.lemmas.List.Elements.{All-cons, All-nil}
+use Rattle.fond_text.specs.Bytes.{is_leaf_byte, lower}
+use Rattle.fond_text.specs.Name.{IsName}
 use Rattle.fond_text.specs.declared.atom.Atom.{Atom}
 use Rattle.fond_play.specs.Games.{start, onward}
 use Rattle.fond_state.proofs.Tested.{lies_in-Decides}
@@ -42,8 +45,21 @@ flip unfair = record { ground = record { schema = 0; objects = [] }; pre = Truth
 abbrev coin_atom : Atom
 coin_atom = record { predicate = 0; objects = [] }
 
-abbrev no_labels : Labels
-no_labels = record { predicates = []; objects = []; schemas = [] }
+-- the names of a predicate and of a schema
+abbrev letters : List (List ℕ)
+letters = codes "a" ∷ []
+
+letter_is_name : (b : ℕ) → is_leaf_byte b ≡ true → lower b ≡ b → IsName (b ∷ [])
+letter_is_name b leaf low =
+    let P = λ (byte : ℕ). is_leaf_byte byte ≡ true in
+    let Q = λ (byte : ℕ). lower byte ≡ byte in
+    ((omega arith, All-cons P b [] leaf (All-nil P)), All-cons Q b [] low (All-nil Q))
+
+letters_are_names : EachOf IsName letters
+letters_are_names = All-cons IsName (codes "a") [] (letter_is_name 97 refl refl) (All-nil IsName)
+
+abbrev lettered : Labels
+lettered = record { predicates = letters; objects = []; schemas = letters }
 
 abbrev coin : Bool → Task
 coin unfair = record {
@@ -51,7 +67,7 @@ coin unfair = record {
   acts = flip unfair ∷ [];
   init = false ∷ [];
   goal = Lit 0 true;
-  labels = no_labels;
+  labels = lettered;
   few_atoms = omega arith;
   few_acts = omega arith;
   distinct_atoms = refl;
@@ -59,6 +75,11 @@ coin unfair = record {
   distinct_predicates = refl;
   distinct_objects = refl;
   distinct_schemas = refl;
+  predicate_names = letters_are_names;
+  object_names = All-nil IsName;
+  schema_names = letters_are_names;
+  named_atoms = refl;
+  named_acts = refl;
   init_long = refl;
   goal_within = within-Lit 1 0 true;
   acts_within = simp within-Truth;

@@ -6,7 +6,7 @@ use Rattle.fond_play.specs.Games as games
 use Rattle.fond_play.specs.Games.{Game}
 use Rattle.fond_state.specs.Cubes.{full_cube}
 use Rattle.fond_task.specs.declared.task.Task.{Task}
-use Rattle.fond_game.specs.Policies.{IsGoal, IsApplicable, IsNext, IsUnfair}
+use Rattle.fond_game.specs.Policies.{IsGoal, IsApplicable, IsNext, IsUnfair, game}
 use Rattle.fond_game.specs.Layers.{CubeView, AreSureLayers}
 use Rattle.fond_game.specs.Certificates.{LiesInLayers}
 use Rattle.fond_explicit.specs.declared.answer.Pick.{Pick}
@@ -15,13 +15,7 @@ use Rattle.fond_explicit.specs.declared.answer.Solved.TheVariants.{Won, Lost, Sp
 
 -- the game of a task from a state on
 abbrev pub game_from : Task → List Bool → Game (List Bool) ℕ
-game_from task from = record {
-  first = from;
-  IsGoal = IsGoal task;
-  IsApplicable = IsApplicable task;
-  IsNext = IsNext task;
-  IsUnfair = IsUnfair task;
-}
+game_from task from = record (game task) { first = from }
 
 -- a state is reachable from a state: some walk by any actions, out of states that are no goals, ends in it
 abbrev pub IsReachable : Task → List Bool → List Bool → Type 0
@@ -85,8 +79,8 @@ pub record AreStuck (task : Task) (from : List Bool) (layers : List (List CubeVi
   pub each : (layer : List CubeView) → Contains layers layer → (cube : CubeView) → Contains layer cube → IsReachableCube task from cube
   pub once : AreDistinct (flat_map (λ layer. layer) layers)
 
--- an answer about a task from a state on, if at most so many states are to be opened, is right: choices that win and layers
--- that are stuck; or layers that are stuck, one of which has the state; or more states are reachable
+-- an answer about a task from a state on, for a budget, is right: choices that win and layers that are stuck; or layers that
+-- are stuck, one of which has the state; or more states are reachable than the budget
 abbrev pub IsRight : Task → List Bool → ℕ → Solved → Type 0
 IsRight task from budget (Won choices layers) = AreWinning task from choices × AreStuck task from layers
 IsRight task from budget (Lost layers) = AreStuck task from layers × LiesInLayers from layers

@@ -13,17 +13,38 @@ pub(crate) struct Preds {
     lists: Vec<Vec<u32>>,
 }
 
+/// Adds the number of a move to the list of a node, if there is one.
+fn enter(lists: &mut [Vec<u32>], node: u32, number: u32) -> Result<(), NoMemory> {
+    match lists.get_mut(node as usize) {
+        Some(list) => list.push(number)?,
+        None => {}
+    }
+    Ok(())
+}
+
+/// Adds the number of a move to the lists of its targets.
+fn enter_all(lists: &mut [Vec<u32>], targets: &[u32], number: u32) -> Result<(), NoMemory> {
+    for node in targets {
+        enter(lists, *node, number)?;
+    }
+    Ok(())
+}
+
+/// Empty lists for this many nodes.
+fn no_lists(alloc: Global, nodes: usize) -> Result<Vec<Vec<u32>>, NoMemory> {
+    let mut lists = Vec::new(alloc);
+    for _ in 0..nodes {
+        lists.push(Vec::new(alloc))?;
+    }
+    Ok(lists)
+}
+
 impl Preds {
     /// The lists of this many nodes. Takes time and memory in the number of nodes and of targets.
     pub(crate) fn of(alloc: Global, nodes: usize, moves: &Moves) -> Result<Preds, NoMemory> {
-        let mut lists: Vec<Vec<u32>> = Vec::new(alloc);
-        for _ in 0..nodes {
-            lists.push(Vec::new(alloc))?;
-        }
+        let mut lists = no_lists(alloc, nodes)?;
         for number in 0..moves.len() {
-            for node in moves.targets(number) {
-                enter(&mut lists, *node, number)?;
-            }
+            enter_all(&mut lists, moves.targets(number), number)?;
         }
         Ok(Preds { lists })
     }
@@ -35,13 +56,4 @@ impl Preds {
             None => &[],
         }
     }
-}
-
-/// Adds the number of a move to the list of a node, if there is one.
-fn enter(lists: &mut Vec<Vec<u32>>, node: u32, number: u32) -> Result<(), NoMemory> {
-    match lists.get_mut(node as usize) {
-        Some(list) => list.push(number)?,
-        None => {}
-    }
-    Ok(())
 }

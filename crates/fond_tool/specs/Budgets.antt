@@ -1,4 +1,4 @@
--- Budgets: how many states a planner may open.
+-- Budgets: a task with at most this many reachable states is decided.
 use Rattle.std.specs.Prelude.{◌≡◌, ◌≤◌, ℕ, List}
 use Rattle.std.specs.Fmt.{decimal}
 

@@ -29,7 +29,8 @@ abbrev pub rules_of : Cert → List Rule
 rules_of (Policy layers pairs rules reach) = rules
 rules_of (Refusal layers) = []
 
--- what a certificate claims of a task with this ground task: that its rules are a solution, or that no policy is one
+-- what a certificate claims of a task with this ground task: that its rules are a solution, or that no finite map from states
+-- to actions is one
 abbrev pub Claim : LiftedTask → Task → Cert → Type 0
 Claim task game (Policy layers pairs rules reach) = IsSolution task (rules_policy task game rules)
 Claim task game (Refusal layers) = ¬ IsSolvable task

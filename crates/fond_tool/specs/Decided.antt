@@ -16,7 +16,7 @@ abbrev pub cert_status : Cert → Status
 cert_status (Policy layers pairs rules reach) = Done
 cert_status (Refusal layers) = Unsolvable
 
--- the reply to a decision: the text of its certificate, or that there is none within the budget
+-- the reply to a decision: the text of its certificate, or `undecided` with the budget
 abbrev pub decision_reply : Task → ℕ → Decision → Reply
 decision_reply game budget (Certified cert) = record { text = spelling game cert; status = cert_status cert }
 decision_reply game budget IsUndecided = line_reply (codes "undecided " ++ decimal budget) Undecided

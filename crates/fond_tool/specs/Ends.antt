@@ -14,8 +14,8 @@ use Rattle.fond_tool.specs.Words.{Fits, file_names}
 abbrev pub FitsNone : List (List ℕ) → Type 0
 FitsNone words = (command : Command) (given : List (List ℕ)) → ¬ Fits words command given
 
--- what the tool replies to words: `bad words` if they fit no command, `read fault` if one of the command's files was not
--- read, and otherwise what the command replies to the contents of its files
+-- what the tool replies to words: `bad words` if they fit no command; `read fault`, only if the shelf met a fault or does not
+-- hold one of the command's files; or what the command replies to the contents of its files
 pub data ToolReply (words : List (List ℕ)) (reads : Reads) : Reply → Type 0 where
   bad_words : FitsNone words → ToolReply words reads (line_reply (codes "bad words") BadWords)
   read_fault : (command : Command) (given : List (List ℕ)) → Fits words command given → CannotRead reads (file_names command given)

@@ -111,11 +111,13 @@ pub fn read_budget(word: &Word) -> Option<u32>
     ensures { MatchOption result ((budget : ℕ) → ¬ IsBudget word.now budget) (IsBudget word.now) }
 {
     let number = read_number(word.bytes())?;
-    if (1..=1_000_000).contains(&number) {
-        Some(number as u32)
-    } else {
-        None
+    if number == 0 {
+        return None;
     }
+    if number > 1_000_000 {
+        return None;
+    }
+    Some(number as u32)
 }
 
 /// Whether a word is of a kind.
