@@ -33,6 +33,8 @@ mod oneof_tests;
 #[cfg(test)]
 mod reader_tests;
 #[cfg(test)]
+mod regress_tests;
+#[cfg(test)]
 mod rules_tests;
 #[cfg(test)]
 mod state_tests;

@@ -1,0 +1,4 @@
+pub mod Values
+pub mod Images
+pub mod Cubes
+pub mod Sure

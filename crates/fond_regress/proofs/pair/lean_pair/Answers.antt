@@ -1,0 +1,12 @@
+use Rattle.std.proofs.Common.{subst}
+use Rattle.fond_state.specs.Cubes.{CubeLiesIn}
+use Rattle.fond_game.specs.Layers.{CubeView}
+use Rattle.fond_regress.proofs.Cubes.{lies_by_full}
+use Rattle.fond_regress.proofs.pair.lean_pair.Goals as goal
+
+pub returns-clause-holds : goal.returns-clause-holds
+returns-clause-holds c =
+    let cond = c.drop_each.new.pair.cond in
+    let Lies : CubeView → Type 0 = λ source. CubeLiesIn source cond in
+    lies_by_full c.args.s.now cond
+    (subst Lies c.in_ok-full.ensures (λ atom sign is. c.make_sure.ensures.shorter.lies atom sign (c.drop_each.ensures.shorter.lies atom sign is)))

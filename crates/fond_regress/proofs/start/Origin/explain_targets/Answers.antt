@@ -1,0 +1,7 @@
+use Rattle.std.specs.List.{list_all}
+use Rattle.fond_task.specs.Within.{is_entry_within}
+use Rattle.fond_task.proofs.Found.{all_at}
+use Rattle.fond_regress.proofs.start.Origin.explain_targets.Goals as goal
+
+pub explain_target-requires-clause-within : goal.explain_target-requires-clause-within
+explain_target-requires-clause-within c = all_at (list_all (is_entry_within _)) c.args.act.now.outcomes c.in-One.outcome c.get.result.now c.requires.within c.get.ensures
