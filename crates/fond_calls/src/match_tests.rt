@@ -1,26 +1,47 @@
+ghost use Rattle.std.specs.Prelude.{◌≡◌, All, length, IfOk};
+
 use fond_match::matcher::Matcher;
 use fond_state::cube::Cube;
 use fond_state::state::State;
 use fond_text::fault::NoMemory;
-use fond_text::list::List;
 use std::alloc::Global;
 use std::test::Fail;
 
-/// The cube over one atom that has its literal of this sign.
-fn cube(alloc: Global, sign: bool) -> Result<Cube, NoMemory> {
-    let mut cube = Cube::new(alloc, 1)?;
-    cube.put_literal(0, sign);
+/// A cube over two atoms, of which it has the literals of these signs.
+fn cube(alloc: Global, first: Option<bool>, second: Option<bool>) -> Result<Cube, NoMemory>
+    ensures { IfOk result (λ c. length c ≡ 2) }
+{
+    let mut cube = Cube::new(alloc, 2)?;
+    if let Some(sign) = first {
+        cube.put_literal(0, sign);
+    }
+    if let Some(sign) = second {
+        cube.put_literal(1, sign);
+    }
     Ok(cube)
 }
 
+fn cubes(alloc: Global) -> Result<Vec<Cube>, NoMemory>
+    ensures { IfOk result (λ cubes. All (λ c. length c ≡ 2) cubes.items) }
+{
+    let mut cubes = Vec::new(alloc);
+    cubes.push(cube(alloc, Some(true), Some(true))?)?;
+    cubes.push(cube(alloc, Some(false), Some(true))?)?;
+    cubes.push(cube(alloc, Some(true), None)?)?;
+    cubes.push(cube(alloc, None, Some(false))?)?;
+    Ok(cubes)
+}
+
 #[test]
-fn the_first_cube_is_found(rt: HostRuntime) -> Result<(), Fail> {
-    let alloc = rt.alloc();
-    let mut cubes = List::new(alloc);
-    cubes.push(cube(alloc, true)?)?;
-    cubes.push(cube(alloc, false)?)?;
-    let matcher = Matcher::build(alloc, cubes.as_slice())?;
-    let state = State::new(alloc, 1)?;
-    assert_eq!(rt; matcher.first(cubes.as_slice(), &state), Some(1));
+fn the_first_cube_around_a_state_or_a_cube_is_found(rt: HostRuntime) -> Result<(), Fail> {
+    let cubes = cubes(rt.alloc())?;
+    assert!(rt; cubes.len() < 5);
+    let matcher = Matcher::build(rt.alloc(), cubes.as_slice())?;
+    let state = State::new(rt.alloc(), 2)?;
+    assert_eq!(rt; matcher.first(cubes.as_slice(), &state), Some(3));
+    let known = cube(rt.alloc(), Some(true), Some(false))?;
+    assert_eq!(rt; matcher.first(cubes.as_slice(), &known), Some(2));
+    let free = cube(rt.alloc(), None, Some(true))?;
+    assert_eq!(rt; matcher.first(cubes.as_slice(), &free), None);
     Ok(())
 }

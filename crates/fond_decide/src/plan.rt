@@ -75,9 +75,8 @@ fn place(
     add_rule(alloc, t, choices, pick, states, rules, next)
 }
 
-/// Rules for the choices that win from a state, in the order of their ranks: each target of a rule is one before it. Takes
-/// time in the number of outcomes of the choices times that of the atoms.
-pub(crate) fn rules_for(
+/// Rules for the choices that win from a state, in the order of their ranks: each target of a rule is one before it.
+fn rules_in_order(
     alloc: Global,
     t: &Task,
     from: &State,
@@ -104,4 +103,29 @@ pub(crate) fn rules_for(
         )?;
     }
     Ok(rules)
+}
+
+/// The rules with an index of all of them.
+fn indexed(rules: Rules) -> Result<Rules, NoMemory>
+    ensures { IfOk result (λ same. same ≡ rules) }
+{
+    let mut rules = rules;
+    rules.index()?;
+    Ok(rules)
+}
+
+/// Rules for the choices that win from a state, and an index of all of them. Takes time in the number of outcomes of the
+/// choices times that of the atoms.
+pub(crate) fn rules_for(
+    alloc: Global,
+    t: &Task,
+    from: &State,
+    choices: &Choices,
+) -> Result<Rules, NoMemory>
+    requires long { length from.now ≡ length t.now.atoms }
+    requires winning { AreWinning t.now from.now choices.now }
+    ensures { IfOk result (λ rules. (states : List (List Bool)) × ArePlanned t.now choices.now states rules × ((choice : ChoiceView) → Contains choices.now choice → Contains states choice.state)) }
+{
+    let rules = rules_in_order(alloc, t, from, choices)?;
+    indexed(rules)
 }

@@ -1,6 +1,6 @@
 use Rattle.std.proofs.Common.{◌≡◌, length}
 use Rattle.fond_decide.specs.Plans.{ArePlanned, HavePlaced}
-use Rattle.fond_decide.proofs.plan.rules_for.Given as goal
+use Rattle.fond_decide.proofs.plan.rules_in_order.Given as goal
 
 -- the choices at the places so far have rules
 abbrev pub invariant-loop-at : goal.invariant-loop-at
