@@ -10,6 +10,8 @@ mod atom_tests;
 #[cfg(test)]
 mod check_tests;
 #[cfg(test)]
+mod cut_tests;
+#[cfg(test)]
 mod domain_tests;
 #[cfg(test)]
 mod ground_tests;

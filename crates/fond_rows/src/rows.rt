@@ -210,6 +210,32 @@ pub fn check_runs(
     Ok(())
 }
 
+/// The words over these files, an empty script and these bytes as a certificate are answered with this status and this text.
+pub fn check_bytes(
+    rt: &impl Abort,
+    alloc: Global,
+    words: &[&str],
+    [domain, problem, side]: [&str; 3],
+    cert: &[u8],
+    status: u8,
+    text: &str,
+) -> Result<(), Fail> {
+    let texts = [
+        ("domain", domain),
+        ("problem", problem),
+        ("side", side),
+        ("script", ""),
+    ];
+    let mut files = shelf_files(alloc, &texts)?;
+    let name = Word::copy(alloc, b"cert").map_err(|_| "name")?;
+    let bytes = Bytes::copy(alloc, cert).map_err(|_| "text")?;
+    files.push(ShelfFile { name, bytes }).map_err(|_| "file")?;
+    let told = answer_to(alloc, words, files, None, None)?;
+    assert_eq!(rt; told.status, status, "{text}");
+    assert_eq!(rt; told.text.as_slice(), text.as_bytes(), "{text}");
+    Ok(())
+}
+
 /// `plan` answers these files with this status, and `check` its text with this one.
 pub fn check_plan(
     rt: &impl Abort,
