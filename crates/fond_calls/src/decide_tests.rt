@@ -17,14 +17,15 @@ fn the_coin_has_a_certificate(rt: HostRuntime) -> Result<(), Fail> {
 }
 
 #[test]
-fn no_rules_reach_one_state(rt: HostRuntime) -> Result<(), Fail> {
+fn no_rules_reach_one_state_and_leave_it_open(rt: HostRuntime) -> Result<(), Fail> {
     let alloc = rt.alloc();
     let coin = ground_coin(alloc)?;
     let rules = Rules::new(alloc);
     let pairs = Pairs::new(alloc);
     if rules.belong_to(&coin) {
-        let count = reach_count(alloc, &coin, &pairs, &rules)?;
+        let (count, ruled) = reach_count(alloc, &coin, &pairs, &rules)?;
         assert_eq!(rt; count, 1);
+        assert!(rt; !ruled);
     } else {
         assert!(rt; false);
     }

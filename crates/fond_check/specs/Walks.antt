@@ -49,9 +49,17 @@ abbrev pub IsNumbered : List (List Bool) → Option ℕ → Option (List Bool) �
 IsNumbered states None found = found ≡ None
 IsNumbered states (Some number) found = (state : List Bool) × (found ≡ Some state) × (slice_get states number ≡ Some state)
 
+-- in each reached state that is no goal, a rule holds
+abbrev pub HasAllRuled : Task → List Rule → Type 0
+HasAllRuled task rules = (state : List Bool) → Reach task (selected rules) state → IsRuled task rules state
+
+-- in some reached state that is no goal, no rule holds
+abbrev pub HasUnruled : Task → List Rule → Type 0
+HasUnruled task rules = (state : List Bool) × IsUnruled task rules state
+
 -- a reached state in which no rule holds and which is no goal, if there is one
 abbrev pub IsOpenOne : Task → List Rule → Option (List Bool) → Type 0
-IsOpenOne task rules found = MatchOption found ((state : List Bool) → Reach task (selected rules) state → IsRuled task rules state) (IsUnruled task rules)
+IsOpenOne task rules found = MatchOption found (HasAllRuled task rules) (IsUnruled task rules)
 
 -- how a walk ends: more than the bound are reached, or this many are, with a state in which no rule holds, if there is one
 abbrev pub IsWalked : Task → List Rule → ℕ → Walked → Type 0

@@ -1,7 +1,8 @@
 -- Lists with one more element.
-use Rattle.std.proofs.Common.{inl, inr, ◌≡◌, ℕ, zero, suc, ◌+◌, ◌<◌, List, [], ◌∷◌, ◌++◌, Some, length, get_or, slice_get, refl, sym, ap, ◌∙◌, subst, arith}
+use Rattle.std.proofs.Common.{inl, inr, ◌≡◌, ℕ, zero, suc, ◌<◌, List, [], ◌∷◌, ◌++◌, Some, length, get_or, slice_get, refl, sym, ap, ◌∙◌, subst, arith}
 use Rattle.std.specs.Prelude.{◌⊎◌, All}
-use Rattle.std.proofs.lemmas.List.{get_or_append_left, length-append}
+use Rattle.fond_game.specs.Layers.{CubeView}
+use Rattle.fond_layers.specs.Over.{AreOver, IsOver}
 use Rattle.std.proofs.lemmas.Option.{none-some, same_Some, slice_get-get_or, slice_get_within, get_or_from_slice_get}
 
 module _ {X : Type 0} where
@@ -42,3 +43,10 @@ module _ {X : Type 0} where
   all_numbered P xs each = λ i d within.
       let one = element_at xs i within in
       subst P (sym (get_or_from_slice_get xs i one.0 d one.1)) (each i one.0 one.1)
+
+-- a cube of layers over some atoms is over them
+pub over_cube : (atoms : ℕ) (layers : List (List CubeView)) (number : ℕ) (layer : List CubeView) (at : ℕ) (cube : CubeView) → AreOver atoms layers → slice_get layers number ≡ Some layer → slice_get layer at ≡ Some cube → length cube ≡ atoms
+over_cube atoms layers number layer at cube over has_layer has_cube =
+    let Over : List CubeView → Type 0 = IsOver atoms in
+    let one : Over layer = subst Over (get_or_from_slice_get layers number layer layer has_layer) (over number layer (slice_get_within layers number layer has_layer)) in
+    subst (λ (c : CubeView). length c ≡ atoms) (get_or_from_slice_get layer at cube cube has_cube) (one at cube (slice_get_within layer at cube has_cube))

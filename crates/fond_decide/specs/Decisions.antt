@@ -1,26 +1,33 @@
 -- What is decided about a task.
-use Rattle.std.specs.Prelude.{ℕ}
+use Rattle.std.specs.Prelude.{ℕ, ⊤}
 use Rattle.fond_play.specs.Games as games
 use Rattle.fond_task.specs.declared.task.Task.{Task}
 use Rattle.fond_game.specs.Policies.{game}
 use Rattle.fond_cert.specs.Belongs.{Belongs}
 use Rattle.fond_cert.specs.Sizes.{HasSmallNumbers}
 use Rattle.fond_cert.specs.declared.cert.Cert.{Cert}
-use Rattle.fond_check.specs.Verdicts.{IsRight}
+use Rattle.fond_cert.specs.declared.cert.Cert.TheVariants.{Policy, Refusal}
+use Rattle.fond_check.specs.Verdicts.{AreLean, IsRight}
 use Rattle.fond_decide.specs.declared.decide.Decision.{Decision}
 use Rattle.fond_decide.specs.declared.decide.Decision.TheVariants.{Certified, Undecided}
 
--- a certificate of a task that is correct
+-- the pairs and rules of a certificate are lean; a refusal has none
+abbrev pub IsLean : Task → Cert → Type 0
+IsLean task (Policy layers pairs rules reach) = AreLean task layers pairs rules
+IsLean task (Refusal layers) = ⊤
+
+-- a certificate of a task that is correct and lean
 pub record IsRightCert (task : Task) (cert : Cert) : Type 0 where
   pub belongs : Belongs task cert
   pub small : HasSmallNumbers cert
   pub right : IsRight task cert
+  pub lean : IsLean task cert
 
 -- more than this many states are reachable in a task, by any actions out of states that are no goals
 abbrev pub IsPast : Task → ℕ → Type 0
 IsPast task budget = games.More (game task) budget
 
--- a decision about a task is right: its certificate is correct, or more states are reachable than the budget
+-- a decision about a task is right: its certificate is correct and lean, or more states are reachable than the budget
 abbrev pub IsDecision : Task → ℕ → Decision → Type 0
 IsDecision task budget (Certified cert) = IsRightCert task cert
 IsDecision task budget Undecided = IsPast task budget

@@ -1,4 +1,7 @@
 pub mod Decisions
 pub mod Targets
 pub mod Places
+pub mod Drafts
 pub mod Plans
+pub mod Walks
+pub mod Appends

@@ -1,17 +1,22 @@
 //! Deciding a task.
 
+ghost use Rattle.fond_check.specs.Walks.{HasAllRuled};
 ghost use Rattle.fond_decide.specs.Decisions.{IsDecision, IsRightCert};
+ghost use Rattle.fond_decide.specs.Drafts.{IsDraft};
 ghost use Rattle.fond_explicit.specs.Answers.{AreStuck, AreWinning};
-ghost use Rattle.fond_game.specs.Certificates.{LiesInLayers};
-ghost use Rattle.std.specs.Prelude.{◌<◌, ◌≤◌, ◌^◌, All, length, IfOk};
+ghost use Rattle.fond_game.specs.Certificates.{LiesInLayers, ReachesCount};
+ghost use Rattle.fond_game.specs.Policies.{selected};
+ghost use Rattle.std.specs.Prelude.{◌<◌, ◌≤◌, ◌^◌, All, length, IfOk, IfSome, OnOk};
 
-use crate::plan::rules_for;
+use crate::draft::Draft;
+use crate::plan::plan_of;
+use crate::walk::walk;
 use fond_cert::cert::Cert;
 use fond_check::reach::reach_count;
 use fond_explicit::answer::{Choices, Solved};
 use fond_explicit::solve::solve;
 use fond_layers::layers::Layers;
-use fond_rules::pairs::Pairs;
+use fond_rules::rules::Rules;
 use fond_task::task::Task;
 use fond_text::fault::NoMemory;
 use std::alloc::Global;
@@ -21,22 +26,6 @@ use std::alloc::Global;
 pub enum Decision {
     Certified(Cert),
     Undecided,
-}
-
-/// The certificate of the policy of choices that win from the initial state.
-fn policy_of(alloc: Global, t: &Task, choices: &Choices) -> Result<Cert, NoMemory>
-    requires { AreWinning t.now t.now.init choices.now }
-    ensures { IfOk result (IsRightCert t.now) }
-{
-    let rules = rules_for(alloc, t, &t.init, choices)?;
-    let pairs = Pairs::new(alloc);
-    let reach = reach_count(alloc, t, &pairs, &rules)?;
-    Ok(Cert::Policy {
-        layers: Layers::new(alloc),
-        pairs,
-        rules,
-        reach: u64::from(reach),
-    })
 }
 
 /// Reads the layers, whose type keeps that each has fewer than 2^32 cubes.
@@ -49,6 +38,13 @@ fn read_sizes(layers: &Layers)
     }
 }
 
+/// Reads the number of rules, whose type keeps that it is below 2^32.
+fn read_count(rules: &Rules)
+    ensures { length rules.now < 2 ^ 32 }
+{
+    let _count = rules.len();
+}
+
 /// The certificate of layers that have the initial state.
 fn refusal_of(t: &Task, layers: Layers) -> Cert
     requires stuck { AreStuck t.now t.now.init layers }
@@ -59,15 +55,75 @@ fn refusal_of(t: &Task, layers: Layers) -> Cert
     Cert::Refusal { layers }
 }
 
-/// Decides a task within a budget of opened states: a correct certificate of a policy, or one of unsolvability, or that more
-/// states are reachable than the budget. Takes the time of `solve`, and for a policy that of a walk through the states
-/// that it reaches.
+/// The certificate of a draft whose rules reach this many states, and hold in each of them that is no goal.
+fn policy_of(t: &Task, draft: Draft, reach: u32) -> Cert
+    requires draft { IsDraft t.now draft }
+    requires count { ReachesCount t.now (selected draft.rules) reach }
+    requires ruled { HasAllRuled t.now draft.rules }
+    ensures { IsRightCert t.now result }
+{
+    read_sizes(&draft.layers);
+    read_count(&draft.rules);
+    Cert::Policy {
+        layers: draft.layers,
+        pairs: draft.pairs,
+        rules: draft.rules,
+        reach: u64::from(reach),
+    }
+}
+
+/// The number of the states that the rules of a draft reach, if there are no fresh pairs, and a rule holds in each of these
+/// states that is no goal.
+fn finished(alloc: Global, t: &Task, draft: &mut Draft) -> Result<Option<u32>, NoMemory>
+    requires { IsDraft t.now draft.old }
+    ensures draft { OnOk result (IsDraft t.now draft.new) }
+    ensures count { IfOk result (λ reach. IfSome reach (ReachesCount t.now (selected draft.new.rules))) }
+    ensures ruled { IfOk result (λ reach. IfSome reach (λ n. HasAllRuled t.now draft.new.rules)) }
+{
+    if !draft.fresh.is_empty() {
+        return Ok(None);
+    }
+    draft.rules.index()?;
+    let (reach, ruled) = reach_count(alloc, t, &draft.pairs, &draft.rules)?;
+    if !ruled {
+        return Ok(None);
+    }
+    Ok(Some(reach))
+}
+
+/// Decides a task in which choices win from the initial state. Walks through the states that the rules reach, adding rules
+/// where none holds, and begins again without rules whenever the walk barred an action, until a rule holds in each reached
+/// state. Each round but the last bars an action in a reachable state; memory is said to have run out after 2^32 - 1 rounds.
+fn decide_won(alloc: Global, t: &Task, choices: Choices, budget: u32) -> Result<Decision, NoMemory>
+    requires few { budget ≤ 1000000 }
+    requires winning { AreWinning t.now t.now.init choices }
+    ensures { IfOk result (IsDecision t.now budget) }
+{
+    let mut draft = Draft::new(alloc, t);
+    let mut plans = Vec::new(alloc);
+    plans.push(plan_of(alloc, t, choices)?)?;
+    for _round in 0..u32::MAX {
+        if !walk(alloc, t, &mut draft, &mut plans, budget)? {
+            return Ok(Decision::Undecided);
+        }
+        if let Some(reach) = finished(alloc, t, &mut draft)? {
+            return Ok(Decision::Certified(policy_of(t, draft, reach)));
+        }
+        draft.heed_fresh(alloc, t)?;
+    }
+    Err(NoMemory)
+}
+
+/// Decides a task within a budget of opened states: a correct and lean certificate of a policy, or one of unsolvability, or
+/// that more states are reachable than the budget. Takes the time of `solve`, once for the initial state and once for each
+/// reached state about which the earlier ones say nothing, and that of a walk through the states that the policy reaches,
+/// once more whenever the walk finds actions to bar.
 pub fn decide(alloc: Global, t: &Task, budget: u32) -> Result<Decision, NoMemory>
     requires { budget ≤ 1000000 }
     ensures { IfOk result (IsDecision t.now budget) }
 {
     match solve(alloc, t, &t.init, budget)? {
-        Solved::Won(choices, _) => Ok(Decision::Certified(policy_of(alloc, t, &choices)?)),
+        Solved::Won(choices, _) => decide_won(alloc, t, choices, budget),
         Solved::Lost(layers) => Ok(Decision::Certified(refusal_of(t, layers))),
         Solved::Spent => Ok(Decision::Undecided),
     }

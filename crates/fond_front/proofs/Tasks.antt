@@ -13,12 +13,20 @@ use Rattle.fond_tree.proofs.NoTree.{no_tree_has_a_fault_lem}
 use Rattle.fond_tree.specs.declared.tree.Tree.{Tree}
 use Rattle.fond_tree.specs.Faults.{IsTextFault, IsFaultOf}
 use Rattle.fond_tree.specs.Spelling.{IsReadAs}
+use Rattle.fond_grammar.specs.Faults.{StandsInDomain, StandsInProblem}
 use Rattle.fond_types.specs.Faults.{StandsInNames}
 use Rattle.fond_types.specs.Names.{Declarations}
 use Rattle.fond_types.specs.Resolves.{IsResolved}
 use Rattle.fond_front.specs.declared.parse.Trees.{Trees}
 use Rattle.fond_front.specs.declared.texts.TaskTexts.{TaskTexts}
+use Rattle.fond_front.specs.Sides.{IsSideTreeFault}
 use Rattle.fond_front.specs.Tasks.{OccursInTexts, OccursInTrees, AreTreesOf, AreFilesOf, IsTaskOf, IsFirstFault}
+
+-- no fault of form occurs in files, if none occurs in each
+pub forms_clean : (texts : TaskTexts) (trees : Trees) → IsClean (StandsInDomain trees.domain) → IsClean (StandsInProblem trees.problem) → IsClean (IsSideTreeFault texts.side) → AreClean (OccursInTrees texts trees)
+forms_clean texts trees domain problem side Domain = domain
+forms_clean texts trees domain problem side Problem = problem
+forms_clean texts trees domain problem side Side = side
 
 -- an error that a call hands on refuses as it did
 pub handed_on : {T : Type 0} (result : Result T FrontError) (error : FrontError) (holds : Fault → Type 0) → IsErrAnd result (λ e. e ≡ error) → Refuses holds error → IfErr result (Refuses holds)

@@ -40,10 +40,11 @@ OccursInTrees texts trees Side = IsSideTreeFault texts.side
 abbrev pub declarations_of : Files → Declarations
 declarations_of files = record { domain = files.domain; problem = files.problem; side = files.side }
 
--- three texts are read as declarations, by way of the trees of the domain and the problem
+-- three texts are read as declarations, by way of the trees of the domain and the problem, in which no fault of form occurs
 pub record AreFilesOf (texts : TaskTexts) (files : Declarations) : Type 0 where
   pub trees : Trees
   pub read : AreTreesOf texts trees
+  pub clean : AreClean (OccursInTrees texts trees)
   pub domain : IsDomainOf trees.domain files.domain
   pub problem : IsProblemOf trees.problem files.problem
   pub side : IsSideOf texts.side files.side

@@ -14,6 +14,8 @@ mod cut_tests;
 #[cfg(test)]
 mod domain_tests;
 #[cfg(test)]
+mod example_tests;
+#[cfg(test)]
 mod ground_tests;
 #[cfg(test)]
 mod line_tests;

@@ -116,13 +116,13 @@ fn a_failing_write_is_a_write_fault(rt: HostRuntime) -> Result<(), Fail> {
 
 /// The files of tasks, the status of `plan`, and the text of `check` for what it prints.
 const PLANNED: [([&str; 3], u8, &str); 7] = [
-    (COIN_FILES, 0, "accepted policy plain\n"),
-    (MIX_FILES, 0, "accepted policy plain\n"),
-    (DETOUR_FILES, 0, "accepted policy plain\n"),
+    (COIN_FILES, 0, "accepted policy lean\n"),
+    (MIX_FILES, 0, "accepted policy lean\n"),
+    (DETOUR_FILES, 0, "accepted policy lean\n"),
     (PIT_FILES, 1, "accepted refusal\n"),
     (SWAP_FILES, 1, "accepted refusal\n"),
     (UNFAIR_FILES, 1, "accepted refusal\n"),
-    ([BLOCKS, BLOCKS_P, ""], 0, "accepted policy plain\n"),
+    ([BLOCKS, BLOCKS_P, ""], 0, "accepted policy lean\n"),
 ];
 
 #[test]

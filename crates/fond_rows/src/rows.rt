@@ -36,7 +36,7 @@ pub const RUN: [&str; 6] = ["run", "domain", "problem", "side", "cert", "script"
 pub const CHECK: [&str; 5] = ["check", "domain", "problem", "side", "cert"];
 
 /// The words of `plan` over three files, with a budget.
-pub const PLAN: [&str; 5] = ["plan", "domain", "problem", "side", "1000"];
+pub const PLAN: [&str; 5] = ["plan", "domain", "problem", "side", "2000"];
 
 /// A worked example: the words, the files of the shelf by name and text, and the status and the text of the answer.
 #[derive(Clone, Copy)]

@@ -73,7 +73,7 @@ check_status (TaskReply.refused fault first) = refl
 check_status (TaskReply.answered task game reply of answers) = judged_status answers
 
 planned_status : {task : LiftedTask} {game : Task} {budget : ℕ} {reply : Reply} → AnswersPlan task game budget reply → is_reply_status reply.status ≡ true
-planned_status (AnswersPlan.policy layers pairs rules reach text is right solves has) = refl
+planned_status (AnswersPlan.policy layers pairs rules reach text is right lean solves has) = refl
 planned_status (AnswersPlan.unsolvable layers text is right none) = refl
 planned_status (AnswersPlan.undecided more) = refl
 

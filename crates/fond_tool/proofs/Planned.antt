@@ -21,7 +21,7 @@ use Rattle.fond_tool.proofs.Solvable.{solvable}
 module _ (task : LiftedTask) (game : Task) (budget : ℕ) (is : IsGroundOf task game) where
   certified : (cert : Cert) → IsRightCert game cert → AnswersPlan task game budget (record { text = spelling game cert; status = cert_status cert })
   certified (Policy layers pairs rules reach) right =
-      AnswersPlan.policy layers pairs rules reach (spelling game (Policy layers pairs rules reach)) (right.belongs, right.small, refl) right.right
+      AnswersPlan.policy layers pairs rules reach (spelling game (Policy layers pairs rules reach)) (right.belongs, right.small, refl) right.right right.lean
       (((ground-tasks-agree task game is).solution (selected rules)).0 (ranks_exclude game layers pairs rules reach right.right))
       ((ground-tasks-agree task game is).solvable.0 (solvable game (selected rules) reach right.right.counted (ranks_exclude game layers pairs rules reach right.right)))
   certified (Refusal layers) right =

@@ -9,6 +9,7 @@ use Rattle.fond_game.specs.declared.rule.Rule.{Rule}
 use Rattle.fond_game.specs.Layers.{CubeView}
 use Rattle.fond_game.specs.Certificates.{IsRightPolicy, IsRightRefusal}
 use Rattle.fond_cert.specs.declared.cert.Cert.TheVariants.{Policy, Refusal}
+use Rattle.fond_check.specs.Verdicts.{AreLean}
 use Rattle.fond_bridge.specs.Solutions.{rules_policy}
 use Rattle.fond_front.specs.declared.texts.TaskTexts.{TaskTexts}
 use Rattle.fond_tool.specs.Budgets.{IsBudget}
@@ -16,12 +17,12 @@ use Rattle.fond_tool.specs.Certified.{IsCertText, TaskReply}
 use Rattle.fond_tool.specs.Replies.{Reply, line_reply}
 use Rattle.fond_tool.specs.declared.status.Status.TheVariants.{Done, Unsolvable, Undecided}
 
--- what `plan` replies in a task with this ground task: the text of a correct policy certificate, whose rules are a solution
--- of the task, which then is solvable; the text of a correct refusal, and the task has no solution; or `undecided`, and more states are reachable
--- than the budget
+-- what `plan` replies in a task with this ground task: the text of a correct policy certificate, whose pairs and rules are
+-- lean, and whose rules are a solution of the task, which then is solvable; the text of a correct refusal, and the task has
+-- no solution; or `undecided`, and more states are reachable than the budget
 pub data AnswersPlan (task : LiftedTask) (game : Task) (budget : ℕ) : Reply → Type 0 where
   policy : (layers : List (List CubeView)) (pairs : List Pair) (rules : List Rule) (reach : ℕ) (text : List ℕ) → IsCertText game (Policy layers pairs rules reach) text
-      → IsRightPolicy game layers pairs rules reach → IsSolution task (rules_policy task game rules) → IsSolvable task → AnswersPlan task game budget (record { text = text; status = Done })
+      → IsRightPolicy game layers pairs rules reach → AreLean game layers pairs rules → IsSolution task (rules_policy task game rules) → IsSolvable task → AnswersPlan task game budget (record { text = text; status = Done })
   unsolvable : (layers : List (List CubeView)) (text : List ℕ) → IsCertText game (Refusal layers) text → IsRightRefusal game layers → ¬ IsSolvable task
       → AnswersPlan task game budget (record { text = text; status = Unsolvable })
   undecided : More task budget → AnswersPlan task game budget (line_reply (codes "undecided " ++ decimal budget) Undecided)

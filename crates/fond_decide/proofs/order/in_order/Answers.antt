@@ -10,6 +10,6 @@ returns c =
     let moved = c.in_ok-sort_by_key.ensures.permutation in
     record {
       each = λ place has. c.in_ok-places.ensures.each place (Contains-permutation after before place (IsPermutation-sym before after moved) has);
-      all = λ number choice is. Contains-permutation before after (record { rank = choice.rank; number = number }) moved (c.in_ok-places.ensures.all number choice is);
+      all = λ number choice is has. Contains-permutation before after (record { rank = choice.rank; number = number }) moved (c.in_ok-places.ensures.all number choice is has);
       rising = IsNonDecreasingBy-from_sort_by_key (λ (place : Place). place.rank) _ c.in_ok-sort_by_key.ensures.sorted (λ a r q k. search rules);
     }

@@ -5,9 +5,9 @@ use Rattle.fond_decide.specs.Places.{IsPlace}
 use Rattle.fond_decide.specs.declared.order.Place.{Place}
 use Rattle.fond_decide.proofs.order.places_of.Given as goal
 
--- the places of the choices so far
-abbrev pub invariant-loop-number : goal.invariant-loop-number
-invariant-loop-number l = record {
-  each : (place : Place) → Contains l.places.items place → IsPlace l.choices place;
-  all : (number : ℕ) (choice : ChoiceView) → number < l.number → slice_get l.choices number ≡ Some choice → Contains l.places.items (record { rank = choice.rank; number = number });
+-- the places of the choices in the states so far
+abbrev pub invariant-loop-at : goal.invariant-loop-at
+invariant-loop-at l = record {
+  each : (place : Place) → Contains l.places.items place → IsPlace l.plan.choices l.states place;
+  all : (k number : ℕ) (choice : ChoiceView) → k < l.at → slice_get l.states k ≡ Some choice.state → slice_get l.plan.choices number ≡ Some choice → Contains l.places.items (record { rank = choice.rank; number = number });
 }

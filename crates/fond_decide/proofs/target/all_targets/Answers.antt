@@ -1,12 +1,8 @@
-use Rattle.std.proofs.Common.{◌≡◌, ◌∙◌, ◌+◌, ◌<◌, ℕ, List, Bool, length, Some, [], ◌∷◌, ◌++◌, get_or, slice_get, length-append, refl, sym, ap, subst, ⊎_elim, arith}
-use Rattle.std.proofs.lemmas.Bool.{cases_lt}
-use Rattle.std.proofs.lemmas.Option.{same_Some, slice_get-get_or, slice_get_within}
-use Rattle.fond_task.specs.Steps.{next_state}
-use Rattle.fond_task.specs.declared.task.Act.{Act}
-use Rattle.fond_task.specs.declared.task.Entry.{Entry}
+use Rattle.std.proofs.Common.{◌≡◌, ◌∙◌, ◌+◌, ◌<◌, List, Bool, length, Some, [], ◌∷◌, get_or, slice_get, length-append, sym, ap, subst, ⊎_elim, arith}
+use Rattle.std.proofs.lemmas.Option.{slice_get-get_or}
 use Rattle.fond_check.proofs.Walking.{few_outcomes}
 use Rattle.fond_game.proofs.Lists.{Contains_numbered}
-use Rattle.fond_decide.specs.Targets.{IsCovered, LeadsTo}
+use Rattle.fond_decide.specs.Targets.{IsCovered, LeadsOn}
 use Rattle.fond_decide.proofs.Lists.{push_cases}
 use Rattle.fond_game.specs.declared.rule.Target.{Target}
 use Rattle.fond_decide.proofs.target.all_targets.Goals as goal
@@ -23,7 +19,7 @@ unreachable-requires c =
     let lt : k < length own.outcomes = omega (arith, c.loop-outcome-test.true, c.len-outcome-end.ensures) in
     let entries = get_or own.outcomes k [] in
     let there : slice_get own.outcomes k ≡ Some entries = slice_get-get_or own.outcomes k [] lt in
-    c.in_default.ensures (subst (λ (s : List Bool). IsCovered c.args.t.now c.args.states.now s) (sym (c.apply_into.ensures.next own entries c.get.ensures there))
+    c.in_default.ensures (subst (λ (s : List Bool). IsCovered c.args.t.now c.args.rules.now s) (sym (c.apply_into.ensures.next own entries c.get.ensures there))
     (c.requires.each own entries c.get.ensures (Contains_numbered own.outcomes k entries there)))
 
 pub loop-outcome-preserved : goal.loop-outcome-preserved
@@ -34,7 +30,7 @@ loop-outcome-preserved c = record {
       (λ was. c.loop-outcome.invariant.each act at target entries numbered was also)
       (λ last.
       let here : slice_get act.outcomes c.loop-outcome.outcome ≡ Some entries = ap (slice_get act.outcomes) (sym (last.0 ∙ c.loop-outcome.invariant.count)) ∙ also in
-      subst (λ (s : List Bool). LeadsTo c.args.t.now c.args.states.now s target) (c.apply_into.ensures.next act entries numbered here)
-      (subst (λ (t : Target). LeadsTo c.args.t.now c.args.states.now c.apply_into.new.out t) last.1 c.in-Some.ensures))
+      subst (λ (s : List Bool). LeadsOn c.args.t.now c.args.rules.now s target) (c.apply_into.ensures.next act entries numbered here)
+      (subst (λ (t : Target). LeadsOn c.args.t.now c.args.rules.now c.apply_into.new.out t) last.1 c.in-Some.ensures))
       (push_cases c.loop-outcome.targets c.in-Some.target at target (sym (ap (λ (ts : List Target). slice_get ts at) c.in_ok-push.ensures.ok) ∙ is));
 }

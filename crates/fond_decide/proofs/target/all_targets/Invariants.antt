@@ -1,9 +1,9 @@
-use Rattle.std.proofs.Common.{◌≡◌, ℕ, ◌<◌, length, slice_get, Some, List}
+use Rattle.std.proofs.Common.{◌≡◌, ℕ, length, slice_get, Some, List}
 use Rattle.fond_task.specs.Steps.{next_state}
 use Rattle.fond_task.specs.declared.task.Act.{Act}
 use Rattle.fond_task.specs.declared.task.Entry.{Entry}
 use Rattle.fond_game.specs.declared.rule.Target.{Target}
-use Rattle.fond_decide.specs.Targets.{LeadsTo}
+use Rattle.fond_decide.specs.Targets.{LeadsOn}
 use Rattle.fond_decide.proofs.target.all_targets.Given as goal
 
 -- there is a target for each outcome so far
@@ -12,5 +12,5 @@ invariant-loop-outcome l = record {
   long : length l.next ≡ length l.t.atoms;
   count : length l.targets ≡ l.outcome;
   each : (act : Act) (at : ℕ) (target : Target) (entries : List Entry) → slice_get l.t.acts l.act ≡ Some act → slice_get l.targets at ≡ Some target → slice_get act.outcomes at ≡ Some entries
-      → LeadsTo l.t l.states (next_state l.state entries) target;
+      → LeadsOn l.t l.rules (next_state l.state entries) target;
 }

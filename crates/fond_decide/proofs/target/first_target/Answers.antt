@@ -1,12 +1,10 @@
-use Rattle.std.proofs.Common.{◌≡◌, ◌∙◌, ◌+◌, ◌<◌, ℕ, List, Bool, length, Some, [], ◌∷◌, ◌++◌, get_or, slice_get, refl, sym, ap, subst, ⊎_elim, arith}
+use Rattle.std.proofs.Common.{◌≡◌, ◌∙◌, ◌<◌, List, Bool, length, Some, [], get_or, slice_get, sym, ap, subst, ⊎_elim, arith}
 use Rattle.std.proofs.lemmas.Bool.{cases_lt}
 use Rattle.std.proofs.lemmas.Option.{same_Some, slice_get-get_or, slice_get_within}
-use Rattle.fond_task.specs.Steps.{next_state}
 use Rattle.fond_task.specs.declared.task.Act.{Act}
-use Rattle.fond_task.specs.declared.task.Entry.{Entry}
 use Rattle.fond_check.proofs.Walking.{few_outcomes}
 use Rattle.fond_game.proofs.Lists.{number_of}
-use Rattle.fond_decide.specs.Targets.{IsCovered, LeadsTo}
+use Rattle.fond_decide.specs.Targets.{IsCovered, LeadsOn}
 use Rattle.fond_decide.proofs.target.first_target.Goals as goal
 
 pub overflow_cast-outcome : goal.overflow_cast-outcome
@@ -31,7 +29,7 @@ returns-in-Some-clause-targets c = λ act at fair.
       (
         entries,
         subst (λ (a : Act). slice_get a.outcomes k ≡ Some entries) same there,
-        subst (λ (s : List Bool). LeadsTo c.args.t.now c.args.states.now s c.in-Some.target) (c.apply_into.ensures.next own entries c.get.ensures there) c.in-Some.ensures,
+        subst (λ (s : List Bool). LeadsOn c.args.t.now c.args.rules.now s c.in-Some.target) (c.apply_into.ensures.next own entries c.get.ensures there) c.in-Some.ensures,
       ),
     )
 
@@ -43,7 +41,7 @@ loop-outcome-preserved c = record {
       (λ ge.
       let same : number ≡ c.loop-outcome.outcome = omega (arith, small, ge) in
       let here : slice_get act.outcomes c.loop-outcome.outcome ≡ Some entries = ap (slice_get act.outcomes) (sym same) ∙ is in
-      c.in_default.ensures (subst (λ (s : List Bool). IsCovered c.args.t.now c.args.states.now s) (sym (c.apply_into.ensures.next act entries at here)) is_covered))
+      c.in_default.ensures (subst (λ (s : List Bool). IsCovered c.args.t.now c.args.rules.now s) (sym (c.apply_into.ensures.next act entries at here)) is_covered))
       (cases_lt number c.loop-outcome.outcome);
 }
 

@@ -1,4 +1,4 @@
-use Rattle.std.proofs.Common.{◌≡◌, ◌∙◌, Bool, true, false, sym, ap}
+use Rattle.std.proofs.Common.{◌≡◌, ◌∙◌, sym, ap}
 use Rattle.std.proofs.lemmas.Option.{same_Some}
 use Rattle.fond_task.specs.declared.task.Act.{Act}
 use Rattle.fond_decide.proofs.target.targets_of.Goals as goal

@@ -2,7 +2,7 @@ use Rattle.fond_text.specs.Faults.{IsFirstAmong}
 use Rattle.fond_text.specs.declared.fault.Fault.{Fault}
 use Rattle.fond_tree.proofs.Short.{short_if_read}
 use Rattle.fond_front.specs.Tasks.{OccursInTrees}
-use Rattle.fond_front.proofs.Tasks.{domain_first, handed_on, problem_first, refuses_also, side_first}
+use Rattle.fond_front.proofs.Tasks.{domain_first, forms_clean, handed_on, problem_first, refuses_also, side_first}
 use Rattle.fond_front.proofs.declare.declare.Goals as goal
 
 pub returns-in_err-domain-clause-refused : goal.returns-in_err-domain-clause-refused
@@ -33,6 +33,7 @@ pub returns-clause-read : goal.returns-clause-read
 returns-clause-read c = record {
   trees = c.args.trees;
   read = c.requires;
+  clean = forms_clean c.args.texts.now c.args.trees c.in_ok-domain.ensures.clean c.in_ok-problem.ensures.clean (rw c.as_slice.ensures at c.in_ok-side.ensures.clean);
   domain = c.in_ok-domain.ensures.read;
   problem = c.in_ok-problem.ensures.read;
   side = rw c.as_slice.ensures at c.in_ok-side.ensures.read;

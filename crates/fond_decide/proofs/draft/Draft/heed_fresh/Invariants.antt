@@ -1,0 +1,16 @@
+use Rattle.std.proofs.Common.{◌≡◌, [], length}
+use Rattle.fond_game.specs.Layers.{AreSureLayers}
+use Rattle.fond_layers.specs.Over.{AreOver}
+use Rattle.fond_decide.specs.Drafts.{AreFitting}
+use Rattle.fond_decide.proofs.draft.Draft.heed_fresh.Given as goal
+
+-- the pairs so far fit the layers, and so do the fresh ones
+abbrev pub invariant-loop-at : goal.invariant-loop-at
+invariant-loop-at l = record {
+  over : AreOver (length l.t.atoms) l.self.layers;
+  sure : AreSureLayers l.t l.self.layers;
+  pairs : AreFitting l.t l.self.layers l.self.pairs;
+  fresh : AreFitting l.t l.self.layers l.self.fresh.items;
+  rules : l.self.rules ≡ [];
+  same : l.self.fresh ≡ l.initial.self.fresh;
+}

@@ -1,0 +1,102 @@
+//! Policies in the making.
+
+ghost use Rattle.fond_decide.specs.Drafts.{IsDraft};
+ghost use Rattle.fond_explicit.specs.Answers.{AreStuck};
+ghost use Rattle.fond_game.specs.Certificates.{LiesInLayers};
+ghost use Rattle.std.specs.Prelude.{◌≡◌, ◌<◌, ◌-◌, ◌^◌, ◌∷◌, ◌++◌, [], List, Bool, length, IfOk, OnOk};
+
+use crate::append::append_layers;
+use fond_game::rule::{Pair, Rule};
+use fond_layers::layers::Layers;
+use fond_rules::pairs::Pairs;
+use fond_rules::rules::Rules;
+use fond_task::task::Task;
+use fond_text::fault::NoMemory;
+use std::alloc::Global;
+
+/// A policy in the making: layers, pairs that lead into them, and rules that contradict the pairs. Fresh pairs are those
+/// found since the rules were made, which the rules may not contradict. So many of the first rules are indexed.
+#[derive(Drop)]
+pub(crate) struct Draft {
+    pub(crate) layers: Layers,
+    pub(crate) pairs: Pairs,
+    pub(crate) fresh: Vec<Pair>,
+    pub(crate) rules: Rules,
+    indexed: u32,
+}
+
+/// A copy of a pair.
+fn copy_pair(alloc: Global, pair: &Pair) -> Result<Pair, NoMemory>
+    ensures { IfOk result (λ copy. copy ≡ pair.now) }
+{
+    Ok(Pair {
+        cond: pair.cond.copy(alloc)?,
+        act: pair.act,
+        outcome: pair.outcome,
+        layer: pair.layer,
+        cube: pair.cube,
+    })
+}
+
+impl Draft {
+    /// A draft without layers, pairs and rules.
+    pub(crate) fn new(alloc: Global, t: &Task) -> Draft
+        ensures { IsDraft t.now result }
+    {
+        Draft {
+            layers: Layers::new(alloc),
+            pairs: Pairs::new(alloc),
+            fresh: Vec::new(alloc),
+            rules: Rules::new(alloc),
+            indexed: 0,
+        }
+    }
+
+    /// Indexes all rules, once those that are not indexed are more than a small part of them.
+    fn keep_indexed(&mut self) -> Result<(), NoMemory>
+        ensures { self.new ≡ record self.old { indexed = self.new.indexed } }
+    {
+        let count = self.rules.len();
+        if count - self.indexed.min(count) > 64 + self.indexed / 32 {
+            self.rules.index()?;
+            self.indexed = count;
+        }
+        Ok(())
+    }
+
+    /// Adds a rule at the end.
+    pub(crate) fn push_rule(&mut self, rule: Rule) -> Result<(), NoMemory>
+        requires { length self.old.rules < 2 ^ 32 - 1 }
+        ensures { OnOk result (self.new ≡ record self.old { rules = self.old.rules ++ rule ∷ []; indexed = self.new.indexed }) }
+    {
+        self.keep_indexed()?;
+        self.rules.push(rule)?;
+        Ok(())
+    }
+
+    /// Appends layers that are stuck from some state.
+    pub(crate) fn learn(&mut self, alloc: Global, t: &Task, layers: &Layers) -> Result<(), NoMemory>
+        requires draft { IsDraft t.now self.old }
+        requires stuck { (from : List Bool) × (length from ≡ length t.now.atoms) × AreStuck t.now from layers.now }
+        ensures draft { OnOk result (IsDraft t.now self.new) }
+        ensures has { OnOk result ((state : List Bool) → LiesInLayers state layers.now → LiesInLayers state self.new.layers) }
+    {
+        append_layers(alloc, t, &mut self.layers, layers)?;
+        Ok(())
+    }
+
+    /// Makes the fresh pairs pairs, without any rules.
+    pub(crate) fn heed_fresh(&mut self, alloc: Global, t: &Task) -> Result<(), NoMemory>
+        requires { IsDraft t.now self.old }
+        ensures { OnOk result (IsDraft t.now self.new) }
+    {
+        self.rules = Rules::new(alloc);
+        self.indexed = 0;
+        for at in 0..self.fresh.len() {
+            let pair = copy_pair(alloc, &self.fresh[at])?;
+            self.pairs.push(pair)?;
+        }
+        self.fresh.clear();
+        Ok(())
+    }
+}
