@@ -2,7 +2,7 @@
 
 use crate::rows::{BLOCKS, BLOCKS_P, COIN, COIN_P, Row, check, check_plan, check_with};
 use crate::tasks::{
-    COIN_FILES, DETOUR_FILES, MIX_FILES, PIT_FILES, SWAP_FILES, UNFAIR_FILES, WON_FILES,
+    COIN_FILES, DETOUR_FILES, FROST_FILES, MIX_FILES, PIT_FILES, SWAP_FILES, UNFAIR_FILES, WON_FILES,
 };
 use fond_tool::laws::{correct_are_accepted, planned_are_accepted};
 use std::test::Fail;
@@ -20,13 +20,27 @@ const NAMES_FILES: [&str; 3] = [
 ];
 
 /// A name, the files of the task, the budget, and the status and the text of the answer.
-const ROWS: [(&str, [&str; 3], &str, u8, &str); 9] = [
+const ROWS: [(&str, [&str; 3], &str, u8, &str); 11] = [
     (
         "a goal that holds at once",
         WON_FILES,
         "1",
         0,
         "dualfond 1 policy\nreach 1\nend\n",
+    ),
+    (
+        "a coin",
+        COIN_FILES,
+        "10",
+        0,
+        "dualfond 1 policy\nrule (flip) fair 0 goal :\nreach 2\nend\n",
+    ),
+    (
+        "an outcome that leads to a pit where the rule is not meant",
+        FROST_FILES,
+        "100",
+        0,
+        "dualfond 1 policy\nlayer\ncube +(ice) +(pit) -(g)\ncube -(ice) +(pit) -(g)\npair (step) 1 0 0 : +(ice) -(g)\nrule (step) fair 0 goal : -(ice) -(pit)\nrule (salt) fair 0 0 : +(ice) -(pit)\nreach 3\nend\n",
     ),
     (
         "an opponent who never shows heads",
@@ -115,10 +129,11 @@ fn a_failing_write_is_a_write_fault(rt: HostRuntime) -> Result<(), Fail> {
 }
 
 /// The files of tasks, the status of `plan`, and the text of `check` for what it prints.
-const PLANNED: [([&str; 3], u8, &str); 7] = [
+const PLANNED: [([&str; 3], u8, &str); 8] = [
     (COIN_FILES, 0, "accepted policy lean\n"),
     (MIX_FILES, 0, "accepted policy lean\n"),
     (DETOUR_FILES, 0, "accepted policy lean\n"),
+    (FROST_FILES, 0, "accepted policy lean\n"),
     (PIT_FILES, 1, "accepted refusal\n"),
     (SWAP_FILES, 1, "accepted refusal\n"),
     (UNFAIR_FILES, 1, "accepted refusal\n"),

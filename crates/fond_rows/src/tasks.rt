@@ -27,6 +27,13 @@ const SWAP: &str =
 
 const SWAP_P: &str = "(define (problem s) (:domain swap) (:init (p)) (:goal (and (p) (q))))\n";
 
+const FROST: &str =
+    "(define (domain frost) (:predicates (ice) (pit) (g))\n(:action step :precondition (not (pit)) :effect (oneof (g) (and (when (ice) (pit)) (ice))))\n(:action salt :precondition (ice) :effect (not (ice))))\n";
+
+const FROST_P: &str = "(define (problem f) (:domain frost) (:goal (g)))\n";
+
+/// A step that leaves ice, and from ice may end in a pit.
+pub const FROST_FILES: [&str; 3] = [FROST, FROST_P, ""];
 /// The coin with a fair action.
 pub const COIN_FILES: [&str; 3] = [COIN, COIN_P, ""];
 /// The coin with an unfair action.

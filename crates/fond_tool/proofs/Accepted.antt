@@ -13,11 +13,17 @@ use Rattle.fond_check.proofs.Accepted.{right_accepted}
 use Rattle.fond_check.specs.Verdicts.{IsRight, IsVerdict}
 use Rattle.fond_check.specs.declared.verdict.Verdict.{Verdict}
 use Rattle.fond_check.specs.declared.verdict.Verdict.TheVariants.{Accepted}
-use Rattle.fond_tool.specs.Certified.{IsCertText}
-use Rattle.fond_tool.specs.Checks.{AnswersCheck, IsFault, verdict_reply}
-use Rattle.fond_tool.specs.Laws.{IsCertStatus, accepted_reply}
-use Rattle.fond_tool.specs.Plans.{AnswersPlan}
+use Rattle.fond_front.specs.declared.texts.TaskTexts.{TaskTexts}
+use Rattle.fond_same.proofs.OneTaskOfTexts.{texts_have_one_task_lem}
+use Rattle.fond_same.proofs.SameGround.{ground_of_same}
+use Rattle.fond_same.proofs.SameTask.{alike, same_ground}
+use Rattle.fond_same.specs.Alike.{AreAlike}
+use Rattle.fond_tool.specs.Certified.{DescribeGround, IsCertText, TaskReply}
+use Rattle.fond_tool.specs.Checks.{AnswersCheck, CheckReply, IsFault, verdict_reply}
+use Rattle.fond_tool.specs.Laws.{CorrectAreAccepted, IsCertStatus, PlannedAreAccepted, accepted_reply}
+use Rattle.fond_tool.specs.Plans.{AnswersPlan, PlanReply}
 use Rattle.fond_tool.specs.Replies.{Reply}
+use Rattle.fond_tool.proofs.Refused.{not_refused}
 use Rattle.fond_tool.specs.declared.status.Status.TheVariants.{Done}
 
 module _ (task : LiftedTask) (game : Task) where
@@ -34,14 +40,42 @@ module _ (task : LiftedTask) (game : Task) where
       let accepted = right_accepted game cert verdict right (subst (λ (c : Cert). IsVerdict game c verdict) same found) in
       absurd (subst IsFault accepted.1 fault)
 
-  pub correct : (cert : Cert) (text : List ℕ) (reply : Reply) → IsCertText game cert text → IsRight game cert → AnswersCheck task game text reply → reply.status ≡ Done
-  correct cert text reply is right answers = ap (λ (r : Reply). r.status) (correct_reply cert text reply is right answers).2
+-- a certificate of one ground task of a task is one of each ground task of a task that is the same
+module _ (game another : Task) (alike : AreAlike game another) where
+  text_alike : (cert : Cert) (text : List ℕ) → IsCertText game cert text → IsCertText another cert text
+  text_alike cert text is = (alike.belongs cert is.0, is.1, is.2 ∙ alike.spelled cert)
 
-  -- the text of a certificate that is planned is accepted, and a policy as lean
-  pub planned : (budget : ℕ) (printed reply : Reply) → AnswersPlan task game budget printed → IsCertStatus printed.status → AnswersCheck task game printed.text reply → reply ≡ accepted_reply printed.status
-  planned budget printed reply (AnswersPlan.policy layers pairs rules reach text is right lean solves has) status answers =
-      let found = correct_reply (Policy layers pairs rules reach) text reply is right answers in
-      let is_lean : found.0 ≡ true = found.1.1.1 lean in
-      found.2 ∙ ap (λ (b : Bool). verdict_reply game (Policy layers pairs rules reach) (Accepted b)) is_lean
-  planned budget printed reply (AnswersPlan.unsolvable layers text is right none) status answers = (correct_reply (Refusal layers) text reply is right answers).2
-  planned budget printed reply (AnswersPlan.undecided more) status answers = absurd status
+module _ (texts : TaskTexts) where
+  -- two ground tasks of the task that three texts describe are alike
+  both_alike : (task other : LiftedTask) (game another : Task) → DescribeGround texts task game → DescribeGround texts other another → AreAlike game another
+  both_alike task other game another one two = alike game another (same_ground other game another (ground_of_same task other game (texts_have_one_task_lem texts task other one.0.0 two.0.0) one.1) two.1)
+
+  -- each reply of `check` to the text of a correct certificate is that of the verdict that it is accepted
+  reply_to : (task : LiftedTask) (game : Task) (cert : Cert) (text : List ℕ) (reply : Reply) → DescribeGround texts task game → IsCertText game cert text → IsRight game cert → CheckReply texts text reply
+      → (another : Task) × AreAlike game another × (lean : Bool) × IsVerdict another cert (Accepted lean) × (reply ≡ verdict_reply another cert (Accepted lean))
+  reply_to task game cert text reply described is right (TaskReply.refused fault refusal) = absurd (not_refused texts task fault described.0 refusal)
+  reply_to task game cert text reply described is right (TaskReply.answered other another same also answers) =
+      let agree = both_alike task other game another described also in
+      let found = correct_reply other another cert text reply (text_alike game another agree cert text is) (agree.right cert right) answers in
+      (another, agree, found.0, found.1, found.2)
+
+pub correct : CorrectAreAccepted
+correct texts task game cert text reply described is right answers =
+    let found = reply_to texts task game cert text reply described is right answers in
+    ap (λ (r : Reply). r.status) found.4
+
+module _ (texts : TaskTexts) (task : LiftedTask) (game : Task) (described : DescribeGround texts task game) where
+  planned_by : (budget : ℕ) (printed reply : Reply) → AnswersPlan task game budget printed → IsCertStatus printed.status → CheckReply texts printed.text reply → reply ≡ accepted_reply printed.status
+  planned_by budget printed reply (AnswersPlan.policy layers pairs rules reach text is right lean solves has) status answers =
+      let found = reply_to texts task game (Policy layers pairs rules reach) text reply described is right answers in
+      let is_lean : found.2 ≡ true = found.3.1.1 (found.1.lean layers pairs rules lean) in
+      found.4 ∙ ap (λ (b : Bool). verdict_reply found.0 (Policy layers pairs rules reach) (Accepted b)) is_lean
+  planned_by budget printed reply (AnswersPlan.unsolvable layers text is right none) status answers = (reply_to texts task game (Refusal layers) text reply described is right answers).4
+  planned_by budget printed reply (AnswersPlan.undecided more) status answers = absurd status
+
+planned_of : (texts : TaskTexts) (budget : ℕ) (printed reply : Reply) → TaskReply texts (λ task game. AnswersPlan task game budget) printed → IsCertStatus printed.status → CheckReply texts printed.text reply → reply ≡ accepted_reply printed.status
+planned_of texts budget printed reply (TaskReply.refused fault refusal) status answers = absurd status
+planned_of texts budget printed reply (TaskReply.answered task game same described answered) status answers = planned_by texts task game described budget printed reply answered status answers
+
+pub planned : PlannedAreAccepted
+planned texts word printed reply answered status answers = planned_of texts answered.0 printed reply answered.2 status answers

@@ -5,6 +5,7 @@ mod Ends
 mod Fitting
 mod Lists
 mod Planned
+mod Refused
 mod Rejections
 mod Runs
 mod Solvable

@@ -2,12 +2,12 @@
 
 ghost use Rattle.fond_tool.specs.Laws.{CorrectAreAccepted, PlannedAreAccepted};
 
-/// `check` accepts the text of each correct certificate.
+/// `check` accepts the text of each correct certificate of the task that its files describe.
 pub fn correct_are_accepted()
     ensures { CorrectAreAccepted }
 {}
 
-/// `check` accepts each certificate that `plan` prints, in the same task with the same ground task.
+/// `check` accepts each certificate that `plan` prints for the same files, and each such policy as lean.
 pub fn planned_are_accepted()
     ensures { PlannedAreAccepted }
 {}

@@ -2,4 +2,4 @@ use Rattle.fond_tool.proofs.Accepted.{correct}
 use Rattle.fond_tool.proofs.laws.correct_are_accepted.Goals as goal
 
 pub returns : goal.returns
-returns c = λ task game. correct task game
+returns c = correct

@@ -1,0 +1,4 @@
+pub mod Read
+pub mod Lifted
+pub mod Alike
+pub mod Laws
