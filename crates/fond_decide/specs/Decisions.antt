@@ -16,7 +16,7 @@ abbrev pub IsLean : Task → Cert → Type 0
 IsLean task (Policy layers pairs rules reach) = AreLean task layers pairs rules
 IsLean task (Refusal layers) = ⊤
 
--- a certificate of a task that is correct and lean
+-- a certificate belongs to a task, its numbers fit their types, and it is correct and lean
 pub record IsRightCert (task : Task) (cert : Cert) : Type 0 where
   pub belongs : Belongs task cert
   pub small : HasSmallNumbers cert

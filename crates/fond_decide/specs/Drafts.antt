@@ -11,7 +11,7 @@ use Rattle.fond_cert.specs.Sizes.{IsSmallPair}
 use Rattle.fond_decide.specs.Targets.{HasRule}
 use Rattle.fond_decide.specs.declared.draft.Draft.{Draft}
 
--- a pair fits some layers: it is lean beside them, and its numbers fit their types
+-- a pair fits some layers: it is over the atoms of the task, it is lean beside the layers, and its numbers fit their types
 pub record IsFitting (task : Task) (layers : List (List CubeView)) (pair : Pair) : Type 0 where
   pub over : length pair.cond ≡ length task.atoms
   pub lean : IsLeanPair task layers pair
@@ -35,7 +35,7 @@ pub record IsDraft (task : Task) (draft : Draft) : Type 0 where
   pub fresh : AreFitting task draft.layers draft.fresh.items
   pub rules : AreLeanRules task draft.pairs draft.rules
 
--- a draft has become another one in which a rule holds in a state, and in each state in which one held
+-- a draft has become another one of the task, in which a rule holds in a state, and in each state in which one held
 pub record IsRuledIn (task : Task) (state : List Bool) (before after : Draft) : Type 0 where
   pub has : HasRule after.rules state
   pub kept : (other : List Bool) → HasRule before.rules other → HasRule after.rules other

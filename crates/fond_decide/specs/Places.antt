@@ -24,7 +24,7 @@ pub record AreInOrder (choices : List ChoiceView) (states : List (List Bool)) (p
   pub all : HavePlaces choices states places
   pub rising : IsNonDecreasingBy (λ place. place.rank) places
 
--- in the states of the choices at the first places, this many, a rule holds
+-- a rule holds in the state of the choice at each of the first places, this many
 abbrev pub HavePlaced : List ChoiceView → List Place → ℕ → List Rule → Type 0
 HavePlaced choices places done rules =
     (number : ℕ) (place : Place) (choice : ChoiceView) → number < done → slice_get places number ≡ Some place → slice_get choices place.number ≡ Some choice → HasRule rules choice.state

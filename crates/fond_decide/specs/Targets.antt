@@ -26,7 +26,7 @@ HasRule rules state = (number : ℕ) × HoldsIn rules number state
 abbrev pub IsCovered : Task → List Rule → List Bool → Type 0
 IsCovered task rules state = IsGoal task state ⊎ HasRule rules state
 
--- a target leads on from a state: the goal from a state that is one, and a rule from a state in which it holds
+-- a target leads on from a state: the target `goal` from a goal, and a rule from a state in which it holds
 abbrev pub LeadsOn : Task → List Rule → List Bool → Target → Type 0
 LeadsOn task rules state Goal = IsGoal task state
 LeadsOn task rules state (ToRule number) = HoldsIn rules number state

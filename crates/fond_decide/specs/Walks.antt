@@ -14,11 +14,11 @@ use Rattle.fond_decide.specs.Targets.{HasRule}
 use Rattle.fond_decide.specs.declared.draft.Draft.{Draft}
 use Rattle.fond_decide.specs.declared.walk.Step.{Step}
 
--- states are those of a walk: they are reachable by some actions
+-- states are reachable from the initial state, by any actions
 abbrev pub AreReachable : Task → List (List Bool) → Type 0
 AreReachable task states = (state : List Bool) → Contains states state → IsReachable task task.init state
 
--- the action of a step is applicable in its state, which is reachable and no goal
+-- the action of a step is applicable in its state, which is reachable and no goal, and its next state is over the atoms
 pub record IsOutset (task : Task) (step : Step) : Type 0 where
   pub reachable : IsReachable task task.init step.state
   pub open_ : ¬ IsGoal task step.state

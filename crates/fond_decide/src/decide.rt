@@ -45,7 +45,7 @@ fn read_count(rules: &Rules)
     let _count = rules.len();
 }
 
-/// The certificate of layers that have the initial state.
+/// The refusal of stuck layers, one of which has the initial state.
 fn refusal_of(t: &Task, layers: Layers) -> Cert
     requires stuck { AreStuck t.now t.now.init layers }
     requires lies { LiesInLayers t.now.init layers }
@@ -93,7 +93,7 @@ fn finished(alloc: Global, t: &Task, draft: &mut Draft) -> Result<Option<u32>, N
 
 /// Decides a task in which choices win from the initial state. Walks through the states that the rules reach, adding rules
 /// where none holds, and begins again without rules whenever the walk barred an action, until a rule holds in each reached
-/// state. Each round but the last bars an action in a reachable state; memory is said to have run out after 2^32 - 1 rounds.
+/// state. Memory is said to have run out after 2^32 - 1 rounds.
 fn decide_won(alloc: Global, t: &Task, choices: Choices, budget: u32) -> Result<Decision, NoMemory>
     requires few { budget ≤ 1000000 }
     requires winning { AreWinning t.now t.now.init choices }
@@ -114,10 +114,10 @@ fn decide_won(alloc: Global, t: &Task, choices: Choices, budget: u32) -> Result<
     Err(NoMemory)
 }
 
-/// Decides a task within a budget of opened states: a correct and lean certificate of a policy, or one of unsolvability, or
-/// that more states are reachable than the budget. Takes the time of `solve`, once for the initial state and once for each
-/// reached state about which the earlier ones say nothing, and that of a walk through the states that the policy reaches,
-/// once more whenever the walk finds actions to bar.
+/// Decides a task within a budget of opened states: a correct and lean certificate of a policy, or a correct one of
+/// unsolvability, or that more states are reachable than the budget. Takes the time of `solve`, once for the initial state and
+/// once for each reached state without a rule that no earlier choices list and that lies in no layer that was kept, and that of
+/// a walk through the states that the policy reaches, once more after each walk that bars actions.
 pub fn decide(alloc: Global, t: &Task, budget: u32) -> Result<Decision, NoMemory>
     requires { budget ≤ 1000000 }
     ensures { IfOk result (IsDecision t.now budget) }

@@ -3,7 +3,8 @@
 ghost use Rattle.fond_decide.specs.Drafts.{IsDraft};
 ghost use Rattle.fond_explicit.specs.Answers.{AreStuck};
 ghost use Rattle.fond_game.specs.Certificates.{LiesInLayers};
-ghost use Rattle.std.specs.Prelude.{◌≡◌, ◌<◌, ◌-◌, ◌^◌, ◌∷◌, ◌++◌, [], List, Bool, length, IfOk, OnOk};
+ghost use Rattle.fond_game.specs.declared.rule.Pair.{Pair};
+ghost use Rattle.std.specs.Prelude.{◌≡◌, ◌<◌, ◌-◌, ◌^◌, ◌∷◌, ◌++◌, [], List, Bool, length, Contains, IfOk, OnOk};
 
 use crate::append::append_layers;
 use fond_game::rule::{Pair, Rule};
@@ -14,8 +15,9 @@ use fond_task::task::Task;
 use fond_text::fault::NoMemory;
 use std::alloc::Global;
 
-/// A policy in the making: layers, pairs that lead into them, and rules that contradict the pairs. Fresh pairs are those
-/// found since the rules were made, which the rules may not contradict. So many of the first rules are indexed.
+/// A policy in the making: layers, pairs that lead into them, and rules, each of which contradicts the pairs of its action.
+/// Fresh pairs were found while these rules were made, which need not contradict them. At least the first `indexed` rules
+/// are indexed.
 #[derive(Drop)]
 pub(crate) struct Draft {
     pub(crate) layers: Layers,
@@ -57,7 +59,7 @@ impl Draft {
         ensures { self.new ≡ record self.old { indexed = self.new.indexed } }
     {
         let count = self.rules.len();
-        if count - self.indexed.min(count) > 64 + self.indexed / 32 {
+        if count - self.indexed.min(count) > 64 + self.indexed / 16 {
             self.rules.index()?;
             self.indexed = count;
         }
@@ -85,10 +87,12 @@ impl Draft {
         Ok(())
     }
 
-    /// Makes the fresh pairs pairs, without any rules.
+    /// Moves the fresh pairs to the pairs, and drops all rules.
     pub(crate) fn heed_fresh(&mut self, alloc: Global, t: &Task) -> Result<(), NoMemory>
         requires { IsDraft t.now self.old }
-        ensures { OnOk result (IsDraft t.now self.new) }
+        ensures draft { OnOk result (IsDraft t.now self.new) }
+        ensures none { OnOk result (self.new.fresh.items ≡ []) }
+        ensures moved { OnOk result ((pair : Pair) → Contains self.old.fresh.items pair → Contains self.new.pairs pair) }
     {
         self.rules = Rules::new(alloc);
         self.indexed = 0;

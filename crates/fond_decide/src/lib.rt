@@ -2,8 +2,8 @@
 //! The task is solved by opening its states (fond_explicit). The choices that win become lean rules in the order of their
 //! ranks (`make`), for the initial state and those below it. A walk through the states that the rules reach (`walk`) finds
 //! those in which no rule holds: each gets rules, from the choices that are known or from solving the task from it, or, if
-//! it is lost, its layers and a pair that bars the action that led there. Rules are made again beside new pairs until the
-//! walk finds no such state.
+//! it is lost, its layers and a pair that bars the action that led there. Whenever a walk barred an action, all rules are made
+//! again beside the new pairs.
 #![tactic(auto)]
 
 mod append;

@@ -78,9 +78,9 @@ fn place(
     add_rule(alloc, t, draft, pick, next)
 }
 
-/// Adds rules until one holds in the state of the choice of this number: for the choices below it in whose states no rule
-/// holds yet, in the order of their ranks, so that each target of a rule is one before it. Takes time in the number of
-/// these choices and of their outcomes times that of atoms, and for each rule that of `lean_condition`.
+/// Adds rules until one holds in the state of the choice of this number: for this choice and those below it in whose states
+/// no rule holds yet, in the order of their ranks, so that each target is the goal or a rule before. Takes time in the number
+/// of these choices and of their outcomes times that of atoms, and for each rule that of `lean_condition`.
 pub(crate) fn make_rules(
     alloc: Global,
     t: &Task,

@@ -85,7 +85,7 @@ fn all_targets(
     Ok(Targets::All(targets))
 }
 
-/// The targets of an action in a state, which it has. Takes time in the number of outcomes times that of the atoms. `next`
+/// The targets of an action that has some in a state. Takes time in the number of outcomes times that of the atoms. `next`
 /// is overwritten.
 pub(crate) fn targets_of(
     alloc: Global,

@@ -161,7 +161,7 @@ fn make_won(
 
 /// Finds out about the next state of a step, which is no goal and in which no rule holds: by a layer, by a plan, or by
 /// solving the task from it. If it is won, rules are added until one holds in it; if it is lost, it lies in a layer
-/// afterwards, and the action of the step is barred. Returns false if neither is found within the budget.
+/// afterwards, and the action of the step is barred. Returns false only if more than `budget` states are reachable.
 fn settle(
     alloc: Global,
     t: &Task,
@@ -201,7 +201,8 @@ fn settle(
     }
 }
 
-/// Takes a step, and adds its next state to the states unless it is a goal.
+/// Takes a step: adds its next state to the states unless it is a goal, and settles it if no rule holds in it. Returns false
+/// only if more than `budget` states are reachable.
 fn take(
     alloc: Global,
     t: &Task,
@@ -235,7 +236,8 @@ fn take(
     Ok(within)
 }
 
-/// Takes the steps of the action of a step's state.
+/// Takes the step of each outcome of a step's action in its state. Returns false only if more than `budget` states are
+/// reachable.
 fn take_all(
     alloc: Global,
     t: &Task,
@@ -267,7 +269,8 @@ fn take_all(
     Ok(true)
 }
 
-/// Takes the steps out of a state by the rule that holds in it first, unless it is a goal.
+/// Takes the steps out of a state by the first rule that holds in it, unless it is a goal. Returns false only if more than
+/// `budget` states are reachable.
 fn visit(
     alloc: Global,
     t: &Task,
@@ -316,8 +319,8 @@ fn begin(alloc: Global, t: &Task, draft: &mut Draft, plans: &[Plan]) -> Result<(
     Ok(())
 }
 
-/// Walks through the states that the rules reach. In those in which no rule held a rule holds now, unless they are lost, in
-/// which case a fresh pair bars the action that led there. Returns false if more than `budget` states are reachable.
+/// Walks through the states that the rules reach, and settles each in which no rule holds: rules are added, or a fresh pair
+/// bars the action that led there. Returns false only if more than `budget` states are reachable.
 pub(crate) fn walk(
     alloc: Global,
     t: &Task,

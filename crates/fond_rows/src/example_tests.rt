@@ -87,18 +87,38 @@ const ZENO_P: &str =
 /// The files of the example problems, the status of `plan`, and the text of `check` for what it prints.
 const EXAMPLES: [([&str; 3], u8, &str); 15] = [
     ([BLOCKS, BLOCKS_P, ""], 0, "accepted policy lean\n"),
-    ([DIALOGUE, DIALOGUE_P, "ask\nconfirm\n"], 0, "accepted policy lean\n"),
+    (
+        [DIALOGUE, DIALOGUE_P, "ask\nconfirm\n"],
+        0,
+        "accepted policy lean\n",
+    ),
     ([DOORS, DOORS_P, "go\n"], 0, "accepted policy lean\n"),
     ([ELEVATORS, ELEVATORS_P, ""], 0, "accepted policy lean\n"),
     ([FAULTS, FAULTS_P, "perform\n"], 1, "accepted refusal\n"),
-    ([FAULTS, FAULTS_2_P, "perform\n"], 0, "accepted policy lean\n"),
-    ([FIRST_RESPONDERS, FIRST_RESPONDERS_P, ""], 0, "accepted policy lean\n"),
+    (
+        [FAULTS, FAULTS_2_P, "perform\n"],
+        0,
+        "accepted policy lean\n",
+    ),
+    (
+        [FIRST_RESPONDERS, FIRST_RESPONDERS_P, ""],
+        0,
+        "accepted policy lean\n",
+    ),
     ([FOREST, FOREST_P, "push\n"], 0, "accepted policy lean\n"),
     ([ISLANDS, ISLANDS_P, "swim\n"], 0, "accepted policy lean\n"),
     ([ISLANDS, ISLANDS_2_P, "swim\n"], 1, "accepted refusal\n"),
     ([MINER, MINER_P, ""], 0, "accepted policy lean\n"),
-    ([SPIKY_TIRE, SPIKY_TIRE_P, "drive\n"], 0, "accepted policy lean\n"),
-    ([SPIKY_TIRE, SPIKY_TIRE_2_P, "drive\n"], 1, "accepted refusal\n"),
+    (
+        [SPIKY_TIRE, SPIKY_TIRE_P, "drive\n"],
+        0,
+        "accepted policy lean\n",
+    ),
+    (
+        [SPIKY_TIRE, SPIKY_TIRE_2_P, "drive\n"],
+        1,
+        "accepted refusal\n",
+    ),
     ([TIRE, TIRE_P, ""], 0, "accepted policy lean\n"),
     ([ZENO, ZENO_P, ""], 0, "accepted policy lean\n"),
 ];

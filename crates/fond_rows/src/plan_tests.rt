@@ -2,9 +2,10 @@
 
 use crate::rows::{BLOCKS, BLOCKS_P, COIN, COIN_P, Row, check, check_plan, check_with};
 use crate::tasks::{
-    COIN_FILES, DETOUR_FILES, FROST_FILES, MIX_FILES, PIT_FILES, SWAP_FILES, UNFAIR_FILES, WON_FILES,
+    COIN_FILES, DETOUR_FILES, FROST_FILES, MIX_FILES, PIT_FILES, SWAP_FILES, UNFAIR_FILES,
+    WON_FILES,
 };
-use fond_tool::laws::{correct_are_accepted, planned_are_accepted};
+use fond_tool::laws::{correct_are_accepted, planned_are_accepted, small_tasks_are_decided};
 use std::test::Fail;
 
 const IDLE_FILES: [&str; 3] = [
@@ -152,4 +153,5 @@ fn plans_are_accepted(rt: HostRuntime) -> Result<(), Fail> {
 fn laws_of_replies_can_be_called() {
     correct_are_accepted();
     planned_are_accepted();
+    small_tasks_are_decided();
 }

@@ -39,8 +39,8 @@ pub record IsSameTask (game other : Task) : Type 0 where
   pub goal : HaveSameValues game.goal other.goal
   pub labels : game.labels ≡ other.labels
 
--- what a certificate is in one ground task, it is in the other: it is spelled alike, and it belongs to it, is correct and is
--- lean if it does or is so there
+-- each certificate has the same text in both ground tasks; and if it belongs to the first, is correct there or lean there, it is
+-- so in the second
 pub record AreAlike (game other : Task) : Type 0 where
   pub spelled : (cert : Cert) → spelling game cert ≡ spelling other cert
   pub belongs : (cert : Cert) → Belongs game cert → Belongs other cert

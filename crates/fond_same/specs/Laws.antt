@@ -7,7 +7,7 @@ use Rattle.fond_task.specs.declared.task.Task.{Task}
 use Rattle.fond_same.specs.Alike.{AreAlike}
 use Rattle.fond_same.specs.Lifted.{IsSameLifted}
 
--- three texts are read as one task, up to addresses and capacities
+-- three texts are read as at most one task, up to addresses and capacities
 abbrev pub TextsHaveOneTask : Type 0
 TextsHaveOneTask = (texts : TaskTexts) (task other : LiftedTask) → IsTaskOf texts task → IsTaskOf texts other → IsSameLifted task other
 

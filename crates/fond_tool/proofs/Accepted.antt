@@ -1,5 +1,5 @@
 -- `check` accepts correct certificates, and what `plan` prints.
-use Rattle.std.proofs.Common.{◌≡◌, ◌∙◌, ℕ, Bool, true, List, refl, sym, ap, subst}
+use Rattle.std.proofs.Common.{inl, inr, ◌≡◌, ◌∙◌, ◌⊎◌, ℕ, Bool, true, List, [], ◌∷◌, refl, sym, ap, subst}
 use Rattle.fond_ast.specs.declared.task.LiftedTask.{LiftedTask}
 use Rattle.fond_task.specs.declared.task.Task.{Task}
 use Rattle.fond_cert.proofs.OneCert.{one_cert}
@@ -11,7 +11,6 @@ use Rattle.fond_cert.specs.declared.cert.Cert.{Cert}
 use Rattle.fond_cert.specs.declared.cert.Cert.TheVariants.{Policy, Refusal}
 use Rattle.fond_check.proofs.Accepted.{right_accepted}
 use Rattle.fond_check.specs.Verdicts.{IsRight, IsVerdict}
-use Rattle.fond_check.specs.declared.verdict.Verdict.{Verdict}
 use Rattle.fond_check.specs.declared.verdict.Verdict.TheVariants.{Accepted}
 use Rattle.fond_front.specs.declared.texts.TaskTexts.{TaskTexts}
 use Rattle.fond_same.proofs.OneTaskOfTexts.{texts_have_one_task_lem}
@@ -20,11 +19,17 @@ use Rattle.fond_same.proofs.SameTask.{alike, same_ground}
 use Rattle.fond_same.specs.Alike.{AreAlike}
 use Rattle.fond_tool.specs.Certified.{DescribeGround, IsCertText, TaskReply}
 use Rattle.fond_tool.specs.Checks.{AnswersCheck, CheckReply, IsFault, verdict_reply}
-use Rattle.fond_tool.specs.Laws.{CorrectAreAccepted, IsCertStatus, PlannedAreAccepted, accepted_reply}
-use Rattle.fond_tool.specs.Plans.{AnswersPlan, PlanReply}
+use Rattle.fond_tool.specs.Laws.{CorrectAreAccepted, IsCertStatus, PlannedAreAccepted, SmallTasksAreDecided, accepted_reply}
+use Rattle.fond_bridge.proofs.Between.{ground-tasks-agree}
+use Rattle.fond_ground.specs.Grounds.{IsGroundOf}
+use Rattle.fond_meaning.specs.Solutions.{IsSolvable, More}
+use Rattle.fond_tool.specs.Commands.{CommandReply}
+use Rattle.fond_tool.specs.Plans.{AnswersPlan}
+use Rattle.fond_tool.specs.Tasks.{Describe}
+use Rattle.fond_tool.specs.declared.words.Command.TheVariants.{Plan}
 use Rattle.fond_tool.specs.Replies.{Reply}
 use Rattle.fond_tool.proofs.Refused.{not_refused}
-use Rattle.fond_tool.specs.declared.status.Status.TheVariants.{Done}
+use Rattle.fond_tool.specs.declared.status.Status.TheVariants.{Done, Unsolvable}
 
 module _ (task : LiftedTask) (game : Task) where
   -- the text of a correct certificate is accepted
@@ -77,5 +82,38 @@ planned_of : (texts : TaskTexts) (budget : ℕ) (printed reply : Reply) → Task
 planned_of texts budget printed reply (TaskReply.refused fault refusal) status answers = absurd status
 planned_of texts budget printed reply (TaskReply.answered task game same described answered) status answers = planned_by texts task game described budget printed reply answered status answers
 
+-- a reply of `plan` is one to a budget
+planned_given : (given : List (List ℕ)) (domain problem side : List ℕ) (printed : Reply) → CommandReply Plan given (domain ∷ problem ∷ side ∷ []) printed
+    → (budget : ℕ) × TaskReply (record { domain = domain; problem = problem; side = side }) (λ task game. AnswersPlan task game budget) printed
+planned_given [] domain problem side printed never = absurd never
+planned_given (a ∷ []) domain problem side printed never = absurd never
+planned_given (a ∷ b ∷ []) domain problem side printed never = absurd never
+planned_given (a ∷ b ∷ c ∷ []) domain problem side printed never = absurd never
+planned_given (a ∷ b ∷ c ∷ budget ∷ []) domain problem side printed answered = (answered.0, answered.2)
+planned_given (a ∷ b ∷ c ∷ d ∷ e ∷ rest) domain problem side printed never = absurd never
+
 pub planned : PlannedAreAccepted
-planned texts word printed reply answered status answers = planned_of texts answered.0 printed reply answered.2 status answers
+planned given other domain problem side printed reply answered status answers =
+    let for = planned_given given domain problem side printed answered in
+    planned_of (record { domain = domain; problem = problem; side = side }) for.0 printed reply for.1 status answers
+
+module _ (texts : TaskTexts) (task : LiftedTask) (budget : ℕ) (described : Describe texts task) (few : ¬ More task budget) where
+  abbrev Decided : Reply → Type 0
+  Decided reply = ((reply.status ≡ Done) × IsSolvable task) ⊎ ((reply.status ≡ Unsolvable) × (¬ IsSolvable task))
+
+  -- a task with the same ground task agrees
+  decided_by : (other : LiftedTask) (game : Task) (reply : Reply) → IsGroundOf other game → IsGroundOf task game → AnswersPlan other game budget reply → Decided reply
+  decided_by other game reply is same (AnswersPlan.policy layers pairs rules reach text cert right lean solves has) =
+      inl (refl, (ground-tasks-agree task game same).solvable.0 ((ground-tasks-agree other game is).solvable.1 has))
+  decided_by other game reply is same (AnswersPlan.unsolvable layers text cert right none) =
+      inr (refl, λ solvable. none ((ground-tasks-agree other game is).solvable.0 ((ground-tasks-agree task game same).solvable.1 solvable)))
+  decided_by other game reply is same (AnswersPlan.undecided more) =
+      absurd (few (((ground-tasks-agree task game same).more budget).0 (((ground-tasks-agree other game is).more budget).1 more)))
+
+  small_decided : (reply : Reply) → TaskReply texts (λ task game. AnswersPlan task game budget) reply → Decided reply
+  small_decided reply (TaskReply.refused fault refusal) = absurd (not_refused texts task fault described refusal)
+  small_decided reply (TaskReply.answered other game same also answers) =
+      decided_by other game reply also.1 (ground_of_same other task game (texts_have_one_task_lem texts other task also.0.0 described.0) also.1) answers
+
+pub decided : SmallTasksAreDecided
+decided texts task budget reply described few answers = small_decided texts task budget described few reply answers

@@ -18,7 +18,7 @@ use Rattle.fond_check.specs.declared.verdict.Verdict.{Verdict}
 use Rattle.fond_check.specs.declared.verdict.Verdict.TheVariants.{Accepted, Rule, Pair, LayerGoal, LayerAct, NoRule, Count, Outside}
 use Rattle.fond_tool.specs.Certified.{TaskReply}
 use Rattle.fond_tool.specs.Checks.{AnswersCheck, CheckReply, verdict_status}
-use Rattle.fond_tool.specs.Plans.{AnswersPlan, PlanReply}
+use Rattle.fond_tool.specs.Plans.{AnswersPlan}
 use Rattle.fond_tool.specs.Runs.{AnswersRun, RunReply}
 use Rattle.fond_tool.specs.Successors.{AnswersAction, AnswersWord, SuccReply}
 

@@ -1,5 +1,5 @@
 -- What `plan` replies where it does not end with a refusal of its files.
-use Rattle.std.proofs.Common.{◌≡◌, ℕ, Bool, List, refl, sym, subst}
+use Rattle.std.proofs.Common.{◌≡◌, ℕ, refl, sym, subst}
 use Rattle.fond_ast.specs.declared.task.LiftedTask.{LiftedTask}
 use Rattle.fond_bridge.proofs.Between.{ground-tasks-agree}
 use Rattle.fond_cert.specs.Spellings.{spelling}

@@ -1,5 +1,5 @@
 -- Files that describe a task are not refused.
-use Rattle.std.proofs.Common.{inl, inr, ◌≡◌, ℕ}
+use Rattle.std.proofs.Common.{inl, inr, ℕ}
 use Rattle.fond_text.specs.declared.fault.Fault.{Fault}
 use Rattle.fond_text.specs.declared.place.FileKind.{FileKind}
 use Rattle.fond_text.specs.declared.place.FileKind.TheVariants.{Domain, Problem, Side}

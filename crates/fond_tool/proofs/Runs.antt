@@ -1,5 +1,5 @@
 -- What `run` replies where it does not end with a refusal of its files.
-use Rattle.std.proofs.Common.{◌≡◌, ℕ, ◌<◌, ◌∙◌, ◌++◌, Bool, true, false, List, [], length, refl, sym, ap, subst, true≢false}
+use Rattle.std.proofs.Common.{◌≡◌, ℕ, ◌<◌, ◌∙◌, ◌++◌, Bool, List, [], length, sym, ap, subst}
 use Rattle.std.proofs.lemmas.List.Elements.{All-nil}
 use Rattle.std.specs.Prelude.{if◌then◌else◌}
 use Rattle.fond_ast.specs.declared.task.LiftedTask.{LiftedTask}
@@ -18,14 +18,12 @@ use Rattle.fond_rules.specs.Belongs.{BelongTo}
 use Rattle.fond_exec.specs.Traces as steps
 use Rattle.fond_game.specs.declared.rule.Rule.{Rule}
 use Rattle.fond_ground.specs.Grounds.{IsGroundOf}
-use Rattle.fond_ground.specs.Texts.{state_text}
 use Rattle.fond_meaning.specs.Truths.{holds}
 use Rattle.fond_meaning.proofs.Tested.{truth-is-tested}
 use Rattle.fond_exec.specs.declared.script.ScriptError.{ScriptError}
 use Rattle.fond_exec.specs.declared.script.ScriptError.TheVariants as script_error
 use Rattle.fond_exec.specs.Scripts.{IsScript, IsScriptFault, ScriptRefuses}
 use Rattle.fond_task.specs.declared.task.Task.{Task}
-use Rattle.fond_task.specs.Texts as ground_texts
 use Rattle.fond_task.specs.Truth.{is_true}
 use Rattle.fond_task.proofs.Indices.{length-by_index}
 use Rattle.fond_tool.specs.declared.status.Status.TheVariants.{Done, Stopped}

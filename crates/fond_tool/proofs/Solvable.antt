@@ -10,7 +10,7 @@ use Rattle.std.proofs.lemmas.Option.{none-some}
 use Rattle.fond_play.specs.Games.{start, onward}
 use Rattle.fond_game.specs.Certificates.{ReachesCount}
 use Rattle.fond_game.specs.Policies.{IsFiniteMap, Policy, Reach}
-use Rattle.fond_game.specs.Solutions.{IsSolution, IsSolvable, IsTrap, StaysIn}
+use Rattle.fond_game.specs.Solutions.{IsSolution, IsSolvable}
 use Rattle.fond_meaning.proofs.Members.{Contains-from_Member, Member}
 use Rattle.fond_meaning.proofs.Tested.{some-member}
 use Rattle.fond_store.proofs.Kept.{missing}

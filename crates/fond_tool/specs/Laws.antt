@@ -1,14 +1,18 @@
 -- The laws of replies.
-use Rattle.std.specs.Prelude.{◌≡◌, ℕ, List, ⊤, codes}
+use Rattle.std.specs.Prelude.{◌≡◌, ◌⊎◌, ℕ, List, [], ◌∷◌, ⊤, codes}
 use Rattle.fond_ast.specs.declared.task.LiftedTask.{LiftedTask}
 use Rattle.fond_task.specs.declared.task.Task.{Task}
 use Rattle.fond_cert.specs.declared.cert.Cert.{Cert}
 use Rattle.fond_check.specs.Verdicts.{IsRight}
 use Rattle.fond_front.specs.declared.texts.TaskTexts.{TaskTexts}
-use Rattle.fond_tool.specs.Certified.{DescribeGround, IsCertText}
+use Rattle.fond_meaning.specs.Solutions.{IsSolvable, More}
+use Rattle.fond_tool.specs.Certified.{DescribeGround, IsCertText, TaskReply}
 use Rattle.fond_tool.specs.Checks.{CheckReply}
-use Rattle.fond_tool.specs.Plans.{PlanReply}
+use Rattle.fond_tool.specs.Commands.{CommandReply}
+use Rattle.fond_tool.specs.Plans.{AnswersPlan}
+use Rattle.fond_tool.specs.Tasks.{Describe}
 use Rattle.fond_tool.specs.Replies.{Reply, line_reply}
+use Rattle.fond_tool.specs.declared.words.Command.TheVariants.{Check, Plan}
 use Rattle.fond_tool.specs.declared.status.Status.{Status}
 use Rattle.fond_tool.specs.declared.status.Status.TheVariants.{Done, Unsolvable}
 
@@ -29,7 +33,13 @@ abbrev pub CorrectAreAccepted : Type 0
 CorrectAreAccepted = (texts : TaskTexts) (task : LiftedTask) (game : Task) (cert : Cert) (text : List ℕ) (reply : Reply)
     → DescribeGround texts task game → IsCertText game cert text → IsRight game cert → CheckReply texts text reply → reply.status ≡ Done
 
--- each reply of `check` to three texts and to a certificate that `plan` prints for them is that it is accepted, and a policy as
--- lean
+-- for the same three files, the reply of `check` to a certificate that `plan` prints is that it is accepted, and a policy as lean
 abbrev pub PlannedAreAccepted : Type 0
-PlannedAreAccepted = (texts : TaskTexts) (budget : List ℕ) (planned reply : Reply) → PlanReply texts budget planned → IsCertStatus planned.status → CheckReply texts planned.text reply → reply ≡ accepted_reply planned.status
+PlannedAreAccepted = (given other : List (List ℕ)) (domain problem side : List ℕ) (planned reply : Reply) → CommandReply Plan given (domain ∷ problem ∷ side ∷ []) planned → IsCertStatus planned.status
+    → CommandReply Check other (domain ∷ problem ∷ side ∷ planned.text ∷ []) reply → reply ≡ accepted_reply planned.status
+
+-- if three texts describe a task of which no more states than the budget are reachable, each reply of `plan` is a certificate: of
+-- a policy if the task is solvable, and a refusal if it is not
+abbrev pub SmallTasksAreDecided : Type 0
+SmallTasksAreDecided = (texts : TaskTexts) (task : LiftedTask) (budget : ℕ) (reply : Reply) → Describe texts task → ¬ More task budget → TaskReply texts (λ task game. AnswersPlan task game budget) reply
+    → ((reply.status ≡ Done) × IsSolvable task) ⊎ ((reply.status ≡ Unsolvable) × (¬ IsSolvable task))

@@ -1,5 +1,5 @@
 -- What `plan` replies to the texts of its files and to its budget.
-use Rattle.std.specs.Prelude.{◌≡◌, ℕ, List, ◌++◌, codes}
+use Rattle.std.specs.Prelude.{ℕ, List, ◌++◌, codes}
 use Rattle.std.specs.Fmt.{decimal}
 use Rattle.fond_ast.specs.declared.task.LiftedTask.{LiftedTask}
 use Rattle.fond_meaning.specs.Solutions.{IsSolution, IsSolvable, More}

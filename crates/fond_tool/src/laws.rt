@@ -1,6 +1,6 @@
 //! The laws of replies, each the contract of a function with an empty body.
 
-ghost use Rattle.fond_tool.specs.Laws.{CorrectAreAccepted, PlannedAreAccepted};
+ghost use Rattle.fond_tool.specs.Laws.{CorrectAreAccepted, PlannedAreAccepted, SmallTasksAreDecided};
 
 /// `check` accepts the text of each correct certificate of the task that its files describe.
 pub fn correct_are_accepted()
@@ -10,4 +10,10 @@ pub fn correct_are_accepted()
 /// `check` accepts each certificate that `plan` prints for the same files, and each such policy as lean.
 pub fn planned_are_accepted()
     ensures { PlannedAreAccepted }
+{}
+
+/// `plan` decides each task of which no more states than its budget are reachable: it prints a policy if and only if the task is
+/// solvable.
+pub fn small_tasks_are_decided()
+    ensures { SmallTasksAreDecided }
 {}

@@ -1,4 +1,4 @@
-use Rattle.std.proofs.Common.{◌≡◌, sym, subst}
+use Rattle.std.proofs.Common.{sym, subst}
 use Rattle.fond_rules.specs.Belongs.{BelongTo}
 use Rattle.fond_tool.specs.Rejections.{of_cert, of_script}
 use Rattle.fond_tool.specs.Runs.{AnswersRun}

@@ -1,5 +1,3 @@
-use Rattle.std.proofs.Common.{◌≡◌, ◌++◌, ℕ, List, true, false, sym, ap, ◌∙◌, subst}
-use Rattle.std.specs.Prelude.{codes}
 use Rattle.fond_tool.proofs.Answered.{has_successors, has_none}
 use Rattle.fond_tool.proofs.succ.successors.Goals as goal
 

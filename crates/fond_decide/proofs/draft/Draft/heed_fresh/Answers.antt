@@ -1,6 +1,9 @@
-use Rattle.std.proofs.Common.{◌<◌, List, length, sym, ap, subst, arith}
+use Rattle.std.proofs.Common.{◌≡◌, ◌∙◌, ◌<◌, List, [], ◌∷◌, length, slice_get, sym, ap, subst, ⊎_elim, arith}
+use Rattle.std.proofs.lemmas.Bool.{cases_lt}
+use Rattle.std.proofs.lemmas.List.Elements.{Contains-append_left, Contains-append_right}
+use Rattle.std.proofs.lemmas.Option.{same_Some, slice_get_within}
 use Rattle.std.specs.Prelude.{Contains}
-use Rattle.fond_game.proofs.Lists.{Contains_numbered}
+use Rattle.fond_game.proofs.Lists.{Contains_numbered, Contains-here, number_of}
 use Rattle.fond_game.specs.declared.rule.Pair.{Pair}
 use Rattle.fond_game.specs.declared.rule.Rule.{Rule}
 use Rattle.fond_decide.specs.Drafts.{AreFitting, AreLeanRules, IsFitting}
@@ -26,10 +29,28 @@ loop-at-preserved c =
       fresh = inv.fresh;
       rules = inv.rules;
       same = inv.same;
+      moved = λ number pair small is. subst (λ (pairs : List Pair). Contains pairs pair) (sym c.in_ok-push.ensures.ok) (⊎_elim
+          (λ lt. Contains-append_left c.loop-at.self.pairs (c.in_ok-pair.pair ∷ []) pair (inv.moved number pair lt is))
+          (λ ge.
+          let same : number ≡ c.loop-at.at = omega (arith, small, ge) in
+          let own_is : c.in_ok-pair.pair ≡ pair = c.in_ok-pair.ensures ∙ same_Some own pair (sym (read_at items c.loop-at.at own within c.index.ensures) ∙ ap (slice_get items) (sym same) ∙ is) in
+          Contains-append_right c.loop-at.self.pairs (c.in_ok-pair.pair ∷ []) pair (subst (λ (p : Pair). Contains (c.in_ok-pair.pair ∷ []) p) own_is (Contains-here c.in_ok-pair.pair [])))
+          (cases_lt number c.loop-at.at));
     }
 
-pub returns : goal.returns
-returns c =
+pub returns-clause-moved : goal.returns-clause-moved
+returns-clause-moved c = λ pair has.
+    let inv = c.loop-at.invariant in
+    let items = c.loop-at.self.fresh.items in
+    let at = number_of items pair (subst (λ fresh. Contains fresh.items pair) (sym inv.same) has) in
+    let within = slice_get_within items at.0 pair at.1 in
+    inv.moved at.0 pair (omega (arith, within, c.loop-at-test.false, c.len-at-end.ensures, ap (λ fresh. length fresh.items) inv.same)) at.1
+
+pub returns-clause-none : goal.returns-clause-none
+returns-clause-none c = c.clear.ensures.items
+
+pub returns-clause-draft : goal.returns-clause-draft
+returns-clause-draft c =
     let inv = c.loop-at.invariant in
     record {
       over = inv.over;
