@@ -20,8 +20,20 @@ const NAMES_FILES: [&str; 3] = [
     "",
 ];
 
+const MISTYPED_FILES: [&str; 3] = [
+    "(define (domain x)\n(:types t u) (:predicates (p ?a - t))\n(:action a :effect ()))\n",
+    "(define (problem y) (:domain x) (:objects o - u)\n(:init (p o)) (:goal ()))\n",
+    "",
+];
+
+const UPPER_FILES: [&str; 3] = [
+    "(DEFINE (DOMAIN Coin) (:REQUIREMENTS :STRIPS) (:constants C1)\n(:predicates (Heads ?x)) (:action Flip :parameters (?X)\n:precondition () :effect (oneof (HEADS ?x) (and))))\n",
+    "(define (problem z) (:domain other) (:objects c1)\n(:init (not (heads C1))) (:goal (heads c1))\n(:metric minimize (total-cost)))\n",
+    "",
+];
+
 /// A name, the files of the task, the budget, and the status and the text of the answer.
-const ROWS: [(&str, [&str; 3], &str, u8, &str); 11] = [
+const ROWS: [(&str, [&str; 3], &str, u8, &str); 13] = [
     (
         "a goal that holds at once",
         WON_FILES,
@@ -35,6 +47,20 @@ const ROWS: [(&str, [&str; 3], &str, u8, &str); 11] = [
         "10",
         0,
         "dualfond 1 policy\nrule (flip) fair 0 goal :\nreach 2\nend\n",
+    ),
+    (
+        "a coin in capital letters, with a constant",
+        UPPER_FILES,
+        "10",
+        0,
+        "dualfond 1 policy\nrule (flip c1) fair 0 goal :\nreach 2\nend\n",
+    ),
+    (
+        "an object of another type",
+        MISTYPED_FILES,
+        "5",
+        3,
+        "refused problem 2 11 F17\n",
     ),
     (
         "an outcome that leads to a pit where the rule is not meant",
