@@ -1,1 +1,4 @@
 pub mod Tested
+pub mod Words
+pub mod Packs
+pub mod Changed

@@ -1,1 +1,3 @@
 pub mod Cubes
+pub mod Words
+pub mod Hashed

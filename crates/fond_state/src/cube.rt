@@ -1,55 +1,31 @@
 //! Cubes: partial states, given by the literals that hold in them.
 
-ghost use Rattle.std.specs.Prelude.{◌≡◌, ◌<◌, ◌^◌, List, Bool, not, Option, Some, None, length, replicate, slice_set, Decides, IfOk};
-ghost use Rattle.fond_state.specs.Cubes.{literal_at, full_cube, without_literal, agrees, lies_in, CubeLiesIn, Contradicts};
+ghost use Rattle.std.specs.Prelude.{◌≡◌, ◌<◌, ◌^◌, Some, None, length, replicate, slice_set, Decides, IfOk};
+ghost use Rattle.fond_state.specs.Cubes.{literal_at, full_cube, without_literal, lies_in, CubeLiesIn, Contradicts};
 
+use crate::mask::{self, Mask, agrees, are_opposed, is_in, with_literal};
 use crate::state::State;
+use crate::word::{low_bits, word_count};
 use fond_text::fault::NoMemory;
 use std::alloc::Global;
 use std::marker::Model;
 
-/// A set of literals over distinct atoms. It denotes the states in which they all hold.
+/// A set of literals over distinct atoms, 64 atoms to a mask. It denotes the states in which they all hold.
 #[derive(Drop)]
 pub struct Cube {
-    literals: Vec<Option<bool>>,
+    atoms: u32,
+    masks: Vec<Mask>,
 }
 
 impl Model for Cube {
+    ghost use Rattle.std.specs.Prelude.{◌≡◌, ◌<◌, ◌^◌, List, Bool, Option, vec_len};
+    ghost use Rattle.fond_state.specs.Words.{literals_from, words_for, IsPadded};
+
     ghost Value = { List (Option Bool) };
 
-    ghost view = { λ c. c.literals.items };
+    ghost view = { λ c. literals_from c.masks.items 0 c.atoms };
 
-    ghost invariant = { λ c. length c.literals.items < 2 ^ 32 };
-}
-
-/// Whether an atom with this truth value has the sign of the literal, if there is a literal.
-fn agrees_with(value: bool, known: Option<bool>) -> bool
-    ensures { result ≡ agrees value known }
-{
-    match known {
-        Some(sign) => value == sign,
-        None => true,
-    }
-}
-
-/// Whether an atom of which this is known has the literal, if there is one.
-fn has_literal(known: Option<bool>, literal: Option<bool>) -> bool
-    ensures { Decides result ((sign : Bool) → literal ≡ Some sign → known ≡ Some sign) }
-{
-    match literal {
-        Some(sign) => known == Some(sign),
-        None => true,
-    }
-}
-
-/// Whether there are two literals, of opposite signs.
-fn are_opposite(known: Option<bool>, other: Option<bool>) -> bool
-    ensures { Decides result ((sign : Bool) × (known ≡ Some sign) × (other ≡ Some (not sign))) }
-{
-    match (known, other) {
-        (Some(sign), Some(opposite)) => sign != opposite,
-        _ => false,
-    }
+    ghost invariant = { λ c. (vec_len c.masks ≡ words_for c.atoms) × IsPadded c.atoms c.masks.items × (c.atoms < 2 ^ 32) };
 }
 
 impl Cube {
@@ -57,8 +33,10 @@ impl Cube {
     pub fn new(alloc: Global, atoms: u32) -> Result<Cube, NoMemory>
         ensures { IfOk result (λ c. c ≡ replicate atoms None) }
     {
+        let none = Mask { care: 0, sign: 0 };
         Ok(Cube {
-            literals: vec![in alloc; None; atoms as usize]?,
+            atoms,
+            masks: vec![in alloc; none; word_count(atoms)]?,
         })
     }
 
@@ -66,8 +44,18 @@ impl Cube {
     pub fn full(alloc: Global, s: &State) -> Result<Cube, NoMemory>
         ensures { IfOk result (λ c. c ≡ full_cube s.now) }
     {
+        let mut masks = Vec::with_capacity(alloc, s.words.len())?;
+        let mut left = s.atoms;
+        for word in &s.words {
+            masks.push(Mask {
+                care: low_bits(left),
+                sign: *word,
+            })?;
+            left = left.saturating_sub(64);
+        }
         Ok(Cube {
-            literals: s.values().iter().map(|value| Some(*value)).collect(alloc)?,
+            atoms: s.atoms,
+            masks,
         })
     }
 
@@ -76,7 +64,8 @@ impl Cube {
         ensures { IfOk result (λ c. c ≡ self.now) }
     {
         Ok(Cube {
-            literals: Vec::from_slice(alloc, self.literals.as_slice())?,
+            atoms: self.atoms,
+            masks: Vec::from_slice(alloc, self.masks.as_slice())?,
         })
     }
 
@@ -85,17 +74,17 @@ impl Cube {
         ensures counted { result ≡ length self.now }
         ensures few { result < 2 ^ 32 }
     {
-        self.literals.len()
+        self.atoms as usize
     }
 
     /// The sign of the atom's literal, if the cube has one. An atom past the last one has none.
     pub fn literal(&self, atom: u32) -> Option<bool>
         ensures { result ≡ literal_at self.now atom }
     {
-        match self.literals.get(atom as usize) {
-            Some(known) => *known,
-            None => None,
+        if atom >= self.atoms {
+            return None;
         }
+        mask::literal(self.masks[(atom / 64) as usize], atom % 64)
     }
 
     /// Gives the atom a literal of this sign and drops any literal that it had.
@@ -103,16 +92,21 @@ impl Cube {
         requires { atom < length self.old }
         ensures { self.new ≡ slice_set self.old atom (Some v) }
     {
-        self.literals[atom as usize] = Some(v);
+        let i = (atom / 64) as usize;
+        let mask = self.masks[i];
+        self.masks[i] = with_literal(mask.care, mask.sign, atom % 64, v);
     }
 
     /// Drops the atom's literal. An atom past the last one changes nothing.
     pub fn drop_literal(&mut self, atom: u32)
         ensures { self.new ≡ without_literal self.old atom }
     {
-        if (atom as usize) < self.literals.len() {
-            self.literals[atom as usize] = None;
+        if atom >= self.atoms {
+            return;
         }
+        let i = (atom / 64) as usize;
+        let mask = self.masks[i];
+        self.masks[i] = mask::without_literal(mask.care, mask.sign, atom % 64);
     }
 
     /// Copies the literals of another cube over as many atoms. Takes no memory.
@@ -120,16 +114,16 @@ impl Cube {
         requires { length self.old ≡ length other.now }
         ensures { self.new ≡ other.now }
     {
-        self.literals.copy_from_slice(other.literals.as_slice());
+        self.masks.copy_from_slice(other.masks.as_slice());
     }
 
-    /// Whether `d` lies in this cube: it has each literal of this one. Takes time in the number of atoms.
+    /// Whether `d` lies in this cube: it has each literal of this one. Takes time in the number of words.
     pub fn covers(&self, d: &Cube) -> bool
         requires { length self.now ≡ length d.now }
         ensures { Decides result (CubeLiesIn d.now self.now) }
     {
-        for atom in 0..self.len() as u32 {
-            if !has_literal(d.literal(atom), self.literal(atom)) {
+        for i in 0..self.masks.len() {
+            if !is_in(self.masks[i].care, self.masks[i].sign, d.masks[i]) {
                 return false;
             }
         }
@@ -137,26 +131,26 @@ impl Cube {
     }
 
     /// Whether the two cubes contradict each other: one has a literal of which the other has the opposite. Takes time
-    /// in the number of atoms.
+    /// in the number of words.
     pub fn contradicts(&self, d: &Cube) -> bool
         requires { length self.now ≡ length d.now }
         ensures { Decides result (Contradicts self.now d.now) }
     {
-        for atom in 0..self.len() as u32 {
-            if are_opposite(self.literal(atom), d.literal(atom)) {
+        for i in 0..self.masks.len() {
+            if are_opposed(self.masks[i].care, self.masks[i].sign, d.masks[i]) {
                 return true;
             }
         }
         false
     }
 
-    /// Whether all literals of the cube hold in the state. Takes time in the number of atoms.
+    /// Whether all literals of the cube hold in the state. Takes time in the number of words.
     pub fn holds(&self, s: &State) -> bool
         requires { length self.now ≡ length s.now }
         ensures { result ≡ lies_in s.now self.now }
     {
-        for atom in 0..self.len() as u32 {
-            if !agrees_with(s.get(atom), self.literal(atom)) {
+        for i in 0..self.masks.len() {
+            if !agrees(self.masks[i].care, self.masks[i].sign, s.words[i]) {
                 return false;
             }
         }

@@ -1,30 +1,36 @@
 //! States: a truth value for each atom.
 
-ghost use Rattle.std.specs.Prelude.{◌≡◌, ◌<◌, ◌^◌, List, Bool, false, length, replicate, slice_set, IfOk};
-ghost use Rattle.std.specs.Cmp.{bool_eq_equiv, booleans_Decides, partial_equiv_from_equiv};
+ghost use Rattle.std.specs.Prelude.{◌≡◌, ◌<◌, ◌^◌, Bool, false, length, replicate, slice_set, IfOk};
+ghost use Rattle.std.specs.Cmp.{bool_eq_equiv, partial_equiv_from_equiv};
 ghost use Rattle.std.specs.Cmp.Lexicographic.{pointwise, lists_equiv};
 ghost use Rattle.std.specs.Hash as fed;
-ghost use Rattle.std.specs.Hash.{items_Alike, same_Alike};
 ghost use Rattle.std.specs.Bool.{beq};
 ghost use Rattle.fond_state.specs.Cubes.{truth_at};
+ghost use Rattle.fond_state.specs.Hashed.{packed_respects};
+ghost use Rattle.fond_state.specs.Words.{packed};
 
+use crate::word::{bit, with_bit, word_count};
 use fond_text::fault::NoMemory;
 use std::alloc::Global;
 use std::hash::{Hash, Hasher};
 use std::marker::Model;
 
-/// The truth values of all atoms.
+/// The truth values of all atoms, 64 to a word. Bits past the last atom are clear, so equal states have equal words.
 #[derive(Drop)]
 pub struct State {
-    values: Vec<bool>,
+    pub(crate) atoms: u32,
+    pub(crate) words: Vec<u64>,
 }
 
 impl Model for State {
+    ghost use Rattle.std.specs.Prelude.{◌≡◌, ◌<◌, ◌^◌, List, Bool, vec_len};
+    ghost use Rattle.fond_state.specs.Words.{truths_from, words_for, HasNoMore, AreWords};
+
     ghost Value = { List Bool };
 
-    ghost view = { λ s. s.values.items };
+    ghost view = { λ s. truths_from s.words.items 0 s.atoms };
 
-    ghost invariant = { λ s. length s.values.items < 2 ^ 32 };
+    ghost invariant = { λ s. (vec_len s.words ≡ words_for s.atoms) × HasNoMore s.atoms s.words.items × AreWords s.words.items × (s.atoms < 2 ^ 32) };
 }
 
 impl State {
@@ -33,7 +39,8 @@ impl State {
         ensures { IfOk result (λ s. s ≡ replicate atoms false) }
     {
         Ok(State {
-            values: vec![in alloc; false; atoms as usize]?,
+            atoms,
+            words: vec![in alloc; 0; word_count(atoms)]?,
         })
     }
 
@@ -42,7 +49,8 @@ impl State {
         ensures { IfOk result (λ s. s ≡ self.now) }
     {
         Ok(State {
-            values: Vec::from_slice(alloc, self.values.as_slice())?,
+            atoms: self.atoms,
+            words: Vec::from_slice(alloc, self.words.as_slice())?,
         })
     }
 
@@ -51,7 +59,7 @@ impl State {
         ensures counted { result ≡ length self.now }
         ensures few { result < 2 ^ 32 }
     {
-        self.values.len()
+        self.atoms as usize
     }
 
     /// Whether the atom is true.
@@ -59,7 +67,7 @@ impl State {
         requires { atom < length self.now }
         ensures { result ≡ truth_at self.now atom }
     {
-        self.values[atom as usize]
+        bit(self.words[(atom / 64) as usize], atom % 64)
     }
 
     /// Gives the atom this truth value.
@@ -67,7 +75,9 @@ impl State {
         requires { atom < length self.old }
         ensures { self.new ≡ slice_set self.old atom v }
     {
-        self.values[atom as usize] = v;
+        let i = (atom / 64) as usize;
+        let word = self.words[i];
+        self.words[i] = with_bit(word, atom % 64, v);
     }
 
     /// Copies the truth values of another state over as many atoms. Takes no memory.
@@ -75,15 +85,7 @@ impl State {
         requires { length self.old ≡ length other.now }
         ensures { self.new ≡ other.now }
     {
-        self.values.copy_from_slice(other.values());
-    }
-
-    /// The truth values, in the order of the atoms.
-    pub(crate) fn values(&self) -> &[bool]
-        ensures value { result.now ≡ self.now }
-        ensures few { length self.now < 2 ^ 32 }
-    {
-        self.values.as_slice()
+        self.words.copy_from_slice(other.words.as_slice());
     }
 }
 
@@ -94,7 +96,7 @@ impl PartialEq for State {
     ghost laws = { partial_equiv_from_equiv (lists_equiv bool_eq_equiv) };
 
     fn eq(&self, other: &State) -> bool {
-        self.values() == other.values()
+        self.atoms == other.atoms && self.words.as_slice() == other.words.as_slice()
     }
 }
 
@@ -103,11 +105,11 @@ impl Eq for State {
 }
 
 impl Hash for State {
-    ghost hash_input = { fed.slice fed.bool };
+    ghost hash_input = { λ values. fed.slice fed.u64 (packed values) };
 
-    ghost respects_eq = { (items_Alike (same_Alike fed.bool booleans_Decides)).fed };
+    ghost respects_eq = { packed_respects };
 
     fn hash<H: Hasher>(&self, state: &mut H) {
-        self.values().hash(state);
+        self.words.as_slice().hash(state);
     }
 }

@@ -1,3 +1,4 @@
+pub mod Grown
 pub mod Digits
 pub mod Earliest
 pub mod Numerals

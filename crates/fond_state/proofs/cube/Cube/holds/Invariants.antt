@@ -1,7 +1,7 @@
-use Rattle.std.proofs.Common.{◌≡◌, drop}
-use Rattle.fond_state.specs.Cubes.{lies_in}
-use Rattle.fond_state.proofs.Tested.{lies_from}
+use Rattle.std.proofs.Common.{ℕ, ◌<◌}
+use Rattle.std.specs.Prelude.{slice_index_or}
+use Rattle.fond_state.specs.Words.{mask_at, Agree}
 use Rattle.fond_state.proofs.cube.Cube.holds.Given as goal
 
-abbrev pub invariant-loop-atom : goal.invariant-loop-atom
-invariant-loop-atom l = lies_in l.s l.self ≡ lies_from l.s l.atom (drop l.atom l.self)
+abbrev pub invariant-loop-i : goal.invariant-loop-i
+invariant-loop-i l = (k : ℕ) → k < l.i → Agree (mask_at l.self-inside.masks.items k) (slice_index_or l.s-inside.words.items k 0)

@@ -1,0 +1,9 @@
+use Rattle.std.proofs.Common.{length, ap, arith}
+use Rattle.fond_state.proofs.Words.{length-truths_from}
+use Rattle.fond_state.proofs.state.State.len.Goals as goal
+
+pub returns-clause-counted : goal.returns-clause-counted
+returns-clause-counted c =
+    let same = ap length c.self.view_is in
+    let long = length-truths_from c.self.inside.words.items 0 c.self.inside.atoms in
+    omega (arith, same, long)
