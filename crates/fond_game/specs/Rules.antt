@@ -35,7 +35,7 @@ AreMet task rules number cond act (All targets) =
     (act.unfair ≡ true) × (length targets ≡ length act.outcomes)
     × ((at : ℕ) (target : Target) (entries : List Entry) → slice_get targets at ≡ Some target → slice_get act.outcomes at ≡ Some entries → IsEarlier number target × Meets task rules (image cond entries) target)
 
--- the rule of this number is sure if its action is applicable in each state of its condition, its condition
+-- the rule of this number is sure if the precondition of its action has the value Yes on its condition, its condition
 -- contradicts that of each pair of its action, and its targets are met
 pub record IsSureRule (task : Task) (pairs : List Pair) (rules : List Rule) (number : ℕ) (rule : Rule) : Type 0 where
   pub act : Act

@@ -77,6 +77,16 @@ impl Rules {
         Ok(())
     }
 
+    /// Adds a rule at the end, which is not indexed.
+    fn append(&mut self, rule: Rule) -> Result<(), NoMemory>
+        requires { length self.old < 2 ^ 32 - 1 }
+        ensures ok { OnOk result (self.new ≡ self.old ++ rule ∷ []) }
+        ensures err { OnErr result (self.new ≡ self.old) }
+    {
+        self.items.push(Item { rule })?;
+        Ok(())
+    }
+
     /// Adds a rule at the end. Indexes the rules before it once more of them are not indexed than are, so that adding
     /// many takes time in their number times that of atoms.
     pub fn push(&mut self, rule: Rule) -> Result<(), NoMemory>
@@ -87,8 +97,7 @@ impl Rules {
         if self.matcher.is_behind(self.items.len()) {
             self.index()?;
         }
-        self.items.push(Item { rule })?;
-        Ok(())
+        self.append(rule)
     }
 
     /// The number of rules.
