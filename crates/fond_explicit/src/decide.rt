@@ -4,7 +4,7 @@
 //! as lost. What falls in the first run is lost whatever they are, and what has a rank in the second is won.
 
 ghost use Rattle.fond_explicit.specs.Answers.{IsRight};
-ghost use Rattle.fond_explicit.specs.Fates.{fate_of, is_kept};
+ghost use Rattle.fond_fixpoint.specs.Fates.{fate_of, is_kept};
 ghost use Rattle.fond_explicit.specs.Openings.{IsSpaceFrom};
 ghost use Rattle.fond_explicit.specs.Runs.{IsRun};
 ghost use Rattle.fond_explicit.specs.Spaces.{AreGoals};
@@ -14,11 +14,11 @@ ghost use Rattle.std.specs.Prelude.{◌≡◌, ◌&&◌, ◌||◌, nat_le, Some,
 
 use crate::answer::Solved;
 use crate::choose::choose;
-use crate::fate::{Fate, fate_of, is_kept};
-use crate::preds::Preds;
-use crate::settle::settle;
 use crate::space::Space;
 use crate::strata::strata;
+use fond_fixpoint::fate::{Fate, fate_of, is_kept};
+use fond_fixpoint::preds::Preds;
+use fond_fixpoint::settle::settle;
 use fond_task::task::Task;
 use fond_task::truth::is_goal;
 use fond_text::fault::NoMemory;

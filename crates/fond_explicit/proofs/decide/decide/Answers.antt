@@ -1,5 +1,5 @@
 use Rattle.std.proofs.Common.{List, false, sym, subst, arith}
-use Rattle.fond_explicit.specs.declared.fate.Fate.{Fate}
+use Rattle.fond_fixpoint.specs.declared.fate.Fate.{Fate}
 use Rattle.fond_explicit.specs.Runs.{IsRun}
 use Rattle.fond_explicit.proofs.Runs.{run_opened}
 use Rattle.fond_explicit.proofs.decide.decide.Goals as goal
