@@ -1,10 +1,10 @@
-use Rattle.std.proofs.Common.{◌≡◌, ◌-◌, ◌≤◌, length}
+use Rattle.std.proofs.Common.{◌≡◌, ◌-◌, ◌≤◌, List, Bool, length}
 use Rattle.fond_explicit.specs.Openings.{IsSpaceFrom}
-use Rattle.fond_explicit.proofs.solve.solve.Given as goal
+use Rattle.fond_explicit.proofs.solve.open_all.Given as goal
 
 abbrev pub invariant-batches : goal.invariant-batches
 invariant-batches l = record {
-  space : IsSpaceFrom l.t l.from l.space;
+  keeps : (from : List Bool) → IsSpaceFrom l.t from l.initial.space → IsSpaceFrom l.t from l.space;
   few : length l.space.states ≤ l.budget;
   next_long : length l.scratch.next ≡ length l.t.atoms;
 }
