@@ -17,3 +17,7 @@ grew_same first out next grew same = (grew.0, same ∙ grew.1)
 -- one more text after those that were appended
 pub text_more : (first out next front text : List ℕ) → out ≡ first ++ front → next ≡ out ++ text → next ≡ first ++ (front ++ text)
 text_more first out next front text before is = is ∙ ap (λ (list : List ℕ). list ++ text) before ∙ append_assoc first front text
+
+-- more was appended after a text
+pub grew_after : (first out next front : List ℕ) → out ≡ first ++ front → ((more : List ℕ) × (next ≡ out ++ more)) → (more : List ℕ) × (next ≡ first ++ more)
+grew_after first out next front before grew = (front ++ grew.0, text_more first out next front grew.0 before grew.1)
