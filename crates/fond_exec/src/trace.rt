@@ -4,6 +4,7 @@ ghost use Rattle.std.specs.Prelude.{◌≡◌, ◌++◌, ℕ, List, [], Bool, co
 ghost use Rattle.std.specs.Option.{option_map_or};
 ghost use Rattle.fond_task.specs.Texts.{action_text, state_text};
 ghost use Rattle.fond_task.specs.Truth.{is_true};
+ghost use Rattle.fond_game.specs.declared.rule.Rule.{Rule};
 ghost use Rattle.fond_rules.specs.Belongs.{BelongTo};
 ghost use Rattle.fond_exec.specs.Traces.{goal_line, outcome_line, step_line, Trace};
 
@@ -119,6 +120,23 @@ fn put_steps(
     put_end(run.done(), out)
 }
 
+/// Appends the lines of the steps that a run takes, and its last state.
+fn put_run(
+    task: &Task,
+    run: &mut Executor,
+    outcomes: &[u32],
+    out: &mut Vec<u8>,
+) -> Result<bool, NoMemory>
+    requires { run.old.task ≡ task.now }
+    ensures ok { (rules : List Rule) → run.old ≡ record { task = task.now; rules = rules; state = task.now.init } → IfOk result (λ answer. (text : List ℕ) × (last : List Bool) × Trace task.now rules task.now.init outcomes.now text last
+        × (out.new.items ≡ out.old.items ++ (text ++ state_text task.now last)) × (answer ≡ is_true last task.now.goal)) }
+    ensures grew { (more : List ℕ) × (out.new.items ≡ out.old.items ++ more) }
+{
+    put_steps(task, run, outcomes, out)?;
+    put_state(task, run.state(), out)?;
+    Ok(run.done())
+}
+
 /// Appends the lines of the steps from the initial state on, and the last state.
 fn put_trace(
     alloc: Global,
@@ -133,9 +151,7 @@ fn put_trace(
     ensures grew { (more : List ℕ) × (out.new.items ≡ out.old.items ++ more) }
 {
     let mut run = Executor::start(alloc, task, rules)?;
-    put_steps(task, &mut run, outcomes, out)?;
-    put_state(task, run.state(), out)?;
-    Ok(run.done())
+    put_run(task, &mut run, outcomes, out)
 }
 
 /// Appends the trace of the rules over these outcomes, from the initial state of the task on, and then the last state,

@@ -9,10 +9,10 @@ use Rattle.fond_text.specs.Lists.{AreDistinct}
 use Rattle.fond_state.specs.Cubes.{full_cube}
 use Rattle.fond_game.specs.Layers.{CubeView}
 use Rattle.fond_game.proofs.Lists.{Contains-here, Contains-later, Contains-cases}
-use Rattle.fond_explicit.specs.declared.fate.Fate.{Fate}
-use Rattle.fond_explicit.specs.declared.fate.Fate.TheVariants.{Ranked, Fallen}
-use Rattle.fond_explicit.specs.Moves.{Move, move_at}
-use Rattle.fond_explicit.specs.Fates.{fate_of}
+use Rattle.fond_fixpoint.specs.declared.fate.Fate.{Fate}
+use Rattle.fond_fixpoint.specs.declared.fate.Fate.TheVariants.{Ranked, Fallen}
+use Rattle.fond_fixpoint.specs.Moves.{Move, move_at}
+use Rattle.fond_fixpoint.specs.Fates.{fate_of}
 use Rattle.fond_explicit.specs.Answers.{ChoiceView}
 use Rattle.fond_explicit.specs.Spaces.{IsRanked, AreRanks, IsFallen, AreRounds, layer_at}
 use Rattle.fond_explicit.specs.Strata.{IsPut}

@@ -1,11 +1,3 @@
-pub mod Pushed
-pub mod Tests
-pub mod Later
-pub mod Ranked
-pub mod Searched
-pub mod Mapped
-pub mod Lost
-pub mod Rounds
 pub mod Nexts
 pub mod Distinct
 pub mod Stuck
@@ -15,5 +7,4 @@ pub mod Opened
 pub mod Choosing
 pub mod Runs
 pub mod Filed
-pub mod Cascaded
 mod Worked

@@ -14,7 +14,7 @@ use Rattle.fond_game.specs.Policies.{IsGoal, IsNext}
 use Rattle.fond_game.proofs.Lists.{Contains_numbered, number_of}
 use Rattle.fond_game.proofs.Reached.{length-next_state}
 use Rattle.fond_explicit.specs.declared.space.Space.{Space}
-use Rattle.fond_explicit.specs.Moves.{Move, move_at, no_move}
+use Rattle.fond_fixpoint.specs.Moves.{Move, move_at, no_move}
 use Rattle.fond_explicit.specs.Answers.{IsReachable, IsPast}
 use Rattle.fond_explicit.specs.Spaces.{IsMoveOf, HasMove, IsOpened, IsSpace}
 use Rattle.fond_explicit.specs.Openings.{IsSpaceFrom, IsGrown, IsFull, IsOpening}

@@ -16,11 +16,11 @@ use Rattle.fond_task.specs.Truth.{is_true}
 use Rattle.fond_game.specs.Layers.{CubeView}
 use Rattle.fond_game.specs.Certificates.{LiesInLayers}
 use Rattle.fond_game.proofs.Lists.{Contains-cases}
-use Rattle.fond_explicit.specs.declared.fate.Fate.{Fate}
-use Rattle.fond_explicit.specs.declared.fate.Fate.TheVariants.{Open, Goal, Ranked, Fallen}
+use Rattle.fond_fixpoint.specs.declared.fate.Fate.{Fate}
+use Rattle.fond_fixpoint.specs.declared.fate.Fate.TheVariants.{Open, Goal, Ranked, Fallen}
 use Rattle.fond_explicit.specs.declared.space.Space.{Space}
-use Rattle.fond_explicit.specs.Moves.{Move, move_at}
-use Rattle.fond_explicit.specs.Fates.{fate_of, is_kept, AreWithin}
+use Rattle.fond_fixpoint.specs.Moves.{Move, move_at}
+use Rattle.fond_fixpoint.specs.Fates.{fate_of, is_kept, AreWithin}
 use Rattle.fond_explicit.specs.Answers.{ChoiceView, IsReachable, IsPast, AreStuck, AreWinning}
 use Rattle.fond_explicit.specs.Spaces.{AreNexts, IsSpace, AreGoals, AreHopeful, AreSound, AreRounds, AreRanks}
 use Rattle.fond_explicit.specs.Openings.{IsSpaceFrom}

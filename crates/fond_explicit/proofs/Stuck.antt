@@ -23,10 +23,10 @@ use Rattle.fond_game.specs.Policies.{IsGoal}
 use Rattle.fond_game.specs.Layers.{CubeView, Leads, Forces, IsSureCube, IsSureLayer}
 use Rattle.fond_game.specs.Certificates.{LiesInLayers}
 use Rattle.fond_game.proofs.Lists.{Contains_numbered, number_of, Contains-here, Contains-later}
-use Rattle.fond_explicit.specs.declared.fate.Fate.{Fate}
-use Rattle.fond_explicit.specs.declared.fate.Fate.TheVariants.{Open, Goal, Ranked, Fallen}
-use Rattle.fond_explicit.specs.Moves.{Move, move_at}
-use Rattle.fond_explicit.specs.Fates.{fate_of, is_marked, fell_before, fell_in, AreSettled}
+use Rattle.fond_fixpoint.specs.declared.fate.Fate.{Fate}
+use Rattle.fond_fixpoint.specs.declared.fate.Fate.TheVariants.{Open, Goal, Ranked, Fallen}
+use Rattle.fond_fixpoint.specs.Moves.{Move, move_at}
+use Rattle.fond_fixpoint.specs.Fates.{fate_of, is_marked, fell_before, fell_in, AreSettled}
 use Rattle.fond_explicit.specs.Answers.{AreStuck}
 use Rattle.fond_explicit.specs.Spaces.{AreNexts, IsSpace, layer_at, AreRounds, AreHopeful}
 use Rattle.fond_explicit.proofs.Nexts.{LeadsTo, some_next, each_next}

@@ -11,10 +11,10 @@ use Rattle.fond_task.specs.Truth.{is_true}
 use Rattle.fond_task.specs.Steps.{next_state}
 use Rattle.fond_game.specs.Policies.{IsGoal, IsNext}
 use Rattle.fond_game.proofs.Lists.{same_numbered}
-use Rattle.fond_explicit.specs.declared.fate.Fate.{Fate}
-use Rattle.fond_explicit.specs.declared.fate.Fate.TheVariants.{Open, Goal, Ranked, Fallen}
-use Rattle.fond_explicit.specs.Moves.{Move, move_at}
-use Rattle.fond_explicit.specs.Fates.{fate_of, is_open, is_marked, is_kept, is_below, AreSettled}
+use Rattle.fond_fixpoint.specs.declared.fate.Fate.{Fate}
+use Rattle.fond_fixpoint.specs.declared.fate.Fate.TheVariants.{Open, Goal, Ranked, Fallen}
+use Rattle.fond_fixpoint.specs.Moves.{Move, move_at}
+use Rattle.fond_fixpoint.specs.Fates.{fate_of, is_open, is_marked, is_kept, is_below, AreSettled}
 use Rattle.fond_explicit.specs.Answers.{ChoiceView, IsHeld, IsNearer, IsReachable, IsWinning, AreWinning}
 use Rattle.fond_explicit.specs.Spaces.{AreNexts, IsSpace, AreRanks, AreSound}
 use Rattle.fond_explicit.proofs.Nexts.{some_next, each_next}

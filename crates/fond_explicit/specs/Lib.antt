@@ -1,12 +1,6 @@
-pub mod Moves
-pub mod Heads
-pub mod Fates
-pub mod Rounds
-pub mod Begun
 pub mod Answers
 pub mod Spaces
 pub mod Openings
 pub mod Strata
 pub mod Runs
 pub mod Filings
-pub mod Cascades

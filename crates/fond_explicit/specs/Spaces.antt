@@ -9,10 +9,10 @@ use Rattle.fond_task.specs.Truth.{is_true}
 use Rattle.fond_task.specs.Steps.{next_state}
 use Rattle.fond_game.specs.Policies.{IsGoal}
 use Rattle.fond_game.specs.Layers.{CubeView}
-use Rattle.fond_explicit.specs.declared.fate.Fate.{Fate}
-use Rattle.fond_explicit.specs.declared.fate.Fate.TheVariants.{Ranked, Fallen}
-use Rattle.fond_explicit.specs.Moves.{Move, move_at}
-use Rattle.fond_explicit.specs.Fates.{fate_of}
+use Rattle.fond_fixpoint.specs.declared.fate.Fate.{Fate}
+use Rattle.fond_fixpoint.specs.declared.fate.Fate.TheVariants.{Ranked, Fallen}
+use Rattle.fond_fixpoint.specs.Moves.{Move, move_at}
+use Rattle.fond_fixpoint.specs.Fates.{fate_of}
 use Rattle.fond_explicit.specs.Answers.{ChoiceView, IsReachable}
 
 -- the outcomes lead from a state to the nodes of these numbers, one after the other

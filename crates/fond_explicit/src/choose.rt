@@ -1,13 +1,13 @@
 //! The choices of the states that have a rank.
 
-ghost use Rattle.fond_explicit.specs.Fates.{RanksHold};
+ghost use Rattle.fond_fixpoint.specs.Fates.{RanksHold};
 ghost use Rattle.fond_explicit.specs.Spaces.{AreRanks};
 ghost use Rattle.fond_text.specs.Lists.{AreDistinct};
 ghost use Rattle.std.specs.Prelude.{◌≡◌, ◌<◌, ◌+◌, length, IfOk, OnOk};
 
 use crate::answer::{Choices, Pick};
-use crate::fate::{Fate, fate_of};
-use crate::moves::Moves;
+use fond_fixpoint::fate::{Fate, fate_of};
+use fond_fixpoint::moves::Moves;
 use fond_store::store::Store;
 use fond_text::fault::NoMemory;
 use std::alloc::Global;

@@ -4,7 +4,7 @@
 //! as lost. What falls in the first run is lost whatever they are, and what has a rank in the second is won.
 
 ghost use Rattle.fond_explicit.specs.Answers.{IsRight};
-ghost use Rattle.fond_explicit.specs.Fates.{fate_of, is_kept};
+ghost use Rattle.fond_fixpoint.specs.Fates.{fate_of, is_kept};
 ghost use Rattle.fond_explicit.specs.Openings.{IsSpaceFrom};
 ghost use Rattle.fond_explicit.specs.Runs.{IsRun};
 ghost use Rattle.fond_explicit.specs.Spaces.{AreGoals};
@@ -14,11 +14,11 @@ ghost use Rattle.std.specs.Prelude.{◌≡◌, ◌&&◌, ◌||◌, nat_le, Some,
 
 use crate::answer::Solved;
 use crate::choose::choose;
-use crate::fate::{Fate, fate_of, is_kept};
-use crate::preds::Preds;
-use crate::settle::settle;
 use crate::space::Space;
 use crate::strata::strata;
+use fond_fixpoint::fate::{Fate, fate_of, is_kept};
+use fond_fixpoint::preds::Preds;
+use fond_fixpoint::settle::settle;
 use fond_task::task::Task;
 use fond_task::truth::is_goal;
 use fond_text::fault::NoMemory;
@@ -96,6 +96,34 @@ fn won(
     Ok(Solved::Won(choices, layers))
 }
 
+/// What the opened states tell about the first one, by the fates of the run with those that are not opened as won.
+fn decide_by(
+    alloc: Global,
+    t: &Task,
+    space: &Space,
+    preds: &Preds,
+    hopeful: &[Fate],
+) -> Result<Option<Solved>, NoMemory>
+    requires few { length space.now.states < 2 ^ 32 - 1 }
+    requires space { (from : List Bool) × IsSpaceFrom t.now from space.now }
+    requires run { IsRun t.now space.now true hopeful.now }
+    ensures { IfOk result (λ found. MatchOption found (space.now.opened < length space.now.states)
+        (λ solved. (from : List Bool) (budget : ℕ) → IsSpaceFrom t.now from space.now → IsRight t.now from budget solved)) }
+{
+    let nodes = space.states.len();
+    if !is_kept(fate_of(hopeful, 0)) {
+        return Ok(Some(lost(alloc, t, space, hopeful)?));
+    }
+    if space.opened >= nodes {
+        return Ok(Some(won(alloc, t, space, hopeful, hopeful)?));
+    }
+    let sound = run(alloc, t, space, preds, false)?;
+    if !is_kept(fate_of(&sound, 0)) {
+        return Ok(None);
+    }
+    Ok(Some(won(alloc, t, space, &sound, hopeful)?))
+}
+
 /// What the opened states tell about the first one, if they decide it. If all states are opened, they do. Takes the time of
 /// two runs of the fixpoint.
 pub(crate) fn decide(alloc: Global, t: &Task, space: &Space) -> Result<Option<Solved>, NoMemory>
@@ -104,21 +132,7 @@ pub(crate) fn decide(alloc: Global, t: &Task, space: &Space) -> Result<Option<So
     ensures { IfOk result (λ found. MatchOption found (space.now.opened < length space.now.states)
         (λ solved. (from : List Bool) (budget : ℕ) → IsSpaceFrom t.now from space.now → IsRight t.now from budget solved)) }
 {
-    let nodes = space.states.len();
-    let preds = Preds::of(alloc, nodes as usize, &space.moves)?;
+    let preds = Preds::of(alloc, space.states.len() as usize, &space.moves)?;
     let hopeful = run(alloc, t, space, &preds, true)?;
-    if !is_kept(fate_of(&hopeful, 0)) {
-        let solved = lost(alloc, t, space, &hopeful)?;
-        return Ok(Some(solved));
-    }
-    if space.opened >= nodes {
-        let solved = won(alloc, t, space, &hopeful, &hopeful)?;
-        return Ok(Some(solved));
-    }
-    let sound = run(alloc, t, space, &preds, false)?;
-    if !is_kept(fate_of(&sound, 0)) {
-        return Ok(None);
-    }
-    let solved = won(alloc, t, space, &sound, &hopeful)?;
-    Ok(Some(solved))
+    decide_by(alloc, t, space, &preds, &hopeful)
 }

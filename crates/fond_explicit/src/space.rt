@@ -1,6 +1,6 @@
 //! The states that were found, and the moves among them.
 
-use crate::moves::Moves;
+use fond_fixpoint::moves::Moves;
 use fond_state::state::State;
 use fond_store::store::Store;
 

@@ -1,13 +1,13 @@
 //! The layers of the states that fell, round by round.
 
-ghost use Rattle.fond_explicit.specs.Fates.{fate_of, FallsHold};
+ghost use Rattle.fond_fixpoint.specs.Fates.{fate_of, FallsHold};
 ghost use Rattle.fond_explicit.specs.Spaces.{layer_at, AreRounds};
 ghost use Rattle.fond_explicit.specs.Strata.{IsLengthened, IsPut};
-ghost use Rattle.fond_explicit.specs.declared.fate.Fate.TheVariants.{Fallen};
+ghost use Rattle.fond_fixpoint.specs.declared.fate.Fate.TheVariants.{Fallen};
 ghost use Rattle.fond_text.specs.Lists.{AreDistinct};
 ghost use Rattle.std.specs.Prelude.{◌≡◌, ◌<◌, ◌≤◌, ◌+◌, ◌-◌, ◌^◌, [], ◌∷◌, ◌++◌, All, ℕ, length, IfOk, OnOk};
 
-use crate::fate::{Fate, fate_of};
+use fond_fixpoint::fate::{Fate, fate_of};
 use fond_layers::layers::{Layer, Layers};
 use fond_state::cube::Cube;
 use fond_store::store::Store;

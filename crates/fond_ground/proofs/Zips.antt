@@ -1,5 +1,5 @@
 -- Lists whose items are related place by place.
-use Rattle.std.proofs.Common.{◌≡◌, suc, Bool, true, List, [], ◌∷◌, ◌++◌, length, map, refl, ap}
+use Rattle.std.proofs.Common.{◌≡◌, suc, Bool, true, List, [], ◌∷◌, ◌++◌, length, map, refl, sym, ap, subst, append_assoc, ◌∙◌}
 use Rattle.std.specs.List.{AllZip, flat_map, list_all}
 use Rattle.fond_meaning.proofs.Bools.{and-both}
 use Rattle.fond_text.specs.Lists.{concatenations}
@@ -57,3 +57,10 @@ zip-trans R S T step [] (y ∷ ys) zs h k = absurd h
 zip-trans R S T step (x ∷ xs) [] zs h k = absurd h
 zip-trans R S T step (x ∷ xs) (y ∷ ys) [] h k = absurd k
 zip-trans R S T step (x ∷ xs) (y ∷ ys) (z ∷ zs) h k = (step x y z h.0 k.0, zip-trans R S T step xs ys zs h.1 k.1)
+
+-- one more item, which has its relation to the first of what is left
+pub zip_more : {A B X : Type 0} (R : A → B → Type 0) (f : X → A) (xs left : List X) (x : X) (after : List X) (done now : List B) (one : B) → left ≡ x ∷ after → now ≡ done ++ one ∷ [] → R (f x) one
+    → ((rest : List B) → AllZip R (map f left) rest → AllZip R (map f xs) (done ++ rest)) → (rest : List B) → AllZip R (map f after) rest → AllZip R (map f xs) (now ++ rest)
+zip_more {B = B} R f xs left x after done now one split pushed holds before rest more =
+    let whole : AllZip R (map f left) (one ∷ rest) = subst (λ items. AllZip R (map f items) (one ∷ rest)) (sym split) (holds, more) in
+    subst (AllZip R (map f xs)) (sym (ap (λ (all : List B). all ++ rest) pushed ∙ append_assoc done (one ∷ []) rest)) (before (one ∷ rest) whole)

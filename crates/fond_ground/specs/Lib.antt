@@ -7,3 +7,4 @@ pub mod Places
 pub mod Signs
 pub mod Effects
 pub mod Limits
+pub mod Parts

@@ -3,6 +3,7 @@
 ghost use Rattle.fond_ground.specs.Atoms.{fluent_atoms as all_atoms};
 ghost use Rattle.fond_ground.specs.Faults.{at_domain, HasManyActions, HasManyAtoms, IsGroundFault};
 ghost use Rattle.fond_ground.specs.Grounds.{kept_actions, IsGroundOf};
+ghost use Rattle.fond_ground.specs.Parts.{AreActsOf, ArePartsOf};
 ghost use Rattle.fond_ground.specs.Values.{StandsFor};
 ghost use Rattle.fond_task.specs.Within.{is_form_within};
 ghost use Rattle.fond_ground.specs.Texts.{labels_of as all_labels};
@@ -23,7 +24,7 @@ use fond_ast::task::LiftedTask;
 use fond_join::matching::ArgsList;
 use fond_state::state::State;
 use fond_task::form::Form;
-use fond_task::task::{Labels, Task};
+use fond_task::task::{Acts, Labels, Task};
 use fond_text::atom::Atoms;
 use fond_text::code::{MOST_ATOMS, TOO_MANY_ACTIONS, TOO_MANY_ATOMS};
 use fond_text::fault::{Fault, FrontError, NoMemory};
@@ -150,6 +151,51 @@ fn labels_of(alloc: Global, task: &LiftedTask) -> Result<Labels, NoMemory>
     })
 }
 
+/// The actions of the ground task, its initial state and its goal.
+#[derive(Drop)]
+struct Parts {
+    acts: Acts,
+    init: State,
+    goal: Form,
+}
+
+/// The actions of the ground task, or the fault of a task with too many actions, or of its first schema with too many
+/// outcomes.
+fn few_acts(alloc: Global, table: &Table) -> Result<Acts, FrontError>
+    requires few { length (all_atoms table.now.facts.task.now) ≤ MOST_ATOMS }
+    ensures acts { IfOk result (AreActsOf table.now.facts.task.now) }
+    ensures refused { IfErr result (Refuses (IsGroundFault table.now.facts.task.now)) }
+{
+    let lists = few_lists(alloc, table)?;
+    let acts = acts_of(alloc, table, &lists)?;
+    Ok(acts)
+}
+
+/// What the ground task has over these atoms, or the fault of a task that is too large.
+fn parts_by(alloc: Global, table: &Table, atoms: &Atoms) -> Result<Parts, FrontError>
+    requires few { length (all_atoms table.now.facts.task.now) ≤ MOST_ATOMS }
+    requires all { atoms.now ≡ all_atoms table.now.facts.task.now }
+    ensures parts { IfOk result (ArePartsOf table.now.facts.task.now) }
+    ensures refused { IfErr result (Refuses (IsGroundFault table.now.facts.task.now)) }
+{
+    let acts = few_acts(alloc, table)?;
+    let init = first_state(alloc, table, atoms)?;
+    let goal = goal_form(alloc, table)?;
+    Ok(Parts { acts, init, goal })
+}
+
+/// What the ground task has over its fluent atoms, or the fault of a task that is too large. The index of the atoms lives
+/// until all of it is there.
+fn parts_of(alloc: Global, task: &LiftedTask, atoms: &Atoms) -> Result<Parts, FrontError>
+    requires few { length (all_atoms task.now) ≤ MOST_ATOMS }
+    requires all { atoms.now ≡ all_atoms task.now }
+    ensures parts { IfOk result (ArePartsOf task.now) }
+    ensures refused { IfErr result (Refuses (IsGroundFault task.now)) }
+{
+    let table = Table::of(alloc, task, atoms)?;
+    parts_by(alloc, &table, atoms)
+}
+
 /// The ground task of a task, or the fault of a task that is too large, F21 to F23 (docs/FAULTS.md).
 ///
 /// Fluent atoms are counted before they are listed, and of the kept actions no more are looked for than a task may have,
@@ -163,17 +209,13 @@ pub fn ground(alloc: Global, task: &LiftedTask) -> Result<Task, FrontError>
     ensures refused { IfErr result (Refuses (IsGroundFault task.now)) }
 {
     let atoms = few_atoms(alloc, task)?;
-    let table = Table::of(alloc, task, &atoms)?;
-    let lists = few_lists(alloc, &table)?;
-    let acts = acts_of(alloc, &table, &lists)?;
-    let init = first_state(alloc, &table, &atoms)?;
-    let goal = goal_form(alloc, &table)?;
+    let parts = parts_of(alloc, task, &atoms)?;
     let labels = labels_of(alloc, task)?;
     Ok(Task {
         atoms,
-        acts,
-        init,
-        goal,
+        acts: parts.acts,
+        init: parts.init,
+        goal: parts.goal,
         labels,
     })
 }

@@ -3,6 +3,7 @@ use Rattle.fond_task.specs.declared.task.Task.{Task}
 use Rattle.fond_task.specs.Truth.{is_true}
 use Rattle.fond_exec.specs.Traces.{step_line}
 use Rattle.fond_exec.specs.declared.step.Step.TheVariants.{Took, Done, Stuck, BadOutcome}
+use Rattle.fond_exec.proofs.Grown.{grew_after}
 use Rattle.fond_exec.proofs.Traced.{on_ok, step_of, at_end, at_done, at_stuck, at_past, went_on, none_left}
 use Rattle.fond_exec.proofs.trace.put_steps.Goals as goal
 
@@ -50,3 +51,18 @@ returns-clause-ok c =
     let is = c.done.ensures ∙ ap (λ (t : Task). is_true c.loop-outcome.run.state t.goal) so_far.task in
     on_ok c.put_end.result (λ put. at_end run.task run.rules run.state c.args.outcomes.now c.loop-outcome.run.state c.loop-outcome.left.now c.args.out.now.items c.loop-outcome.out.items so_far.so_far
     c.done.result c.put_end.new.out.items (none_left c.loop-outcome.left.now c.in_default.ensures.cases) is put) c.put_end.ensures.ok
+
+pub returns-in_err-put_taken-in-Took-clause-grew : goal.returns-in_err-put_taken-in-Took-clause-grew
+returns-in_err-put_taken-in-Took-clause-grew c = grew_after _ _ _ c.loop-outcome.invariant.so_far.front c.loop-outcome.invariant.so_far.written c.in_err-put_taken-in-Took.ensures.grew
+
+pub returns-in-Done-clause-grew : goal.returns-in-Done-clause-grew
+returns-in-Done-clause-grew c = grew_after _ _ _ c.loop-outcome.invariant.so_far.front c.loop-outcome.invariant.so_far.written c.put_goal.ensures.grew
+
+pub returns-in-Stuck-clause-grew : goal.returns-in-Stuck-clause-grew
+returns-in-Stuck-clause-grew c = grew_after _ _ _ c.loop-outcome.invariant.so_far.front c.loop-outcome.invariant.so_far.written c.put_stuck.ensures.grew
+
+pub returns-in-BadOutcome-clause-grew : goal.returns-in-BadOutcome-clause-grew
+returns-in-BadOutcome-clause-grew c = grew_after _ _ _ c.loop-outcome.invariant.so_far.front c.loop-outcome.invariant.so_far.written c.put_outcome.ensures.grew
+
+pub returns-clause-grew : goal.returns-clause-grew
+returns-clause-grew c = grew_after _ _ _ c.loop-outcome.invariant.so_far.front c.loop-outcome.invariant.so_far.written c.put_end.ensures.grew

@@ -1,5 +1,5 @@
 use Rattle.std.proofs.Common.{◌≡◌, ℕ, List, Bool, length, sym, ap, ◌∙◌, subst}
-use Rattle.fond_explicit.specs.Fates.{AreWithin, AreSettled}
+use Rattle.fond_fixpoint.specs.Fates.{AreWithin, AreSettled}
 use Rattle.fond_explicit.proofs.Runs.{moves_within}
 use Rattle.fond_explicit.proofs.decide.run.Goals as goal
 

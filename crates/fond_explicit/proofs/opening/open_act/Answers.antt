@@ -1,6 +1,6 @@
 use Rattle.std.proofs.Common.{◌≡◌, [], ◌∷◌, ◌++◌, refl, sym, ap, ◌∙◌}
 use Rattle.std.proofs.lemmas.Bool.{MatchBool-at_true}
-use Rattle.fond_explicit.specs.Moves.{Move}
+use Rattle.fond_fixpoint.specs.Moves.{Move}
 use Rattle.fond_explicit.specs.Spaces.{IsMoveOf}
 use Rattle.fond_explicit.proofs.Grown.{grown_stay}
 use Rattle.fond_explicit.proofs.Opened.{opening_grown, opening_moved, last_moved}

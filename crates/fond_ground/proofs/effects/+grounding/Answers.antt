@@ -1,4 +1,4 @@
-use Rattle.std.proofs.Common.{◌≡◌, ◌∙◌, ◌++◌, not, ℕ, [], List, true, length, map, drop, sym, ap, subst, arith}
+use Rattle.std.proofs.Common.{◌≡◌, ◌∙◌, ◌++◌, ◌+◌, not, ℕ, Bool, [], List, true, length, map, take, drop, sym, ap, subst, arith}
 use Rattle.std.specs.Prelude.{◌==◌, is_some}
 use Rattle.std.specs.List.{list_all, flat_map}
 use Rattle.std.proofs.lemmas.Grind.{common_steps}
@@ -12,7 +12,10 @@ use Rattle.fond_meaning.proofs.Bools.{and-parts}
 use Rattle.fond_oneof.specs.declared.effect.GroundEffect as made
 use Rattle.fond_oneof.specs.declared.effect.GroundEffect.{GroundEffect}
 use Rattle.fond_ground.specs.Atoms.{atom_number}
-use Rattle.fond_ground.specs.Effects.{is_numbered, HasOutcomes, HaveOutcomes}
+use Rattle.fond_ground.specs.Effects.{is_numbered, numbered_by, HasOutcomes, HaveOutcomes}
+use Rattle.std.proofs.Math.Seq.{take-append_seam}
+use Rattle.fond_ground.proofs.Signs.{drop_here}
+use Rattle.fond_ground.proofs.Zips.{zip_more}
 use Rattle.fond_ground.proofs.Grounded.{numbered-Add, numbered-Delete, numbered-OneOf, outcomes-And, outcomes-OneOf, outcomes-Forall, outcomes-When, has-And, has-OneOf, has-When, has-always}
 use Rattle.fond_ground.proofs.effects.+grounding.Goals as goal
 
@@ -103,3 +106,68 @@ ground_members-returns-clause-effects t c =
     let none : drop c.loop-member.member-index c.args.members.now ≡ [] = grind (arith, common_steps) in
     subst (HaveOutcomes task (map f c.args.members.now)) (append-nil c.loop-member.effects.items)
     (c.loop-member.invariant.effects [] (subst (λ (left : List LEffect). HaveOutcomes task (map f left) []) (sym none) tt))
+
+pub ground_members-loop-member-init : goal.ground_members-loop-member-init
+ground_members-loop-member-init t c =
+    let task = c.args.table.now.facts.task.now in
+    let f : LEffect → List (List Literal) = outcomes c.args.env.now.items in
+    record {
+      env = λ i. c.args.env.now.items;
+      numbered = c.requires.numbered;
+      effects = λ rest more. subst (HaveOutcomes task (map f c.args.members.now)) (ap (λ (all : List GroundEffect). all ++ rest) (sym c.in_ok-effects.ensures.items)) more;
+    }
+
+pub ground_members-loop-member-preserved : goal.ground_members-loop-member-preserved
+ground_members-loop-member-preserved t c =
+    let task = c.args.table.now.facts.task.now in
+    let env = c.args.env.now.items in
+    let f : LEffect → List (List Literal) = outcomes env in
+    let before = c.loop-member.invariant in
+    let members = c.args.members.now in
+    let i = c.loop-member.member-index in
+    let member = c.member-item.result in
+    let effect = c.in_ok-ground_effect.field-0 in
+    let are_numbered : List LEffect → Bool = λ items. list_all (λ (numbered : List ℕ → Bool). numbered env) (map (numbered_by task) items) in
+    let split = drop_here members i member c.loop-member-test.true c.member-item.is in
+    let one = subst (λ (around : List ℕ). HasOutcomes task (outcomes around member) effect) before.env c.in_ok-ground_effect.ensures.effect in
+    record {
+      env = c.in_ok-ground_effect.ensures.env ∙ before.env;
+      numbered = (and-parts (is_numbered task env member) (are_numbered (drop (i + 1) members)) (ap are_numbered (sym split) ∙ before.numbered)).1;
+      effects = zip_more (HasOutcomes task) f members (drop i members) member (drop (i + 1) members) c.loop-member.effects.items c.push.new.self.items effect split c.in_ok-push.ensures.items one before.effects;
+    }
+
+pub ground_instances-loop-alloc-init : goal.ground_instances-loop-alloc-init
+ground_instances-loop-alloc-init t c =
+    let task = c.args.table.now.facts.task.now in
+    let env = c.args.env.now.items in
+    let f : List ℕ → List (List Literal) = λ objects. outcomes (env ++ objects) c.args.part.now in
+    let all = tuples (objects_of c.args.ranges.now) in
+    record {
+      around = (let ok = c.args.env.now.ok.0 in let len = c.len-around.ensures in omega (arith, ok, len));
+      env = λ i. env;
+      numbered = ap (list_all (λ objects. is_numbered task (env ++ objects) c.args.part.now)) c.in_ok-tuples.ensures ∙ c.requires.numbered;
+      effects = λ rest more.
+          subst (HaveOutcomes task (map f all)) (ap (λ (effects : List GroundEffect). effects ++ rest) (sym c.new-effects.ensures.items))
+          (subst (λ (left : List (List ℕ)). HaveOutcomes task (map f left) rest) c.in_ok-tuples.ensures more);
+    }
+
+pub ground_instances-loop-alloc-preserved : goal.ground_instances-loop-alloc-preserved
+ground_instances-loop-alloc-preserved t c =
+    let task = c.args.table.now.facts.task.now in
+    let env = c.args.env.now.items in
+    let part = c.args.part.now in
+    let f : List ℕ → List (List Literal) = λ objects. outcomes (env ++ objects) part in
+    let before = c.loop-alloc.invariant in
+    let taken = c.in_ok-put_next.ensures in
+    let effect = c.in_ok-ground_effect.field-0 in
+    let back : c.truncate.new.self.items ≡ env =
+    c.truncate.ensures.items ∙ ap (take c.len-around.result) (c.in_ok-ground_effect.ensures.env ∙ taken.put)
+    ∙ ap (λ n. take n (c.loop-alloc.env.items ++ taken.objects)) before.around ∙ take-append_seam c.loop-alloc.env.items taken.objects ∙ before.env in
+    let one = subst (λ (around : List ℕ). HasOutcomes task (outcomes around part) effect) (taken.put ∙ ap (λ around. around ++ taken.objects) before.env) c.in_ok-ground_effect.ensures.effect in
+    let are_numbered = list_all (λ objects. is_numbered task (env ++ objects) part) in
+    record {
+      around = before.around ∙ ap length before.env ∙ ap length (sym back);
+      env = back;
+      numbered = (and-parts (is_numbered task (env ++ taken.objects) part) (are_numbered c.put_next.new.self) (ap are_numbered (sym taken.split) ∙ before.numbered)).1;
+      effects = zip_more (HasOutcomes task) f (tuples (objects_of c.args.ranges.now)) c.loop-alloc.tuples taken.objects c.put_next.new.self c.loop-alloc.effects.items c.push.new.self.items effect taken.split c.in_ok-push.ensures.items one before.effects;
+    }

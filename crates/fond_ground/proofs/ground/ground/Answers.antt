@@ -28,61 +28,38 @@ returns-in_err-atoms-clause-refused c =
     handed_on _ _ _ c.from_residual.ensures.1
     (refuses_map (λ (fault : Fault). (fault ≡ at_domain task.place TOO_MANY_ATOMS) × HasManyAtoms task) (IsGroundFault task) (refused_atoms task) _ c.in_err-atoms.ensures.many)
 
-pub returns-in_err-lists-clause-refused : goal.returns-in_err-lists-clause-refused
-returns-in_err-lists-clause-refused c =
-    let task = c.args.task.now in
-    let same : c.in_ok-table.table.facts.task.now ≡ task = c.in_ok-table.ensures in
-    handed_on _ _ _ c.from_residual-in_err-lists.ensures.1
-    (refuses_map (λ (fault : Fault). (fault ≡ at_domain c.in_ok-table.table.facts.task.now.place TOO_MANY_ACTIONS) × HasManyActions c.in_ok-table.table.facts.task.now) (IsGroundFault task)
-    (λ fault h. refused_actions task c.in_ok-atoms.ensures.atoms.1 fault (subst (λ (t : LiftedTask). (fault ≡ at_domain t.place TOO_MANY_ACTIONS) × HasManyActions t) same h)) _ c.in_err-lists.ensures.many)
-
-pub returns-in_err-acts-clause-refused : goal.returns-in_err-acts-clause-refused
-returns-in_err-acts-clause-refused c =
-    let task = c.args.task.now in
-    let same : c.in_ok-table.table.facts.task.now ≡ task = c.in_ok-table.ensures in
-    let fewer = subst (λ (t : LiftedTask). length (kept_actions t) ≤ MOST_ACTIONS) same c.in_ok-lists.ensures.lists.1 in
-    handed_on _ _ _ c.from_residual-in_err-acts.ensures.1
-    (refuses_map (λ (fault : Fault). Somewhere (IsFirstMany c.in_ok-table.table.facts.task.now fault) c.in_ok-table.table.facts.task.now.schemas) (IsGroundFault task)
-    (λ fault h. refused_outcomes task c.in_ok-atoms.ensures.atoms.1 fewer fault (subst (λ (t : LiftedTask). Somewhere (IsFirstMany t fault) t.schemas) same h)) _ c.in_err-acts.ensures.many)
+pub returns-in_err-parts-clause-refused : goal.returns-in_err-parts-clause-refused
+returns-in_err-parts-clause-refused c = handed_on _ _ _ c.from_residual-in_err-parts.ensures.1 c.in_err-parts.ensures.refused
 
 pub returns-clause-clean : goal.returns-clause-clean
 returns-clause-clean c =
-    let task = c.args.task.now in
-    let same : c.in_ok-table.table.facts.task.now ≡ task = c.in_ok-table.ensures in
-    let fewer = subst (λ (t : LiftedTask). length (kept_actions t) ≤ MOST_ACTIONS) same c.in_ok-lists.ensures.lists.1 in
-    let all = subst (λ (t : LiftedTask). list_all (has_few_outcomes t) t.schemas ≡ true) same c.in_ok-acts.ensures.few in
-    no_fault task c.in_ok-atoms.ensures.atoms.1 fewer all
+    let acts = c.in_ok-parts.ensures.parts.acts in
+    no_fault c.args.task.now c.in_ok-atoms.ensures.atoms.1 acts.few acts.few_outcomes
 
 pub returns-clause-grounded : goal.returns-clause-grounded
-returns-clause-grounded c =
-    let task = c.args.task.now in
-    let same : c.in_ok-table.table.facts.task.now ≡ task = c.in_ok-table.ensures in
-    let atoms = c.in_ok-atoms.ensures.atoms.0 in
-    record {
-      atoms = atoms;
-      acts = subst (λ (t : LiftedTask). AllZip (IsActOf t) (kept_actions t) c.in_ok-acts.acts) same c.in_ok-acts.ensures.acts;
-      init = c.in_ok-init.ensures ∙ (λ i. map (set.contains (initial (same i))) (atoms i));
-      goal = subst (λ (t : LiftedTask). StandsFor t [] t.goal c.in_ok-goal.goal) same c.in_ok-goal.ensures.value;
-      labels = c.in_ok-labels.ensures.labels;
-    }
+returns-clause-grounded c = record {
+  atoms = c.in_ok-atoms.ensures.atoms.0;
+  acts = c.in_ok-parts.ensures.parts.acts.each;
+  init = c.in_ok-parts.ensures.parts.init;
+  goal = c.in_ok-parts.ensures.parts.goal;
+  labels = c.in_ok-labels.ensures.labels;
+}
 
 pub invariant_of-result : goal.invariant_of-result
 invariant_of-result c =
     let task = c.args.task.now in
-    let same : c.in_ok-table.table.facts.task.now ≡ task = c.in_ok-table.ensures in
     let atoms = c.in_ok-atoms.ensures.atoms.0 in
     let few = c.in_ok-atoms.ensures.atoms.1 in
-    let fewer = subst (λ (t : LiftedTask). length (kept_actions t) ≤ MOST_ACTIONS) same c.in_ok-lists.ensures.lists.1 in
-    let acts = subst (λ (t : LiftedTask). AllZip (IsActOf t) (kept_actions t) c.in_ok-acts.acts) same c.in_ok-acts.ensures.acts in
-    let count = zip-length (IsActOf task) (kept_actions task) c.in_ok-acts.acts acts in
+    let parts = c.in_ok-parts.ensures.parts in
+    let all = c.in_ok-parts.parts.acts in
+    let count = zip-length (IsActOf task) (kept_actions task) all parts.acts.each in
     let long = ap length atoms in
-    let over : length (fluent_atoms c.in_ok-table.table.facts.task.now) ≡ length c.in_ok-atoms.atoms = ap (λ (t : LiftedTask). length (fluent_atoms t)) same ∙ sym long in
     let labels = c.in_ok-labels.ensures.labels in
     record {
       few_atoms = omega (arith, long, few);
-      few_acts = omega (arith, count, fewer);
+      few_acts = let fewer = parts.acts.few in omega (arith, count, fewer);
       distinct_atoms = ap are_distinct_atoms atoms ∙ atoms-distinct task;
-      distinct_acts = acts-distinct task c.in_ok-acts.acts acts;
+      distinct_acts = acts-distinct task all parts.acts.each;
       distinct_predicates = ap (λ some. are_distinct_texts some.predicates) labels ∙ task.distinct_predicates;
       distinct_objects = ap (λ some. are_distinct_texts some.objects) labels ∙ task.distinct_objects;
       distinct_schemas = ap (λ some. are_distinct_texts some.schemas) labels ∙ task.distinct_schemas;
@@ -90,8 +67,8 @@ invariant_of-result c =
       object_names = c.in_ok-labels.ensures.objects;
       schema_names = c.in_ok-labels.ensures.schemas;
       named_atoms = (λ i. list_all (is_named_atom (labels i)) (atoms i)) ∙ atoms-named task;
-      named_acts = ap (λ some. list_all (λ act. is_named_action some act.ground) c.in_ok-acts.acts) labels ∙ acts-named task c.in_ok-acts.acts acts;
-      init_long = ap length c.in_ok-init.ensures ∙ length-map c.in_ok-atoms.atoms (set.contains (initial c.in_ok-table.table.facts.task.now));
-      goal_within = ap (λ n. is_form_within n c.in_ok-goal.goal) (sym over) ∙ c.in_ok-goal.ensures.within;
-      acts_within = ap (λ n. list_all (is_act_within n) c.in_ok-acts.acts) (sym over) ∙ c.in_ok-acts.ensures.within;
+      named_acts = ap (λ some. list_all (λ act. is_named_action some act.ground) all) labels ∙ acts-named task all parts.acts.each;
+      init_long = ap length parts.init ∙ length-map (fluent_atoms task) (set.contains (initial task)) ∙ sym long;
+      goal_within = ap (λ n. is_form_within n c.in_ok-parts.parts.goal) long ∙ parts.goal_within;
+      acts_within = ap (λ n. list_all (is_act_within n) all) long ∙ parts.acts.within;
     }
