@@ -99,6 +99,20 @@ impl<'a> Place<'a> {
             self.drop_literal(rule, atom, pad);
         }
     }
+
+    /// Makes the rule lean, beginning with its condition, or with the full cube if it is not sure with that.
+    fn shorten(&self, full: &Cube, rule: &mut Rule, pad: &mut Pad)
+        requires full_long { length full.now ≡ length self.now.task.now.atoms }
+        requires long { length rule.old.cond ≡ length self.now.task.now.atoms }
+        requires lies { CubeLiesIn full.now rule.old.cond }
+        requires sure { IsSureRule self.now.task.now self.now.pairs.now self.now.rules.now (length self.now.rules.now) (record rule.old { cond = full.now }) }
+        requires pad { pad.old ≡ length self.now.task.now.atoms }
+        ensures shorter { IsShorter rule.new (record rule.old { cond = full.now }) }
+        ensures lean { IsLeanRule self.now.task.now self.now.pairs.now self.now.rules.now (length self.now.rules.now) rule.new }
+    {
+        self.make_sure(full, rule, pad);
+        self.drop_each(rule, pad);
+    }
 }
 
 /// A copy of the targets.
@@ -154,7 +168,6 @@ pub fn lean_condition(
         pairs,
         rules,
     };
-    place.make_sure(&full, &mut rule, &mut pad);
-    place.drop_each(&mut rule, &mut pad);
+    place.shorten(&full, &mut rule, &mut pad);
     Ok(rule.cond)
 }

@@ -1,0 +1,4 @@
+pub mod Stable
+pub mod Weaker
+pub mod Guesses
+pub mod Laws

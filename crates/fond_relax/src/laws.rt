@@ -1,0 +1,8 @@
+//! The law of stable cubes.
+
+ghost use Rattle.fond_relax.specs.Laws.{StableCubesAreSure};
+
+/// A stable cube without a goal is a sure layer by itself.
+pub fn stable_cubes_are_sure()
+    ensures { StableCubesAreSure }
+{}
