@@ -1,6 +1,6 @@
 use crate::coin::ground_coin;
-use fond_check::reach::reach_count;
 use fond_decide::decide::{Decision, decide};
+use fond_policy::reach::reach_count;
 use fond_rules::pairs::Pairs;
 use fond_rules::rules::Rules;
 use std::test::Fail;

@@ -1,5 +1,4 @@
 use crate::coin::ground_coin;
-use fond_cert::cert::Cert;
 use fond_cert::error::CertError;
 use fond_cert::print::print_cert;
 use fond_cert::read::read_cert;
@@ -7,6 +6,7 @@ use fond_exec::executor::Executor;
 use fond_exec::script::read_script;
 use fond_exec::step::Step;
 use fond_exec::trace::trace;
+use fond_policy::cert::Cert;
 use fond_rules::rules::Rules;
 use fond_task::task::Task;
 use std::alloc::Global;

@@ -16,13 +16,13 @@ use Rattle.fond_game.specs.declared.rule.Target.TheVariants.{Goal, Rule as ToRul
 use Rattle.fond_game.specs.declared.rule.Targets.{Targets}
 use Rattle.fond_game.specs.declared.rule.Targets.TheVariants.{One, All}
 use Rattle.fond_layers.specs.Over.{IsOver, AreOver}
-use Rattle.fond_cert.specs.declared.cert.Cert.{Cert}
-use Rattle.fond_cert.specs.declared.cert.Cert.TheVariants.{Policy, Refusal}
-use Rattle.fond_cert.specs.Belongs.{Belongs}
+use Rattle.fond_policy.specs.declared.cert.Cert.{Cert}
+use Rattle.fond_policy.specs.declared.cert.Cert.TheVariants.{Policy, Refusal}
+use Rattle.fond_policy.specs.Belongs.{Belongs}
 use Rattle.fond_cert.specs.Faults.{Due, HeaderDue, NothingDue, Lead}
 use Rattle.fond_cert.specs.Items.{IsPairOf, IsRuleOf}
 use Rattle.fond_cert.specs.Lines.{group_text, WrittenLiteral, WrittenLine, CubeLine, ReachLine, EndLine, line_text}
-use Rattle.fond_cert.specs.Sizes.{IsSmallPair, IsSmallTarget, AreSmallTargets, HasSmallNumbers}
+use Rattle.fond_policy.specs.Sizes.{IsSmallPair, IsSmallTarget, AreSmallTargets, HasSmallNumbers}
 use Rattle.fond_cert.specs.Spellings.{act_leaves, written_literal, written_cube, written_target, layer_lines, pair_line, targets_line, rule_line, cert_lines, lines_text, spelling}
 use Rattle.fond_cert.specs.Words.{atom_numbers}
 use Rattle.fond_cert.proofs.CubeTexts.{zipped, cube_zipped}

@@ -19,14 +19,14 @@ use Rattle.fond_game.specs.declared.rule.Target.TheVariants.{Goal, Rule as ToRul
 use Rattle.fond_game.specs.declared.rule.Targets.{Targets}
 use Rattle.fond_game.specs.declared.rule.Targets.TheVariants.{One, All}
 use Rattle.fond_rules.specs.Belongs.{HasTarget}
-use Rattle.fond_cert.specs.declared.cert.Cert.{Cert}
-use Rattle.fond_cert.specs.declared.cert.Cert.TheVariants.{Policy, Refusal}
-use Rattle.fond_cert.specs.Belongs.{Belongs, BelongAsLayers}
+use Rattle.fond_policy.specs.declared.cert.Cert.{Cert}
+use Rattle.fond_policy.specs.declared.cert.Cert.TheVariants.{Policy, Refusal}
+use Rattle.fond_policy.specs.Belongs.{Belongs, BelongAsLayers}
 use Rattle.fond_cert.specs.Checked.{rises}
 use Rattle.fond_cert.specs.Faults.{Kind, OfPolicy, OfRefusal, Due, HeaderDue, LayersDue, CubesDue, PairsDue, RulesDue, EndDue, NothingDue, if_few, due_after, Lead}
 use Rattle.fond_cert.specs.Items.{IsPairOf, IsRuleOf}
 use Rattle.fond_cert.specs.Lines.{IsGroup, group_text, is_number, IsProperTarget, WrittenLiteral, AreProper, WrittenLine, LayerLine, CubeLine, FairRule, UnfairRule, ReachLine, EndLine, Piece, Fixed, Below, piece_text, target_piece, target_pieces, literal_pieces, line_pieces, IsProper}
-use Rattle.fond_cert.specs.Sizes.{IsSmallPair, IsSmallTarget, AreSmallTargets, HasSmallNumbers}
+use Rattle.fond_policy.specs.Sizes.{IsSmallPair, IsSmallTarget, AreSmallTargets, HasSmallNumbers}
 use Rattle.fond_cert.specs.Spellings.{atom_leaves, act_leaves, written_literal, written_cube, written_target, layer_lines, pair_line, targets_line, rule_line, cert_lines}
 use Rattle.fond_cert.specs.Words.{piece_code, unknown, refused_or, first_refused, atom_numbers, is_increasing, refusal_or_order, is_ordered, line_refusal}
 use Rattle.fond_cert.proofs.CubeTexts.{no_atom, zipped, cube_zipped}

@@ -16,8 +16,8 @@ use Rattle.fond_game.specs.declared.rule.Pair.{Pair}
 use Rattle.fond_game.specs.declared.rule.Rule.{Rule}
 use Rattle.fond_game.specs.declared.rule.Targets.{Targets}
 use Rattle.fond_game.specs.declared.rule.Targets.TheVariants.{One, All}
-use Rattle.fond_cert.specs.declared.cert.Cert.TheVariants.{Policy, Refusal}
-use Rattle.fond_cert.specs.Belongs.{BelongAsPairs, BelongAsRules}
+use Rattle.fond_policy.specs.declared.cert.Cert.TheVariants.{Policy, Refusal}
+use Rattle.fond_policy.specs.Belongs.{BelongAsPairs, BelongAsRules}
 use Rattle.fond_cert.specs.Items.{IsPairOf, IsRuleOf}
 use Rattle.fond_cert.specs.Cutting.{target_text, targets_text, literals_text}
 use Rattle.fond_cert.specs.Lines.{group_text, WrittenLiteral, WrittenLine, ReachLine, EndLine, sign_text}
@@ -68,6 +68,9 @@ next_text f xs i x before after whole at e is =
 
 pub grew_more : (start before after text : List ℕ) → ((more : List ℕ) × (before ≡ start ++ more)) → after ≡ before ++ text → (more : List ℕ) × (after ≡ start ++ more)
 grew_more start before after text h e = (h.0 ++ text, e ∙ ap (λ t. t ++ text) h.1 ∙ append_assoc start h.0 text)
+
+pub grew_twice : (start before after : List ℕ) → ((more : List ℕ) × (before ≡ start ++ more)) → ((more : List ℕ) × (after ≡ before ++ more)) → (more : List ℕ) × (after ≡ start ++ more)
+grew_twice start before after one two = grew_more start before after two.0 one two.1
 
 -- lines of which each item makes several, item by item
 pub several_lines : {X : Type 0} (f : X → List WrittenLine) (xs : List X) → lines_text (flat_map f xs) ≡ flat_map (λ (x : X). lines_text (f x)) xs

@@ -14,7 +14,7 @@ use Rattle.fond_cert.specs.declared.draft.Draft.{Draft}
 use Rattle.fond_cert.specs.declared.line.Line.{Line}
 use Rattle.fond_cert.specs.declared.line.Line.TheVariants.{PolicyHeader as CutPolicy, RefusalHeader as CutRefusal, Layer, Cube, Pair, FairRule as CutFair, UnfairRule as CutUnfair, Reach, End}
 use Rattle.fond_cert.specs.declared.part.Part.{Part}
-use Rattle.fond_cert.specs.Belongs.{BelongAsLayers}
+use Rattle.fond_policy.specs.Belongs.{BelongAsLayers}
 use Rattle.fond_cert.specs.Cutting.{IsLineOf, IsMade}
 use Rattle.fond_cert.specs.Drafts.{opened, all_layers, reach_lines, draft_lines, IsDraftOf, with_open, closed, with_pair, with_rule, with_reach, IsGrown, header, HasLayersAlone, FitsDue, HasRoom}
 use Rattle.fond_cert.specs.Faults.{Due, due_after}

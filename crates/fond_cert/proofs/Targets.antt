@@ -9,7 +9,7 @@ use Rattle.fond_game.specs.declared.rule.Target.{Target}
 use Rattle.fond_cert.specs.Lines.{is_number, spaced, WrittenTarget, IsProperTarget, piece_text, target_piece, target_pieces}
 use Rattle.fond_cert.specs.Parts.{is_target, AreTargets, IsCut, EndsWord}
 use Rattle.fond_cert.specs.Words.{piece_code, refused_or, first_refused}
-use Rattle.fond_cert.specs.Sizes.{IsSmallTarget}
+use Rattle.fond_policy.specs.Sizes.{IsSmallTarget}
 use Rattle.fond_cert.specs.Spellings.{written_target}
 use Rattle.fond_cert.specs.Checked.{as_target, AreTargetsText, AreTargetsAt, IsTargetRefused}
 use Rattle.fond_cert.proofs.Cuts.{same_word, target_no_space}

@@ -16,7 +16,7 @@ use Rattle.fond_cert.specs.declared.error.LineError.{LineError}
 use Rattle.fond_cert.specs.declared.error.LineError.TheVariants.{Refused as RefusedLine, NoMemory}
 use Rattle.fond_cert.specs.declared.line.Line.{Line}
 use Rattle.fond_cert.specs.declared.line.Line.TheVariants.{PolicyHeader as CutPolicy, RefusalHeader as CutRefusal, Layer, Cube, Pair, FairRule as CutFair, UnfairRule as CutUnfair, Reach, End}
-use Rattle.fond_cert.specs.Belongs.{Belongs, BelongAsLayers, BelongAsPairs, BelongAsRules}
+use Rattle.fond_policy.specs.Belongs.{Belongs, BelongAsLayers, BelongAsPairs, BelongAsRules}
 use Rattle.fond_cert.specs.Cutting.{IsLineOf, IsCutOf, IsRefusedBy}
 use Rattle.fond_cert.specs.Drafts.{all_layers, draft_lines, opened, IsDraftOf, HasLayersAlone, FitsDue}
 use Rattle.fond_cert.specs.Faults.{Due, HeaderDue, LayersDue, CubesDue, PairsDue, RulesDue, EndDue, NothingDue, due_after, Lead, IsRefusedLine, IsRefusedAt, IsCertFault}
@@ -26,7 +26,7 @@ use Rattle.fond_cert.specs.Lines.{WrittenLine, PolicyHeader, RefusalHeader, Laye
 use Rattle.fond_cert.specs.Progress.{IsReady, IsTaken, IsWhole, cert_by, cert_of, IsPlaced}
 use Rattle.fond_cert.specs.Refusals.{LineRefuses, CertRefuses}
 use Rattle.fond_cert.specs.Spellings.{layer_lines, pair_line, rule_line, lines_text, spelling}
-use Rattle.fond_cert.specs.Sizes.{HasSmallNumbers}
+use Rattle.fond_policy.specs.Sizes.{HasSmallNumbers}
 use Rattle.fond_cert.specs.Stages.{due_of, like}
 use Rattle.fond_cert.specs.Words.{Refused}
 use Rattle.fond_cert.proofs.Dues.{like_due}

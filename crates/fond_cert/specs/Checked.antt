@@ -13,7 +13,7 @@ use Rattle.fond_cert.specs.declared.part.Part.{Part}
 use Rattle.fond_cert.specs.Cutting.{literals_text}
 use Rattle.fond_cert.specs.Lines.{IsGroup, group_text, spaced, WrittenTarget, GoalWord, NumberWord, IsProperTarget, WrittenLiteral, AreProper, piece_text, target_piece, target_pieces, literal_pieces}
 use Rattle.fond_cert.specs.Parts.{AreTargets}
-use Rattle.fond_cert.specs.Sizes.{IsSmallTarget}
+use Rattle.fond_policy.specs.Sizes.{IsSmallTarget}
 use Rattle.fond_cert.specs.Spellings.{written_target, written_cube}
 use Rattle.fond_cert.specs.Words.{Refused, piece_code, first_refused, atom_numbers, is_increasing, refusal_or_order}
 

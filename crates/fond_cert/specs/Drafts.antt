@@ -9,7 +9,7 @@ use Rattle.fond_game.specs.Layers.{CubeView}
 use Rattle.fond_cert.specs.declared.draft.Draft.{Draft}
 use Rattle.fond_cert.specs.declared.line.Line.{Line}
 use Rattle.fond_cert.specs.declared.line.Line.TheVariants.{Layer, Cube, Pair, FairRule as CutFair, UnfairRule as CutUnfair, Reach}
-use Rattle.fond_cert.specs.Belongs.{BelongAsLayers}
+use Rattle.fond_policy.specs.Belongs.{BelongAsLayers}
 use Rattle.fond_cert.specs.Cutting.{IsMade}
 use Rattle.fond_cert.specs.Faults.{Kind, OfPolicy, OfRefusal, Due, HeaderDue, LayersDue, CubesDue, PairsDue, RulesDue, EndDue, NothingDue}
 use Rattle.fond_cert.specs.Items.{IsReadPair, IsReadRule}

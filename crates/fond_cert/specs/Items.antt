@@ -4,7 +4,7 @@ use Rattle.fond_task.specs.declared.task.Task.{Task}
 use Rattle.fond_game.specs.declared.rule.Pair.{Pair}
 use Rattle.fond_game.specs.declared.rule.Rule.{Rule}
 use Rattle.fond_rules.specs.Belongs.{HasTarget}
-use Rattle.fond_cert.specs.Sizes.{IsSmallPair, AreSmallTargets}
+use Rattle.fond_policy.specs.Sizes.{IsSmallPair, AreSmallTargets}
 
 -- a pair belongs to a task: its condition is over the task's atoms, and the task has its action
 abbrev pub IsPairOf : Task → Pair → Type 0

@@ -1,10 +1,10 @@
 -- The laws of the texts of certificates.
 use Rattle.std.specs.Prelude.{◌≡◌, ℕ, List}
 use Rattle.fond_task.specs.declared.task.Task.{Task}
-use Rattle.fond_cert.specs.declared.cert.Cert.{Cert}
-use Rattle.fond_cert.specs.Belongs.{Belongs}
+use Rattle.fond_policy.specs.declared.cert.Cert.{Cert}
+use Rattle.fond_policy.specs.Belongs.{Belongs}
 use Rattle.fond_cert.specs.Faults.{IsCertFault}
-use Rattle.fond_cert.specs.Sizes.{HasSmallNumbers}
+use Rattle.fond_policy.specs.Sizes.{HasSmallNumbers}
 use Rattle.fond_cert.specs.Spellings.{spelling}
 
 -- certificates of a task that are spelled the same are the same, if their numbers fit their types

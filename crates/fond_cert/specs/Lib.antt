@@ -1,7 +1,6 @@
 pub mod Feeds
 pub mod Lines
 pub mod Words
-pub mod Belongs
 pub mod Spellings
 pub mod Faults
 pub mod Parts
@@ -14,5 +13,4 @@ pub mod Stages
 pub mod Drafts
 pub mod Progress
 pub mod Printed
-pub mod Sizes
 pub mod Laws

@@ -4,6 +4,7 @@
 ghost use Rattle.fond_cert.specs.Cutting.{IsRightCut, IsRefusedBy};
 ghost use Rattle.fond_cert.specs.Drafts.{IsDraftOf, closed, with_open, with_pair, with_rule, with_reach, opened, all_layers, IsGrown, HasRoom};
 ghost use Rattle.fond_cert.specs.Refusals.{LineRefuses};
+ghost use Rattle.fond_cert.specs.declared.line.Line.TheVariants.{Cube as CubeParts, FairRule as FairParts, UnfairRule as UnfairParts};
 ghost use Rattle.fond_game.specs.Layers.{CubeView};
 ghost use Rattle.std.specs.Prelude.{◌≡◌, ◌<◌, ◌-◌, ◌^◌, List, [], ◌∷◌, ◌++◌, length, None, Some, All, IfOk, IfErr, OnOk};
 
@@ -11,6 +12,7 @@ use crate::draft::Draft;
 use crate::error::LineError;
 use crate::item::{read_fair, read_layer_cube, read_pair, read_reach, read_unfair};
 use crate::line::Line;
+use crate::part::Part;
 use fond_game::rule::{Pair, Rule};
 use fond_layers::layers::{Layer, Layers};
 use fond_rules::pairs::Pairs;
@@ -99,6 +101,62 @@ impl Draft {
         Ok(())
     }
 
+    /// Adds the cube of a line, by the line's part.
+    fn take_cube(
+        &mut self,
+        alloc: Global,
+        index: &TaskIndex,
+        literals: Part,
+    ) -> Result<(), LineError>
+        requires cut { IsRightCut (CubeParts literals) }
+        ensures grown { OnOk result (IsGrown index.now (CubeParts literals.entry) self.old self.new) }
+        ensures wrong { IfErr result (LineRefuses (IsRefusedBy index.now (CubeParts literals.entry))) }
+    {
+        self.add_cube(read_layer_cube(alloc, index, literals)?)?;
+        Ok(())
+    }
+
+    /// Adds the rule of a fair action, by the line's parts.
+    fn take_fair(
+        &mut self,
+        alloc: Global,
+        index: &TaskIndex,
+        action: Part,
+        outcome: Part,
+        target: Part,
+        literals: Part,
+    ) -> Result<(), LineError>
+        requires cut { IsRightCut (FairParts action outcome target literals) }
+        requires room { length self.old.rules < 2 ^ 32 - 1 }
+        requires few { length (all_layers self.old) < 2 ^ 32 }
+        requires few_cubes { All (λ (layer : List CubeView). length layer < 2 ^ 32) (all_layers self.old) }
+        ensures grown { OnOk result (IsGrown index.now (FairParts action.entry outcome.entry target.entry literals.entry) self.old self.new) }
+        ensures wrong { IfErr result (LineRefuses (IsRefusedBy index.now (FairParts action.entry outcome.entry target.entry literals.entry))) }
+    {
+        self.add_rule(read_fair(alloc, index, action, outcome, target, literals)?)?;
+        Ok(())
+    }
+
+    /// Adds the rule of an unfair action, by the line's parts.
+    fn take_unfair(
+        &mut self,
+        alloc: Global,
+        index: &TaskIndex,
+        action: Part,
+        targets: Part,
+        literals: Part,
+    ) -> Result<(), LineError>
+        requires cut { IsRightCut (UnfairParts action targets literals) }
+        requires room { length self.old.rules < 2 ^ 32 - 1 }
+        requires few { length (all_layers self.old) < 2 ^ 32 }
+        requires few_cubes { All (λ (layer : List CubeView). length layer < 2 ^ 32) (all_layers self.old) }
+        ensures grown { OnOk result (IsGrown index.now (UnfairParts action.entry targets.entry literals.entry) self.old self.new) }
+        ensures wrong { IfErr result (LineRefuses (IsRefusedBy index.now (UnfairParts action.entry targets.entry literals.entry))) }
+    {
+        self.add_rule(read_unfair(alloc, index, action, targets, literals)?)?;
+        Ok(())
+    }
+
     /// Adds what the line makes.
     pub fn add(&mut self, alloc: Global, index: &TaskIndex, line: Line) -> Result<(), LineError>
         requires cut { IsRightCut line }
@@ -111,7 +169,7 @@ impl Draft {
         match line {
             Line::PolicyHeader | Line::RefusalHeader | Line::End => self.close()?,
             Line::Layer => self.add_layer(alloc)?,
-            Line::Cube { literals } => self.add_cube(read_layer_cube(alloc, index, literals)?)?,
+            Line::Cube { literals } => self.take_cube(alloc, index, literals)?,
             Line::Pair {
                 action,
                 outcome,
@@ -124,12 +182,12 @@ impl Draft {
                 outcome,
                 target,
                 literals,
-            } => self.add_rule(read_fair(alloc, index, action, outcome, target, literals)?)?,
+            } => self.take_fair(alloc, index, action, outcome, target, literals)?,
             Line::UnfairRule {
                 action,
                 targets,
                 literals,
-            } => self.add_rule(read_unfair(alloc, index, action, targets, literals)?)?,
+            } => self.take_unfair(alloc, index, action, targets, literals)?,
             Line::Reach { count } => self.add_reach(read_reach(index, count)?)?,
         }
         Ok(())

@@ -3,7 +3,6 @@
 //! certificate is correct is left to others.
 #![tactic(auto)]
 
-pub mod cert;
 mod cut;
 mod draft;
 mod due;

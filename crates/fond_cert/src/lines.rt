@@ -6,7 +6,7 @@ ghost use Rattle.fond_cert.specs.Progress.{IsReady, IsTaken, IsWhole, IsPlaced};
 ghost use Rattle.fond_cert.specs.Refusals.{LineRefuses, CertRefuses};
 ghost use Rattle.fond_cert.specs.Stages.{due_of};
 ghost use Rattle.fond_cert.specs.declared.due.Due.TheVariants.{Nothing};
-ghost use Rattle.std.specs.Prelude.{◌≡◌, ◌+◌, ◌-◌, ◌≤◌, [], length, Decides, IfOk, IfErr};
+ghost use Rattle.std.specs.Prelude.{◌≡◌, ◌+◌, ◌-◌, ◌≤◌, [], None, length, Decides, IfOk, IfErr, OnOk};
 
 use crate::draft::Draft;
 use crate::due::Due;
@@ -67,17 +67,21 @@ fn is_over(due: Due, rest: &[u8]) -> bool
     }
 }
 
-/// What the lines of the text make. Takes time in the length of the text, and in the number of the task's atoms for each
-/// cube, pair and rule; memory for what the lines make.
-pub(crate) fn read_lines(alloc: Global, index: &TaskIndex, text: &[u8]) -> Result<Draft, CertError>
-    ensures read { IfOk result (λ draft. IsDraftOf index.now draft × IsWhole index.now text.now draft) }
+/// Adds what the lines of the text make to a draft without parts.
+fn add_lines(
+    alloc: Global,
+    index: &TaskIndex,
+    text: &[u8],
+    draft: &mut Draft,
+) -> Result<(), CertError>
+    requires { draft.old ≡ record { layers = []; current = None; pairs = []; rules = []; reach = None } }
+    ensures read { OnOk result (IsDraftOf index.now draft.new × IsWhole index.now text.now draft.new) }
     ensures refused { IfErr result (CertRefuses (IsCertFault index.now text.now)) }
 {
-    let mut draft = Draft::new(alloc);
     let mut due = Due::Header;
     let mut rest = text;
     while let Some((piece, further)) = line_of(rest) {
-        match take(alloc, index, &mut draft, due, piece) {
+        match take(alloc, index, draft, due, piece) {
             Ok(next) => {
                 due = next;
                 rest = further;
@@ -86,8 +90,19 @@ pub(crate) fn read_lines(alloc: Global, index: &TaskIndex, text: &[u8]) -> Resul
         }
     }
     if is_over(due, rest) {
-        Ok(draft)
+        Ok(())
     } else {
         Err(placed(text, rest, FORMLESS))
     }
+}
+
+/// What the lines of the text make. Takes time in the length of the text, and in the number of the task's atoms for each
+/// cube, pair and rule; memory for what the lines make.
+pub(crate) fn read_lines(alloc: Global, index: &TaskIndex, text: &[u8]) -> Result<Draft, CertError>
+    ensures read { IfOk result (λ draft. IsDraftOf index.now draft × IsWhole index.now text.now draft) }
+    ensures refused { IfErr result (CertRefuses (IsCertFault index.now text.now)) }
+{
+    let mut draft = Draft::new(alloc);
+    add_lines(alloc, index, text, &mut draft)?;
+    Ok(draft)
 }

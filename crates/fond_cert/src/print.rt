@@ -1,6 +1,6 @@
 //! Printing a certificate.
 
-ghost use Rattle.fond_cert.specs.Belongs.{Belongs};
+ghost use Rattle.fond_policy.specs.Belongs.{Belongs};
 ghost use Rattle.fond_cert.specs.Items.{IsPairOf, IsRuleOf};
 ghost use Rattle.fond_cert.specs.Lines.{CubeLine, ReachLine};
 ghost use Rattle.fond_cert.specs.Printed.{fed, chosen_text, places_text, cond_text, pair_text, rule_text, layer_text, plan_text, policy_text, refusal_text};
@@ -9,10 +9,10 @@ ghost use Rattle.std.specs.Fmt.{decimal};
 ghost use Rattle.std.specs.List.{flat_map};
 ghost use Rattle.std.specs.Prelude.{◌≡◌, ◌++◌, ℕ, List, All, codes, OnOk, OnErr};
 
-use crate::cert::Cert;
 use crate::put::{put_act, put_cube, put_target, put_targets};
 use fond_game::rule::{Pair, Rule, Targets};
 use fond_layers::layers::{Layer, Layers};
+use fond_policy::cert::Cert;
 use fond_rules::pairs::Pairs;
 use fond_rules::rules::Rules;
 use fond_state::cube::Cube;

@@ -1,17 +1,17 @@
 //! Reading a certificate.
 
-ghost use Rattle.fond_cert.specs.Belongs.{Belongs};
+ghost use Rattle.fond_policy.specs.Belongs.{Belongs};
 ghost use Rattle.fond_cert.specs.Faults.{IsCertFault};
 ghost use Rattle.fond_cert.specs.Progress.{cert_of};
 ghost use Rattle.fond_cert.specs.Refusals.{CertRefuses};
-ghost use Rattle.fond_cert.specs.Sizes.{HasSmallNumbers};
+ghost use Rattle.fond_policy.specs.Sizes.{HasSmallNumbers};
 ghost use Rattle.fond_cert.specs.Spellings.{spelling};
 ghost use Rattle.std.specs.Prelude.{◌≡◌, IfOk, IfErr};
 
-use crate::cert::Cert;
 use crate::draft::Draft;
 use crate::error::CertError;
 use crate::lines::read_lines;
+use fond_policy::cert::Cert;
 use fond_task::task::Task;
 use fond_task::task_index::TaskIndex;
 use fond_text::fault::NoMemory;
@@ -36,6 +36,17 @@ fn finish(draft: Draft) -> Result<Cert, NoMemory>
     })
 }
 
+/// The certificate that a text spells, or the text's first fault.
+fn read_with(alloc: Global, index: &TaskIndex, text: &[u8]) -> Result<Cert, CertError>
+    ensures belongs { IfOk result (Belongs index.now) }
+    ensures small { IfOk result HasSmallNumbers }
+    ensures read { IfOk result (λ cert. text.now ≡ spelling index.now cert) }
+    ensures refused { IfErr result (CertRefuses (IsCertFault index.now text.now)) }
+{
+    let draft = read_lines(alloc, index, text)?;
+    Ok(finish(draft)?)
+}
+
 /// The certificate that a text spells, or the text's first fault (docs/CERTIFICATES.md). Takes time linear in the length
 /// of the text, in that of the names of all actions and atoms of the task, and in the number of atoms for each cube,
 /// pair and rule; memory for the certificate and the names.
@@ -46,6 +57,6 @@ pub fn read_cert(alloc: Global, task: &Task, text: &[u8]) -> Result<Cert, CertEr
     ensures refused { IfErr result (CertRefuses (IsCertFault task.now text.now)) }
 {
     let index = TaskIndex::of(alloc, task)?;
-    let draft = read_lines(alloc, &index, text)?;
-    Ok(finish(draft)?)
+    let cert = read_with(alloc, &index, text)?;
+    Ok(cert)
 }

@@ -1,7 +1,5 @@
 -- Each verdict on a correct certificate is that it is accepted.
-use Rattle.std.proofs.Common.{◌≡◌, ℕ, suc, ◌<◌, List, ◌∷◌, ◌++◌, Bool, true, false, Some, None, take, drop, slice_get, refl, sym, ◌∙◌, subst, arith}
-use Rattle.std.specs.Prelude.{Contains, IsSome}
-use Rattle.std.proofs.lemmas.Bool.{false≢true}
+use Rattle.std.proofs.Common.{◌≡◌, ℕ, suc, ◌<◌, List, Bool, true, false, take, drop, refl, sym, ◌∙◌, arith}
 use Rattle.fond_task.specs.declared.task.Task.{Task}
 use Rattle.fond_game.specs.declared.rule.Pair.{Pair}
 use Rattle.fond_game.specs.declared.rule.Rule.{Rule}
@@ -13,12 +11,13 @@ use Rattle.std.proofs.lemmas.Option.{none-some}
 use Rattle.fond_layers.specs.Faults.{IsWrong, cube_number}
 use Rattle.fond_layers.specs.declared.fault.Spot.{Spot}
 use Rattle.fond_layers.specs.declared.fault.Spot.TheVariants.{Goal, NotSure}
-use Rattle.fond_cert.specs.declared.cert.Cert.{Cert}
-use Rattle.fond_cert.specs.declared.cert.Cert.TheVariants.{Policy, Refusal}
-use Rattle.fond_check.specs.Verdicts.{IsFirstBadLayer, IsPolicyVerdict, IsRefusalVerdict, IsRight, IsVerdict}
+use Rattle.fond_policy.specs.declared.cert.Cert.{Cert}
+use Rattle.fond_policy.specs.declared.cert.Cert.TheVariants.{Policy, Refusal}
+use Rattle.fond_policy.specs.Parts.{IsRight}
+use Rattle.fond_check.specs.Verdicts.{IsFirstBadLayer, IsPolicyVerdict, IsRefusalVerdict, IsVerdict}
 use Rattle.fond_check.specs.declared.verdict.Verdict.{Verdict}
 use Rattle.fond_check.specs.declared.verdict.Verdict.TheVariants.{Accepted, Rule as BadRule, Pair as BadPair, LayerGoal, LayerAct, NoRule, Count, Outside}
-use Rattle.fond_check.proofs.Counted.{split_at, more_counted, counted_once}
+use Rattle.fond_policy.proofs.Counted.{split_at, more_counted, counted_once}
 
 -- a sure cube is not wrong
 not_wrong : (task : Task) (earlier : List (List CubeView)) (layer : List CubeView) (cube : CubeView) (spot : Spot) → IsSureCube task earlier layer cube → ¬ IsWrong task earlier layer cube spot

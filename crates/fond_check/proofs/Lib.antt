@@ -1,4 +1,2 @@
-pub mod Firsts
-pub mod Walking
-pub mod Counted
 pub mod Accepted
+pub mod Layered

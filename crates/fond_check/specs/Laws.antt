@@ -1,8 +1,9 @@
 -- The law of verdicts.
 use Rattle.std.specs.Prelude.{◌≡◌, Bool}
 use Rattle.fond_task.specs.declared.task.Task.{Task}
-use Rattle.fond_cert.specs.declared.cert.Cert.{Cert}
-use Rattle.fond_check.specs.Verdicts.{IsRight, IsVerdict}
+use Rattle.fond_policy.specs.declared.cert.Cert.{Cert}
+use Rattle.fond_policy.specs.Parts.{IsRight}
+use Rattle.fond_check.specs.Verdicts.{IsVerdict}
 use Rattle.fond_check.specs.declared.verdict.Verdict.{Verdict}
 use Rattle.fond_check.specs.declared.verdict.Verdict.TheVariants.{Accepted}
 

@@ -1,4 +1,3 @@
 pub mod Verdicts
-pub mod Walks
 pub mod Texts
 pub mod Laws

@@ -4,8 +4,8 @@ use Rattle.std.specs.Fmt.{decimal}
 use Rattle.std.specs.Option.{option_map_or}
 use Rattle.fond_task.specs.declared.task.Task.{Task}
 use Rattle.fond_task.specs.Texts.{action_text, state_text}
-use Rattle.fond_cert.specs.declared.cert.Cert.{Cert}
-use Rattle.fond_cert.specs.declared.cert.Cert.TheVariants.{Policy, Refusal}
+use Rattle.fond_policy.specs.declared.cert.Cert.{Cert}
+use Rattle.fond_policy.specs.declared.cert.Cert.TheVariants.{Policy, Refusal}
 use Rattle.fond_check.specs.declared.verdict.Verdict.{Verdict}
 use Rattle.fond_check.specs.declared.verdict.Verdict.TheVariants.{Accepted, Rule, Pair, LayerGoal, LayerAct, NoRule, Count, Outside}
 

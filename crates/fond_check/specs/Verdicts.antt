@@ -1,19 +1,20 @@
 -- The checker's verdicts: that a certificate is correct, or its first fault. Layers are looked at before pairs, pairs before
 -- rules, rules before the number of reached states, and that before the rules of reached states.
-use Rattle.std.specs.Prelude.{◌≡◌, ◌<◌, ℕ, List, Bool, true, false, Some, None, take, length, slice_get, Contains, Decides, IsSome, ⊤}
-use Rattle.fond_text.specs.Lists.{AreDistinct}
+use Rattle.std.specs.Prelude.{◌≡◌, ℕ, List, true, Some, take, slice_get, Decides}
 use Rattle.fond_task.specs.declared.task.Task.{Task}
 use Rattle.fond_game.specs.declared.rule.Pair.{Pair}
 use Rattle.fond_game.specs.declared.rule.Rule.{Rule}
-use Rattle.fond_game.specs.Policies.{IsGoal, Policy, Reach, selected}
+use Rattle.fond_game.specs.Policies.{selected}
 use Rattle.fond_game.specs.Layers.{CubeView, AreSureLayers, IsSurePair}
-use Rattle.fond_game.specs.Rules.{IsSureRule, IsLeanRule, IsLeanPair}
+use Rattle.fond_game.specs.Rules.{IsSureRule}
 use Rattle.fond_game.specs.Certificates.{ReachesCount, IsRightPolicy, LiesInLayers, IsRightRefusal}
 use Rattle.fond_layers.specs.Faults.{IsSpot}
 use Rattle.fond_layers.specs.declared.fault.Spot.{Spot}
 use Rattle.fond_layers.specs.declared.fault.Spot.TheVariants.{Goal, NotSure}
-use Rattle.fond_cert.specs.declared.cert.Cert.{Cert}
-use Rattle.fond_cert.specs.declared.cert.Cert.TheVariants.{Policy as PolicyCert, Refusal as RefusalCert}
+use Rattle.fond_policy.specs.Counts.{IsMiscounted, IsUnruled}
+use Rattle.fond_policy.specs.Parts.{AreSurePairs, AreSureBefore, ArePartsSure, AreLean}
+use Rattle.fond_policy.specs.declared.cert.Cert.{Cert}
+use Rattle.fond_policy.specs.declared.cert.Cert.TheVariants.{Policy as PolicyCert, Refusal as RefusalCert}
 use Rattle.fond_check.specs.declared.verdict.Verdict.{Verdict}
 use Rattle.fond_check.specs.declared.verdict.Verdict.TheVariants.{Accepted, Rule as BadRule, Pair as BadPair, LayerGoal, LayerAct, NoRule, Count, Outside}
 
@@ -29,10 +30,6 @@ abbrev pub of_spot : ℕ → Spot → Verdict
 of_spot layer (Goal cube) = LayerGoal layer cube
 of_spot layer (NotSure cube act) = LayerAct layer cube act
 
--- pairs are sure
-abbrev pub AreSurePairs : Task → List (List CubeView) → List Pair → Type 0
-AreSurePairs task layers pairs = (pair : Pair) → Contains pairs pair → IsSurePair task layers pair
-
 -- the pair of this number is the first that is not sure
 pub record IsFirstBadPair (task : Task) (layers : List (List CubeView)) (pairs : List Pair) (number : ℕ) : Type 0 where
   pub pair : Pair
@@ -40,58 +37,12 @@ pub record IsFirstBadPair (task : Task) (layers : List (List CubeView)) (pairs :
   pub bad : ¬ IsSurePair task layers pair
   pub first : AreSurePairs task layers (take number pairs)
 
--- the first rules, this many, are sure, each at its number
-abbrev pub AreSureBefore : Task → List Pair → List Rule → ℕ → Type 0
-AreSureBefore task pairs rules count = (number : ℕ) (rule : Rule) → number < count → slice_get rules number ≡ Some rule → IsSureRule task pairs rules number rule
-
--- rules are sure, each at its number
-abbrev pub AreSureRules : Task → List Pair → List Rule → Type 0
-AreSureRules task pairs rules = (number : ℕ) (rule : Rule) → slice_get rules number ≡ Some rule → IsSureRule task pairs rules number rule
-
 -- the rule of this number is the first that is not sure
 pub record IsFirstBadRule (task : Task) (pairs : List Pair) (rules : List Rule) (number : ℕ) : Type 0 where
   pub rule : Rule
   pub has_rule : slice_get rules number ≡ Some rule
   pub bad : ¬ IsSureRule task pairs rules number rule
   pub first : AreSureBefore task pairs rules number
-
--- the layers, the pairs and the rules are sure
-pub record ArePartsSure (task : Task) (layers : List (List CubeView)) (pairs : List Pair) (rules : List Rule) : Type 0 where
-  pub layers_sure : AreSureLayers task layers
-  pub pairs_sure : AreSurePairs task layers pairs
-  pub rules_sure : AreSureRules task pairs rules
-
--- a policy reaches more than this many states: a list of distinct reached states is longer
-pub record ReachesMore (task : Task) (policy : Policy) (bound : ℕ) : Type 0 where
-  pub states : List (List Bool)
-  pub once : AreDistinct states
-  pub reached : (state : List Bool) → Contains states state → Reach task policy state
-  pub longer : bound < length states
-
--- a policy reaches fewer than this many states
-abbrev pub ReachesFewer : Task → Policy → ℕ → Type 0
-ReachesFewer task policy bound = (count : ℕ) × ReachesCount task policy count × (count < bound)
-
--- the number of states that a policy reaches is not this one: it is larger, or it is smaller
-abbrev pub IsMiscounted : Task → Policy → ℕ → Bool → Type 0
-IsMiscounted task policy reach true = ReachesMore task policy reach
-IsMiscounted task policy reach false = ReachesFewer task policy reach
-
--- a reached state is no goal, and no rule holds in it
-pub record IsUnruled (task : Task) (rules : List Rule) (state : List Bool) : Type 0 where
-  pub reached : Reach task (selected rules) state
-  pub open_ : ¬ IsGoal task state
-  pub none : selected rules state ≡ None
-
--- all pairs and rules are lean
-pub record AreLean (task : Task) (layers : List (List CubeView)) (pairs : List Pair) (rules : List Rule) : Type 0 where
-  pub pairs_lean : (pair : Pair) → Contains pairs pair → IsLeanPair task layers pair
-  pub rules_lean : (number : ℕ) (rule : Rule) → slice_get rules number ≡ Some rule → IsLeanRule task pairs rules number rule
-
--- a certificate is correct
-abbrev pub IsRight : Task → Cert → Type 0
-IsRight task (PolicyCert layers pairs rules reach) = IsRightPolicy task layers pairs rules reach
-IsRight task (RefusalCert layers) = IsRightRefusal task layers
 
 -- a verdict on a policy certificate
 abbrev pub IsPolicyVerdict : Task → List (List CubeView) → List Pair → List Rule → ℕ → Verdict → Type 0

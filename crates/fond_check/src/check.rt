@@ -1,21 +1,22 @@
 //! Checking a certificate.
 
-ghost use Rattle.fond_cert.specs.Belongs.{Belongs, BelongAsLayers, BelongAsPairs, BelongAsRules};
-ghost use Rattle.fond_check.specs.Verdicts.{ArePartsSure, IsPolicyVerdict, IsRefusalVerdict, IsVerdict, of_spot};
-ghost use Rattle.fond_check.specs.Walks.{IsWalked};
+ghost use Rattle.fond_policy.specs.Belongs.{Belongs, BelongAsLayers, BelongAsPairs, BelongAsRules};
+ghost use Rattle.fond_policy.specs.Parts.{ArePartsSure};
+ghost use Rattle.fond_game.specs.Layers.{AreSureLayers};
+ghost use Rattle.fond_check.specs.Verdicts.{IsPolicyVerdict, IsRefusalVerdict, IsVerdict, of_spot};
+ghost use Rattle.fond_policy.specs.Walks.{IsWalked};
 ghost use Rattle.std.specs.Prelude.{◌≡◌, length, IfOk};
 
 use crate::lean::are_lean;
 use crate::parts::{first_bad_layer, first_bad_pair, first_bad_rule};
 use crate::verdict::Verdict;
-use crate::walk::{Walked, walk};
-use fond_cert::cert::Cert;
 use fond_layers::fault::Spot;
 use fond_layers::layers::Layers;
+use fond_policy::cert::Cert;
+use fond_policy::walk::{Walked, walk};
 use fond_rules::pad::Pad;
 use fond_rules::pairs::Pairs;
 use fond_rules::rules::Rules;
-use fond_state::cube::Cube;
 use fond_task::task::Task;
 use fond_text::fault::NoMemory;
 use std::alloc::Global;
@@ -62,6 +63,33 @@ fn reach_verdict(
     }
 }
 
+/// The verdict on a policy whose layers are sure.
+fn plan_verdict(
+    alloc: Global,
+    t: &Task,
+    layers: &Layers,
+    pairs: &Pairs,
+    rules: &Rules,
+    reach: u64,
+    pad: &mut Pad,
+) -> Result<Verdict, NoMemory>
+    requires layers_belong { BelongAsLayers t.now layers.now }
+    requires pairs_belong { BelongAsPairs t.now pairs.now }
+    requires rules_belong { BelongAsRules t.now rules.now }
+    requires layers_sure { AreSureLayers t.now layers.now }
+    requires pad { pad.old ≡ length t.now.atoms }
+    ensures { IfOk result (IsPolicyVerdict t.now layers.now pairs.now rules.now reach) }
+{
+    if let Some(at) = first_bad_pair(t, layers, pairs, pad) {
+        return Ok(Verdict::Pair { at });
+    }
+    if let Some(at) = first_bad_rule(t, pairs, rules, pad) {
+        return Ok(Verdict::Rule { at });
+    }
+    let walked = walk(alloc, t, pairs, rules, reach)?;
+    Ok(reach_verdict(t, layers, pairs, rules, reach, walked, pad))
+}
+
 /// The verdict on a policy.
 fn check_policy(
     alloc: Global,
@@ -76,19 +104,11 @@ fn check_policy(
     requires rules_belong { BelongAsRules t.now rules.now }
     ensures { IfOk result (IsPolicyVerdict t.now layers.now pairs.now rules.now reach) }
 {
-    let mut image = Cube::new(alloc, t.atoms.len() as u32)?;
-    let mut pad = Pad::new(alloc, t.atoms.len() as u32)?;
-    if let Some((layer, spot)) = first_bad_layer(t, layers, &mut image) {
+    if let Some((layer, spot)) = first_bad_layer(alloc, t, layers)? {
         return Ok(layer_verdict(layer, spot));
     }
-    if let Some(at) = first_bad_pair(t, layers, pairs, &mut pad) {
-        return Ok(Verdict::Pair { at });
-    }
-    if let Some(at) = first_bad_rule(t, pairs, rules, &mut pad) {
-        return Ok(Verdict::Rule { at });
-    }
-    let walked = walk(alloc, t, pairs, rules, reach)?;
-    Ok(reach_verdict(t, layers, pairs, rules, reach, walked, &mut pad))
+    let mut pad = Pad::new(alloc, t.atoms.len() as u32)?;
+    plan_verdict(alloc, t, layers, pairs, rules, reach, &mut pad)
 }
 
 /// The verdict on a refusal.
@@ -96,8 +116,7 @@ fn check_refusal(alloc: Global, t: &Task, layers: &Layers) -> Result<Verdict, No
     requires { BelongAsLayers t.now layers.now }
     ensures { IfOk result (IsRefusalVerdict t.now layers.now) }
 {
-    let mut image = Cube::new(alloc, t.atoms.len() as u32)?;
-    if let Some((layer, spot)) = first_bad_layer(t, layers, &mut image) {
+    if let Some((layer, spot)) = first_bad_layer(alloc, t, layers)? {
         return Ok(layer_verdict(layer, spot));
     }
     if layers.dead(&t.init).is_none() {

@@ -1,6 +1,6 @@
 //! Whether all pairs and rules of a certificate are lean.
 
-ghost use Rattle.fond_check.specs.Verdicts.{AreLean};
+ghost use Rattle.fond_policy.specs.Parts.{AreLean};
 ghost use Rattle.fond_game.specs.Rules.{IsLeanPair, IsLeanRule};
 ghost use Rattle.fond_game.specs.declared.rule.Pair.{Pair};
 ghost use Rattle.fond_game.specs.declared.rule.Rule.{Rule};

@@ -7,7 +7,5 @@ pub mod check;
 pub mod laws;
 mod lean;
 mod parts;
-pub mod reach;
 pub mod text;
 pub mod verdict;
-mod walk;

@@ -1,11 +1,12 @@
 //! The first layer, pair and rule of a certificate that is not sure.
 
-ghost use Rattle.fond_check.specs.Verdicts.{AreSurePairs, AreSureRules, IsFirstBadLayer, IsFirstBadPair, IsFirstBadRule};
+ghost use Rattle.fond_policy.specs.Parts.{AreSurePairs, AreSureRules};
+ghost use Rattle.fond_check.specs.Verdicts.{IsFirstBadLayer, IsFirstBadPair, IsFirstBadRule};
 ghost use Rattle.fond_game.specs.Layers.{CubeView, AreSureLayers, IsSurePair};
 ghost use Rattle.fond_game.specs.Rules.{IsLeanPair};
 ghost use Rattle.fond_layers.specs.Over.{AreOver};
 ghost use Rattle.fond_rules.specs.Belongs.{ArePairsOver, BelongTo};
-ghost use Rattle.std.specs.Prelude.{◌≡◌, List, length, slice_get, Some, Decides, MatchOption};
+ghost use Rattle.std.specs.Prelude.{◌≡◌, List, length, slice_get, Some, Decides, IfOk, MatchOption};
 
 use fond_game::rule::Pair;
 use fond_layers::fault::Spot;
@@ -17,10 +18,11 @@ use fond_rules::sure_pairs::{lean_pair, sure_pair};
 use fond_rules::sure_rules::sure_rule;
 use fond_state::cube::Cube;
 use fond_task::task::Task;
+use fond_text::fault::NoMemory;
+use std::alloc::Global;
 
-/// The first layer that is not sure above those before it, with what is wrong with it. Takes the time of `Layers::fault`
-/// for each layer.
-pub(crate) fn first_bad_layer(t: &Task, layers: &Layers, image: &mut Cube) -> Option<(u32, Spot)>
+/// The first layer that is not sure above those before it, with what is wrong with it. `image` is overwritten.
+fn bad_layer(t: &Task, layers: &Layers, image: &mut Cube) -> Option<(u32, Spot)>
     requires over { AreOver (length t.now.atoms) layers.now }
     requires long { length image.old ≡ length t.now.atoms }
     ensures same_length { length image.new ≡ length image.old }
@@ -32,6 +34,20 @@ pub(crate) fn first_bad_layer(t: &Task, layers: &Layers, image: &mut Cube) -> Op
         }
     }
     None
+}
+
+/// The first layer that is not sure above those before it, with what is wrong with it. Takes the time of `Layers::fault`
+/// for each layer, and memory for one cube.
+pub(crate) fn first_bad_layer(
+    alloc: Global,
+    t: &Task,
+    layers: &Layers,
+) -> Result<Option<(u32, Spot)>, NoMemory>
+    requires { AreOver (length t.now.atoms) layers.now }
+    ensures { IfOk result (λ found. MatchOption found (AreSureLayers t.now layers.now) (λ r. IsFirstBadLayer t.now layers.now r.0 r.1)) }
+{
+    let mut image = Cube::new(alloc, t.atoms.len() as u32)?;
+    Ok(bad_layer(t, layers, &mut image))
 }
 
 /// The cube that a pair names, if there is one.

@@ -6,7 +6,7 @@ ghost use Rattle.std.specs.Fmt.{decimal};
 ghost use Rattle.std.specs.Prelude.{◌≡◌, ◌++◌, codes, IfOk, OnOk};
 
 use crate::verdict::Verdict;
-use fond_cert::cert::Cert;
+use fond_policy::cert::Cert;
 use fond_state::state::State;
 use fond_task::task::Task;
 use fond_task::text::{put_action, put_state};

@@ -18,11 +18,11 @@ use Rattle.fond_game.specs.declared.rule.Targets.{Targets}
 use Rattle.fond_game.specs.declared.rule.Targets.TheVariants.{One, All}
 use Rattle.fond_layers.specs.Over.{IsOver}
 use Rattle.fond_rules.specs.Belongs.{HasTarget}
-use Rattle.fond_cert.specs.Sizes.{AreSmallTargets, IsSmallPair, IsSmallTarget}
-use Rattle.fond_cert.specs.declared.cert.Cert.TheVariants.{Policy, Refusal}
-use Rattle.fond_check.proofs.Walking.{few_outcomes}
-use Rattle.fond_check.specs.Verdicts.{AreSureRules}
-use Rattle.fond_check.specs.Walks.{HasAllRuled}
+use Rattle.fond_policy.specs.Sizes.{AreSmallTargets, IsSmallPair, IsSmallTarget}
+use Rattle.fond_policy.specs.declared.cert.Cert.TheVariants.{Policy, Refusal}
+use Rattle.fond_policy.proofs.Walking.{few_outcomes}
+use Rattle.fond_policy.specs.Parts.{AreSureRules}
+use Rattle.fond_policy.specs.Walks.{HasAllRuled}
 use Rattle.fond_explicit.specs.Answers.{AreStuck}
 use Rattle.fond_decide.specs.Decisions.{IsRightCert}
 use Rattle.fond_decide.specs.Drafts.{IsDraft, IsFitting}

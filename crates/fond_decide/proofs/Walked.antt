@@ -5,11 +5,10 @@ use Rattle.fond_task.specs.declared.task.Task.{Task}
 use Rattle.fond_game.proofs.Lists.{Contains_numbered}
 use Rattle.fond_explicit.specs.Answers.{IsPast as IsPastFrom, IsReachable}
 use Rattle.fond_decide.specs.Decisions.{IsPast}
-use Rattle.fond_check.proofs.Walking.{grown_cases}
+use Rattle.fond_policy.proofs.Walking.{added_grows, grown_cases}
 use Rattle.fond_store.specs.Stores.{Adds}
 use Rattle.fond_decide.specs.Walks.{AreReachable, IsStep}
 use Rattle.fond_decide.specs.declared.walk.Step.{Step}
-use Rattle.fond_decide.proofs.Provided.{added_grows}
 use Rattle.fond_decide.proofs.Ready.{reachable_long}
 
 -- what is reachable from a reachable state is reachable

@@ -3,11 +3,11 @@ use Rattle.std.specs.Prelude.{ℕ, ⊤}
 use Rattle.fond_play.specs.Games as games
 use Rattle.fond_task.specs.declared.task.Task.{Task}
 use Rattle.fond_game.specs.Policies.{game}
-use Rattle.fond_cert.specs.Belongs.{Belongs}
-use Rattle.fond_cert.specs.Sizes.{HasSmallNumbers}
-use Rattle.fond_cert.specs.declared.cert.Cert.{Cert}
-use Rattle.fond_cert.specs.declared.cert.Cert.TheVariants.{Policy, Refusal}
-use Rattle.fond_check.specs.Verdicts.{AreLean, IsRight}
+use Rattle.fond_policy.specs.Belongs.{Belongs}
+use Rattle.fond_policy.specs.Sizes.{HasSmallNumbers}
+use Rattle.fond_policy.specs.declared.cert.Cert.{Cert}
+use Rattle.fond_policy.specs.declared.cert.Cert.TheVariants.{Policy, Refusal}
+use Rattle.fond_policy.specs.Parts.{AreLean, IsRight}
 use Rattle.fond_decide.specs.declared.decide.Decision.{Decision}
 use Rattle.fond_decide.specs.declared.decide.Decision.TheVariants.{Certified, Undecided}
 

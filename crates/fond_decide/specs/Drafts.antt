@@ -7,7 +7,7 @@ use Rattle.fond_game.specs.declared.rule.Pair.{Pair}
 use Rattle.fond_game.specs.declared.rule.Rule.{Rule}
 use Rattle.fond_layers.specs.Over.{AreOver}
 use Rattle.fond_rules.specs.Belongs.{BelongTo}
-use Rattle.fond_cert.specs.Sizes.{IsSmallPair}
+use Rattle.fond_policy.specs.Sizes.{IsSmallPair}
 use Rattle.fond_decide.specs.Targets.{HasRule}
 use Rattle.fond_decide.specs.declared.draft.Draft.{Draft}
 

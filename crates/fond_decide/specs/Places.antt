@@ -1,10 +1,13 @@
 -- Choices in the order of their ranks.
 use Rattle.std.specs.Prelude.{◌≡◌, ◌<◌, ℕ, List, Bool, Some, slice_get, Contains}
 use Rattle.std.specs.List.Sorted.{IsNonDecreasingBy}
+use Rattle.fond_task.specs.declared.task.Task.{Task}
 use Rattle.fond_game.specs.declared.rule.Rule.{Rule}
 use Rattle.fond_explicit.specs.Answers.{ChoiceView}
+use Rattle.fond_decide.specs.Plans.{AreBelow}
 use Rattle.fond_decide.specs.Targets.{HasRule}
 use Rattle.fond_decide.specs.declared.order.Place.{Place}
+use Rattle.fond_decide.specs.declared.plan.Plan.{Plan}
 
 -- a place is that of a choice in one of these states: it has its number and its rank
 pub record IsPlace (choices : List ChoiceView) (states : List (List Bool)) (place : Place) : Type 0 where
@@ -23,6 +26,12 @@ pub record AreInOrder (choices : List ChoiceView) (states : List (List Bool)) (p
   pub each : (place : Place) → Contains places place → IsPlace choices states place
   pub all : HavePlaces choices states places
   pub rising : IsNonDecreasingBy (λ place. place.rank) places
+
+-- places are those of the choices in some states that are closed downward, by rising ranks
+pub record ArePlacesBelow (task : Task) (rules : List Rule) (plan : Plan) (places : List Place) : Type 0 where
+  pub states : List (List Bool)
+  pub below : AreBelow task rules plan states
+  pub ordered : AreInOrder plan.choices states places
 
 -- a rule holds in the state of the choice at each of the first places, this many
 abbrev pub HavePlaced : List ChoiceView → List Place → ℕ → List Rule → Type 0

@@ -1,6 +1,6 @@
 //! The states of a plan below one of them: those to which its choices lead, as far as ranks fall and no rule holds.
 
-ghost use Rattle.fond_check.specs.Walks.{Grows};
+ghost use Rattle.fond_policy.specs.Walks.{Grows};
 ghost use Rattle.fond_decide.specs.Plans.{AreBelow, IsPlan, IsProvided};
 ghost use Rattle.fond_explicit.specs.Answers.{ChoiceView};
 ghost use Rattle.fond_game.specs.Policies.{IsNext};
@@ -8,6 +8,7 @@ ghost use Rattle.fond_rules.specs.Select.{AreOver};
 ghost use Rattle.std.specs.Prelude.{◌≡◌, ◌<◌, List, Bool, length, slice_get, Some, Contains, IfOk, OnOk};
 
 use crate::plan::Plan;
+use fond_policy::walk::one_state;
 use fond_rules::rules::Rules;
 use fond_state::state::State;
 use fond_store::store::Store;
@@ -79,6 +80,33 @@ fn add_nexts(
     Ok(())
 }
 
+/// Adds the states of a plan below the states, which are some of it.
+fn add_below(
+    alloc: Global,
+    t: &Task,
+    rules: &Rules,
+    plan: &Plan,
+    states: &mut Store,
+) -> Result<(), NoMemory>
+    requires plan { IsPlan t.now plan.now }
+    requires over { AreOver (length t.now.atoms) rules.now }
+    requires each { (state : List Bool) → Contains states.old state → Contains plan.now.states state }
+    ensures below { OnOk result (AreBelow t.now rules.now plan.now states.new) }
+    ensures kept { OnOk result ((state : List Bool) → Contains states.old state → Contains states.new state) }
+{
+    let mut next = t.init.copy(alloc)?;
+    let mut at = 0;
+    while at < states.len() {
+        let Some(listed) = plan.states.find(states.get(at)) else {
+            unreachable!()
+        };
+        let listed = listed as usize;
+        add_nexts(alloc, t, rules, plan, listed, &mut next, states)?;
+        at += 1;
+    }
+    Ok(())
+}
+
 /// The states of a plan below that of the choice of this number, and this one.
 pub(crate) fn below(
     alloc: Global,
@@ -93,17 +121,7 @@ pub(crate) fn below(
     ensures below { IfOk result (AreBelow t.now rules.now plan.now) }
     ensures has { IfOk result (λ states. (choice : ChoiceView) → slice_get plan.now.choices number ≡ Some choice → Contains states choice.state) }
 {
-    let mut states = Store::new(alloc);
-    states.add(plan.choices.get(number).state.copy(alloc)?)?;
-    let mut next = t.init.copy(alloc)?;
-    let mut at = 0;
-    while at < states.len() {
-        let Some(listed) = plan.states.find(states.get(at)) else {
-            unreachable!()
-        };
-        let listed = listed as usize;
-        add_nexts(alloc, t, rules, plan, listed, &mut next, &mut states)?;
-        at += 1;
-    }
+    let mut states = one_state(alloc, &plan.choices.get(number).state)?;
+    add_below(alloc, t, rules, plan, &mut states)?;
     Ok(states)
 }

@@ -1,21 +1,22 @@
 //! Deciding a task.
 
-ghost use Rattle.fond_check.specs.Walks.{HasAllRuled};
-ghost use Rattle.fond_decide.specs.Decisions.{IsDecision, IsRightCert};
+ghost use Rattle.fond_policy.specs.Walks.{HasAllRuled};
+ghost use Rattle.fond_decide.specs.Decisions.{IsDecision, IsPast, IsRightCert};
 ghost use Rattle.fond_decide.specs.Drafts.{IsDraft};
+ghost use Rattle.fond_decide.specs.Planners.{IsPlanner};
 ghost use Rattle.fond_explicit.specs.Answers.{AreStuck, AreWinning};
 ghost use Rattle.fond_game.specs.Certificates.{LiesInLayers, ReachesCount};
 ghost use Rattle.fond_game.specs.Policies.{selected};
-ghost use Rattle.std.specs.Prelude.{◌<◌, ◌≤◌, ◌^◌, All, length, IfOk, IfSome, OnOk};
+ghost use Rattle.std.specs.Prelude.{◌≡◌, ◌<◌, ◌≤◌, ◌^◌, None, All, length, IfOk, IfSome, OnOk};
 
 use crate::draft::Draft;
 use crate::plan::plan_of;
-use crate::walk::walk;
-use fond_cert::cert::Cert;
-use fond_check::reach::reach_count;
+use crate::walk::Planner;
 use fond_explicit::answer::{Choices, Solved};
 use fond_explicit::solve::solve;
 use fond_layers::layers::Layers;
+use fond_policy::cert::Cert;
+use fond_policy::reach::reach_count;
 use fond_rules::rules::Rules;
 use fond_task::task::Task;
 use fond_text::fault::NoMemory;
@@ -91,27 +92,55 @@ fn finished(alloc: Global, t: &Task, draft: &mut Draft) -> Result<Option<u32>, N
     Ok(Some(reach))
 }
 
-/// Decides a task in which choices win from the initial state. Walks through the states that the rules reach, adding rules
-/// where none holds, and begins again without rules whenever the walk barred an action, until a rule holds in each reached
-/// state. Memory is said to have run out after 2^32 - 1 rounds.
+/// A planner with one plan, of choices that win from the initial state, and without rules.
+fn planner_of(alloc: Global, t: &Task, choices: Choices) -> Result<Planner, NoMemory>
+    requires { AreWinning t.now t.now.init choices }
+    ensures { IfOk result (IsPlanner t.now) }
+{
+    let mut plans = Vec::new(alloc);
+    plans.push(plan_of(alloc, t, choices)?)?;
+    Ok(Planner {
+        draft: Draft::new(alloc, t),
+        plans,
+    })
+}
+
+impl Planner {
+    /// Walks through the states that the rules reach, adding rules where none holds, and begins again without rules whenever
+    /// the walk barred an action, until a rule holds in each reached state that is no goal. Returns the number of these
+    /// states, or nothing if more than `budget` states are reachable. Memory is said to have run out after 2^32 - 1 rounds.
+    fn finish(&mut self, alloc: Global, t: &Task, budget: u32) -> Result<Option<u32>, NoMemory>
+        requires few { budget ≤ 1000000 }
+        requires planner { IsPlanner t.now self.old }
+        ensures draft { OnOk result (IsDraft t.now self.new.draft) }
+        ensures count { IfOk result (λ reach. IfSome reach (ReachesCount t.now (selected self.new.draft.rules))) }
+        ensures ruled { IfOk result (λ reach. IfSome reach (λ n. HasAllRuled t.now self.new.draft.rules)) }
+        ensures past { IfOk result (λ reach. reach ≡ None → IsPast t.now budget) }
+    {
+        for _round in 0..u32::MAX {
+            if !self.walk(alloc, t, budget)? {
+                return Ok(None);
+            }
+            if let Some(reach) = finished(alloc, t, &mut self.draft)? {
+                return Ok(Some(reach));
+            }
+            self.draft.heed_fresh(alloc, t)?;
+        }
+        Err(NoMemory)
+    }
+}
+
+/// Decides a task in which choices win from the initial state, by the rounds of `Planner::finish`.
 fn decide_won(alloc: Global, t: &Task, choices: Choices, budget: u32) -> Result<Decision, NoMemory>
     requires few { budget ≤ 1000000 }
     requires winning { AreWinning t.now t.now.init choices }
     ensures { IfOk result (IsDecision t.now budget) }
 {
-    let mut draft = Draft::new(alloc, t);
-    let mut plans = Vec::new(alloc);
-    plans.push(plan_of(alloc, t, choices)?)?;
-    for _round in 0..u32::MAX {
-        if !walk(alloc, t, &mut draft, &mut plans, budget)? {
-            return Ok(Decision::Undecided);
-        }
-        if let Some(reach) = finished(alloc, t, &mut draft)? {
-            return Ok(Decision::Certified(policy_of(t, draft, reach)));
-        }
-        draft.heed_fresh(alloc, t)?;
-    }
-    Err(NoMemory)
+    let mut planner = planner_of(alloc, t, choices)?;
+    let Some(reach) = planner.finish(alloc, t, budget)? else {
+        return Ok(Decision::Undecided);
+    };
+    Ok(Decision::Certified(policy_of(t, planner.draft, reach)))
 }
 
 /// Decides a task within a budget of opened states: a correct and lean certificate of a policy, or a correct one of

@@ -20,10 +20,10 @@ use Rattle.fond_game.specs.declared.rule.Rule.{Rule}
 use Rattle.fond_layers.specs.Over.{AreOver}
 use Rattle.fond_rules.specs.Belongs.{ArePairsOver}
 use Rattle.fond_rules.specs.Select.{AreOver as AreRulesOver}
-use Rattle.fond_cert.specs.Belongs.{BelongAsLayers, BelongAsPairs, BelongAsRules, Belongs}
-use Rattle.fond_cert.specs.declared.cert.Cert.{Cert}
-use Rattle.fond_cert.specs.declared.cert.Cert.TheVariants.{Policy, Refusal}
-use Rattle.fond_check.specs.Verdicts.{AreLean, IsRight}
+use Rattle.fond_policy.specs.Belongs.{BelongAsLayers, BelongAsPairs, BelongAsRules, Belongs}
+use Rattle.fond_policy.specs.declared.cert.Cert.{Cert}
+use Rattle.fond_policy.specs.declared.cert.Cert.TheVariants.{Policy, Refusal}
+use Rattle.fond_policy.specs.Parts.{AreLean, IsRight}
 use Rattle.fond_ground.proofs.Zips.{zip-length}
 use Rattle.fond_same.specs.Alike.{AreAlike, IsSameAct, IsSameEntry, IsSameTask}
 use Rattle.fond_same.proofs.SameActs.{sym_task}

@@ -7,8 +7,8 @@ use Rattle.fond_task.specs.declared.task.Act.{Act}
 use Rattle.fond_task.specs.declared.task.Labels.{Labels}
 use Rattle.fond_task.specs.declared.task.Task.{Task}
 use Rattle.fond_game.specs.Layers.{CubeView}
-use Rattle.fond_cert.specs.declared.cert.Cert.{Cert}
-use Rattle.fond_cert.specs.declared.cert.Cert.TheVariants.{Policy, Refusal}
+use Rattle.fond_policy.specs.declared.cert.Cert.{Cert}
+use Rattle.fond_policy.specs.declared.cert.Cert.TheVariants.{Policy, Refusal}
 use Rattle.fond_cert.specs.Lines.{WrittenLiteral, WrittenLine, PolicyHeader, RefusalHeader, LayerLine, CubeLine, PairLine, ReachLine, EndLine}
 use Rattle.fond_cert.specs.Spellings.{act_leaves, action_leaves, cert_lines, lines_text, spelling, targets_line, written_cube, written_literal}
 use Rattle.fond_same.specs.Alike.{IsSameAct, IsSameTask}

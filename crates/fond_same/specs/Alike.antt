@@ -9,10 +9,10 @@ use Rattle.fond_task.specs.Values.{value}
 use Rattle.fond_game.specs.declared.rule.Pair.{Pair}
 use Rattle.fond_game.specs.declared.rule.Rule.{Rule}
 use Rattle.fond_game.specs.Layers.{CubeView}
-use Rattle.fond_cert.specs.Belongs.{Belongs}
+use Rattle.fond_policy.specs.Belongs.{Belongs}
 use Rattle.fond_cert.specs.Spellings.{spelling}
-use Rattle.fond_cert.specs.declared.cert.Cert.{Cert}
-use Rattle.fond_check.specs.Verdicts.{AreLean, IsRight}
+use Rattle.fond_policy.specs.declared.cert.Cert.{Cert}
+use Rattle.fond_policy.specs.Parts.{AreLean, IsRight}
 
 -- two forms have the same value on every cube
 abbrev pub HaveSameValues : Form → Form → Type 0

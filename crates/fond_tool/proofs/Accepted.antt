@@ -7,10 +7,11 @@ use Rattle.fond_cert.proofs.OneFault.{no_fault}
 use Rattle.fond_cert.proofs.OwnLines.{cert_leads}
 use Rattle.fond_cert.specs.Faults.{IsCertFault}
 use Rattle.fond_cert.specs.Spellings.{cert_lines}
-use Rattle.fond_cert.specs.declared.cert.Cert.{Cert}
-use Rattle.fond_cert.specs.declared.cert.Cert.TheVariants.{Policy, Refusal}
+use Rattle.fond_policy.specs.declared.cert.Cert.{Cert}
+use Rattle.fond_policy.specs.declared.cert.Cert.TheVariants.{Policy, Refusal}
 use Rattle.fond_check.proofs.Accepted.{right_accepted}
-use Rattle.fond_check.specs.Verdicts.{IsRight, IsVerdict}
+use Rattle.fond_policy.specs.Parts.{IsRight}
+use Rattle.fond_check.specs.Verdicts.{IsVerdict}
 use Rattle.fond_check.specs.declared.verdict.Verdict.TheVariants.{Accepted}
 use Rattle.fond_front.specs.declared.texts.TaskTexts.{TaskTexts}
 use Rattle.fond_same.proofs.OneTaskOfTexts.{texts_have_one_task_lem}

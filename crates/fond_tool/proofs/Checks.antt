@@ -4,8 +4,8 @@ use Rattle.fond_ast.specs.declared.task.LiftedTask.{LiftedTask}
 use Rattle.fond_bridge.proofs.Between.{ground-tasks-agree}
 use Rattle.fond_cert.specs.Faults.{IsCertFault}
 use Rattle.fond_cert.specs.Refusals.{CertRefuses}
-use Rattle.fond_cert.specs.declared.cert.Cert.{Cert}
-use Rattle.fond_cert.specs.declared.cert.Cert.TheVariants.{Policy, Refusal}
+use Rattle.fond_policy.specs.declared.cert.Cert.{Cert}
+use Rattle.fond_policy.specs.declared.cert.Cert.TheVariants.{Policy, Refusal}
 use Rattle.fond_cert.specs.declared.error.CertError.{CertError}
 use Rattle.fond_cert.specs.declared.error.CertError.TheVariants as cert_error
 use Rattle.fond_check.specs.Verdicts.{IsVerdict}

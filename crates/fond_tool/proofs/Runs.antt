@@ -10,10 +10,10 @@ use Rattle.fond_bridge.proofs.Places.{same_tests}
 use Rattle.fond_cert.specs.declared.error.CertError.{CertError}
 use Rattle.fond_cert.specs.declared.error.CertError.TheVariants as cert_error
 use Rattle.fond_cert.specs.Refusals.{CertRefuses}
-use Rattle.fond_cert.specs.Belongs.{Belongs}
+use Rattle.fond_policy.specs.Belongs.{Belongs}
 use Rattle.fond_cert.specs.Faults.{IsCertFault}
-use Rattle.fond_cert.specs.declared.cert.Cert.{Cert}
-use Rattle.fond_cert.specs.declared.cert.Cert.TheVariants.{Policy, Refusal}
+use Rattle.fond_policy.specs.declared.cert.Cert.{Cert}
+use Rattle.fond_policy.specs.declared.cert.Cert.TheVariants.{Policy, Refusal}
 use Rattle.fond_rules.specs.Belongs.{BelongTo}
 use Rattle.fond_exec.specs.Traces as steps
 use Rattle.fond_game.specs.declared.rule.Rule.{Rule}

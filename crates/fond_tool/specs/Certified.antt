@@ -5,11 +5,11 @@ use Rattle.fond_ast.specs.declared.task.LiftedTask.{LiftedTask}
 use Rattle.fond_meaning.specs.Solutions.{IsSolution, IsSolvable}
 use Rattle.fond_task.specs.declared.task.Task.{Task}
 use Rattle.fond_game.specs.declared.rule.Rule.{Rule}
-use Rattle.fond_cert.specs.Belongs.{Belongs}
-use Rattle.fond_cert.specs.Sizes.{HasSmallNumbers}
+use Rattle.fond_policy.specs.Belongs.{Belongs}
+use Rattle.fond_policy.specs.Sizes.{HasSmallNumbers}
 use Rattle.fond_cert.specs.Spellings.{spelling}
-use Rattle.fond_cert.specs.declared.cert.Cert.{Cert}
-use Rattle.fond_cert.specs.declared.cert.Cert.TheVariants.{Policy, Refusal}
+use Rattle.fond_policy.specs.declared.cert.Cert.{Cert}
+use Rattle.fond_policy.specs.declared.cert.Cert.TheVariants.{Policy, Refusal}
 use Rattle.fond_ground.specs.Grounds.{IsGroundOf}
 use Rattle.fond_bridge.specs.Solutions.{rules_policy}
 use Rattle.fond_front.specs.declared.texts.TaskTexts.{TaskTexts}

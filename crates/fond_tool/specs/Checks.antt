@@ -3,7 +3,7 @@ use Rattle.std.specs.Prelude.{ℕ, List, Bool, ⊤}
 use Rattle.fond_ast.specs.declared.task.LiftedTask.{LiftedTask}
 use Rattle.fond_task.specs.declared.task.Task.{Task}
 use Rattle.fond_cert.specs.Faults.{IsCertFault}
-use Rattle.fond_cert.specs.declared.cert.Cert.{Cert}
+use Rattle.fond_policy.specs.declared.cert.Cert.{Cert}
 use Rattle.fond_check.specs.Texts.{verdict_text}
 use Rattle.fond_check.specs.Verdicts.{IsVerdict}
 use Rattle.fond_check.specs.declared.verdict.Verdict.{Verdict}

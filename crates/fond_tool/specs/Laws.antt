@@ -2,8 +2,8 @@
 use Rattle.std.specs.Prelude.{◌≡◌, ◌⊎◌, ℕ, List, [], ◌∷◌, ⊤, codes}
 use Rattle.fond_ast.specs.declared.task.LiftedTask.{LiftedTask}
 use Rattle.fond_task.specs.declared.task.Task.{Task}
-use Rattle.fond_cert.specs.declared.cert.Cert.{Cert}
-use Rattle.fond_check.specs.Verdicts.{IsRight}
+use Rattle.fond_policy.specs.declared.cert.Cert.{Cert}
+use Rattle.fond_policy.specs.Parts.{IsRight}
 use Rattle.fond_front.specs.declared.texts.TaskTexts.{TaskTexts}
 use Rattle.fond_meaning.specs.Solutions.{IsSolvable, More}
 use Rattle.fond_tool.specs.Certified.{DescribeGround, IsCertText, TaskReply}

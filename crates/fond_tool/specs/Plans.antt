@@ -8,8 +8,8 @@ use Rattle.fond_game.specs.declared.rule.Pair.{Pair}
 use Rattle.fond_game.specs.declared.rule.Rule.{Rule}
 use Rattle.fond_game.specs.Layers.{CubeView}
 use Rattle.fond_game.specs.Certificates.{IsRightPolicy, IsRightRefusal}
-use Rattle.fond_cert.specs.declared.cert.Cert.TheVariants.{Policy, Refusal}
-use Rattle.fond_check.specs.Verdicts.{AreLean}
+use Rattle.fond_policy.specs.declared.cert.Cert.TheVariants.{Policy, Refusal}
+use Rattle.fond_policy.specs.Parts.{AreLean}
 use Rattle.fond_bridge.specs.Solutions.{rules_policy}
 use Rattle.fond_front.specs.declared.texts.TaskTexts.{TaskTexts}
 use Rattle.fond_tool.specs.Budgets.{IsBudget}

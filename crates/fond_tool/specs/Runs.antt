@@ -5,7 +5,7 @@ use Rattle.fond_meaning.specs.States.{State}
 use Rattle.fond_meaning.specs.Solutions.{initial}
 use Rattle.fond_task.specs.declared.task.Task.{Task}
 use Rattle.fond_cert.specs.Faults.{IsCertFault}
-use Rattle.fond_cert.specs.declared.cert.Cert.{Cert}
+use Rattle.fond_policy.specs.declared.cert.Cert.{Cert}
 use Rattle.fond_exec.specs.Scripts.{IsScript, IsScriptFault}
 use Rattle.fond_bridge.specs.Traces.{Trace}
 use Rattle.fond_front.specs.declared.texts.TaskTexts.{TaskTexts}

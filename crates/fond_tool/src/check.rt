@@ -1,6 +1,6 @@
 //! The command `check`: whether a certificate is correct.
 
-ghost use Rattle.fond_cert.specs.Belongs.{Belongs};
+ghost use Rattle.fond_policy.specs.Belongs.{Belongs};
 ghost use Rattle.fond_check.specs.Verdicts.{IsVerdict};
 ghost use Rattle.fond_check.specs.declared.verdict.Verdict.{Verdict};
 ghost use Rattle.fond_ground.specs.Grounds.{IsGroundOf};
@@ -12,12 +12,12 @@ use crate::answer::Answer;
 use crate::rejection::Rejection;
 use crate::status::Status;
 use crate::task_files::{TaskFiles, read_files};
-use fond_cert::cert::Cert;
 use fond_cert::read::read_cert;
 use fond_check::check::check;
 use fond_check::text::verdict_text;
 use fond_check::verdict::Verdict;
 use fond_front::texts::TaskTexts;
+use fond_policy::cert::Cert;
 use fond_task::task::Task;
 use fond_text::fault::NoMemory;
 use std::alloc::Global;

@@ -1,5 +1,5 @@
 use Rattle.fond_cert.specs.Printed.{pair_text}
-use Rattle.fond_cert.proofs.Printed.{next_text, grew_more}
+use Rattle.fond_cert.proofs.Printed.{next_text, grew_more, grew_twice}
 use Rattle.fond_cert.proofs.print.put_pairs.Goals as goal
 
 pub loop-i-preserved : goal.loop-i-preserved
@@ -7,3 +7,6 @@ loop-i-preserved c = record {
   text = next_text (pair_text c.args.task.now) c.args.pairs.now _ _ _ _ _ c.get.ensures c.loop-i.invariant.text c.in_ok-put_pair.ensures.ok;
   grew = grew_more _ _ _ _ c.loop-i.invariant.grew c.in_ok-put_pair.ensures.ok;
 }
+
+pub returns-in_err-put_pair-clause-grew : goal.returns-in_err-put_pair-clause-grew
+returns-in_err-put_pair-clause-grew c = grew_twice _ _ _ c.loop-i.invariant.grew c.in_err-put_pair.ensures.grew

@@ -1,6 +1,6 @@
 use Rattle.std.proofs.Common.{◌∙◌, ℕ, suc, drop, take, sym, subst, arith}
-use Rattle.fond_check.proofs.Counted.{split_at}
-use Rattle.fond_check.proofs.Firsts.{take_all, take_next}
+use Rattle.fond_policy.proofs.Counted.{split_at}
+use Rattle.fond_policy.proofs.Firsts.{take_all, take_next}
 use Rattle.fond_game.proofs.Lists.{Contains_numbered}
 use Rattle.fond_game.specs.Layers.{IsSureLayer}
 use Rattle.fond_decide.specs.Appends.{AreFull, HaveGrown}

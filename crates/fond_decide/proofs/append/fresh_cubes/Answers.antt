@@ -1,6 +1,6 @@
 use Rattle.std.proofs.Common.{◌∙◌, ◌+◌, List, [], ◌∷◌, ◌++◌, take, refl, sym, ap, subst}
 use Rattle.std.proofs.lemmas.Bool.{false≢true}
-use Rattle.fond_check.proofs.Firsts.{take_next}
+use Rattle.fond_policy.proofs.Firsts.{take_next}
 use Rattle.fond_game.specs.Layers.{CubeView}
 use Rattle.fond_decide.specs.Appends.{AreFresh}
 use Rattle.fond_decide.proofs.Appended.{fresh_more, fresh_same}

@@ -2,7 +2,8 @@ use Rattle.std.proofs.Common.{inl, inr, ◌∙◌, sym, ap}
 use Rattle.std.specs.Option.{is_some}
 use Rattle.std.specs.Prelude.{Contains}
 use Rattle.fond_game.proofs.Lists.{Contains_numbered}
-use Rattle.fond_decide.proofs.Provided.{added_grows, added_has, no_smaller}
+use Rattle.fond_policy.proofs.Walking.{added_grows, added_has}
+use Rattle.fond_decide.proofs.Provided.{no_smaller}
 use Rattle.fond_decide.proofs.Rules.{has_selected}
 use Rattle.fond_decide.proofs.below.add_lower.Goals as goal
 

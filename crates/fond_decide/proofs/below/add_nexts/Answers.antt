@@ -5,7 +5,7 @@ use Rattle.std.proofs.lemmas.Option.{same_Some, slice_get-get_or, slice_get_with
 use Rattle.fond_task.specs.Steps.{next_state}
 use Rattle.fond_task.specs.Truth.{is_true}
 use Rattle.fond_task.specs.declared.task.Act.{Act}
-use Rattle.fond_check.proofs.Walking.{few_outcomes, grows_none, grows_twice}
+use Rattle.fond_policy.proofs.Walking.{few_outcomes, grows_none, grows_twice}
 use Rattle.fond_game.proofs.Lists.{Contains_numbered, number_of}
 use Rattle.fond_explicit.specs.Answers.{ChoiceView}
 use Rattle.fond_decide.specs.Plans.{IsProvided}

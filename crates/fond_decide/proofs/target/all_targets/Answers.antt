@@ -1,6 +1,6 @@
 use Rattle.std.proofs.Common.{◌≡◌, ◌∙◌, ◌+◌, ◌<◌, List, Bool, length, Some, [], ◌∷◌, get_or, slice_get, length-append, sym, ap, subst, ⊎_elim, arith}
 use Rattle.std.proofs.lemmas.Option.{slice_get-get_or}
-use Rattle.fond_check.proofs.Walking.{few_outcomes}
+use Rattle.fond_policy.proofs.Walking.{few_outcomes}
 use Rattle.fond_game.proofs.Lists.{Contains_numbered}
 use Rattle.fond_decide.specs.Targets.{IsCovered, LeadsOn}
 use Rattle.fond_decide.proofs.Lists.{push_cases}

@@ -1,5 +1,5 @@
 use Rattle.std.proofs.Common.{◌∙◌, sym, ⊎_elim}
-use Rattle.fond_check.proofs.Walking.{not_goal}
+use Rattle.fond_policy.proofs.Walking.{not_goal}
 use Rattle.fond_decide.proofs.Rules.{selected_holds, selected_none}
 use Rattle.fond_decide.proofs.target.target_of.Goals as goal
 

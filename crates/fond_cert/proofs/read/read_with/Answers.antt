@@ -1,0 +1,17 @@
+use Rattle.fond_cert.proofs.Wholes.{cert_read, cert_small}
+use Rattle.fond_cert.proofs.read.read_with.Goals as goal
+
+pub returns-clause-belongs : goal.returns-clause-belongs
+returns-clause-belongs c =
+    let there = c.in_ok-draft.ensures.read in
+    rw c.in_ok-finish.ensures (cert_read c.args.index.now c.args.text.now c.in_ok-draft.draft there.0 there.1).0
+
+pub returns-clause-read : goal.returns-clause-read
+returns-clause-read c =
+    let there = c.in_ok-draft.ensures.read in
+    rw c.in_ok-finish.ensures (cert_read c.args.index.now c.args.text.now c.in_ok-draft.draft there.0 there.1).1
+
+pub returns-clause-small : goal.returns-clause-small
+returns-clause-small c =
+    let there = c.in_ok-draft.ensures.read in
+    rw c.in_ok-finish.ensures (cert_small c.args.index.now c.args.text.now c.in_ok-draft.draft there.0 there.1)

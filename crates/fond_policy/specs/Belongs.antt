@@ -1,0 +1,33 @@
+-- Certificates that belong to a task.
+use Rattle.std.specs.Prelude.{◌<◌, ◌^◌, List, All, length}
+use Rattle.fond_task.specs.declared.task.Task.{Task}
+use Rattle.fond_game.specs.declared.rule.Pair.{Pair}
+use Rattle.fond_game.specs.declared.rule.Rule.{Rule}
+use Rattle.fond_game.specs.Layers.{CubeView}
+use Rattle.fond_layers.specs.Over.{AreOver}
+use Rattle.fond_rules.specs.Belongs.{ArePairsOver, BelongTo, HaveTargets}
+use Rattle.fond_policy.specs.declared.cert.Cert.{Cert}
+use Rattle.fond_policy.specs.declared.cert.Cert.TheVariants.{Policy, Refusal}
+
+-- layers belong to a task: there are fewer than 2^32, each has fewer than 2^32 cubes, and these are over its atoms
+pub record BelongAsLayers (task : Task) (layers : List (List CubeView)) : Type 0 where
+  pub few : length layers < 2 ^ 32
+  pub few_cubes : All (λ layer. length layer < 2 ^ 32) layers
+  pub over : AreOver (length task.atoms) layers
+
+-- pairs belong to a task: their cubes are over its atoms, and it has their actions
+pub record BelongAsPairs (task : Task) (pairs : List Pair) : Type 0 where
+  pub over : ArePairsOver (length task.atoms) pairs
+  pub there : All (λ pair. pair.act < length task.acts) pairs
+
+-- rules belong to a task: there are fewer than 2^32, their conditions are over its atoms, it has their actions, and each has
+-- a target
+pub record BelongAsRules (task : Task) (rules : List Rule) : Type 0 where
+  pub few : length rules < 2 ^ 32
+  pub belong : BelongTo task rules
+  pub targeted : HaveTargets rules
+
+-- a certificate belongs to a task if its parts do
+abbrev pub Belongs : Task → Cert → Type 0
+Belongs task (Policy layers pairs rules reach) = BelongAsLayers task layers × BelongAsPairs task pairs × BelongAsRules task rules
+Belongs task (Refusal layers) = BelongAsLayers task layers

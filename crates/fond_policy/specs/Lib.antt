@@ -1,0 +1,5 @@
+pub mod Belongs
+pub mod Sizes
+pub mod Parts
+pub mod Counts
+pub mod Walks

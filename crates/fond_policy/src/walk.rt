@@ -1,0 +1,211 @@
+//! The breadth-first walk through the states that a policy reaches.
+
+ghost use Rattle.fond_policy.specs.Parts.{AreSureRules};
+ghost use Rattle.fond_policy.specs.Walks.{Grows, Visits, IsWalked, IsNumbered, first_open};
+ghost use Rattle.fond_game.specs.Policies.{IsNext};
+ghost use Rattle.fond_rules.specs.Belongs.{BelongTo};
+ghost use Rattle.fond_task.specs.Truth.{is_true};
+ghost use Rattle.fond_task.specs.declared.task.Act.{Act};
+ghost use Rattle.std.specs.Prelude.{◌≡◌, ◌<◌, ◌∷◌, [], ℕ, List, Bool, true, length, slice_get, Some, Contains, IfOk, IfSome, OnOk};
+
+use fond_rules::pairs::Pairs;
+use fond_rules::rules::Rules;
+use fond_state::state::State;
+use fond_store::store::Store;
+use fond_task::step::apply_into;
+use fond_task::task::Task;
+use fond_task::truth::is_goal;
+use fond_text::fault::NoMemory;
+use std::alloc::Global;
+
+/// How a walk ends.
+#[derive(Drop)]
+pub enum Walked {
+    /// More states than the bound are reached.
+    More,
+    /// So many states are reached. One that is no goal and in which no rule holds, if there is one.
+    All { count: u32, unruled: Option<State> },
+}
+
+/// Adds the state to the states, unless it is one of them. Memory is said to have run out after 2^32 - 1 states.
+fn add(alloc: Global, state: &State, states: &mut Store) -> Result<(), NoMemory>
+    ensures has { OnOk result (Contains states.new state.now) }
+    ensures grows { OnOk result (Grows (λ added. added ≡ state.now) states.old states.new) }
+{
+    if states.find(state).is_some() {
+        return Ok(());
+    }
+    if states.len() == u32::MAX {
+        return Err(NoMemory);
+    }
+    states.add(state.copy(alloc)?)?;
+    Ok(())
+}
+
+/// Adds the states to which the action may lead from a state. `next` is overwritten.
+fn add_successors(
+    alloc: Global,
+    t: &Task,
+    act: u32,
+    state: &State,
+    next: &mut State,
+    states: &mut Store,
+) -> Result<(), NoMemory>
+    requires there { act < length t.now.acts }
+    requires long { length state.now ≡ length t.now.atoms }
+    requires next_long { length next.old ≡ length t.now.atoms }
+    requires applicable { (a : Act) → slice_get t.now.acts act ≡ Some a → is_true state.now a.pre ≡ true }
+    ensures same_length { length next.new ≡ length next.old }
+    ensures grows { OnOk result (Grows (IsNext t.now state.now act) states.old states.new) }
+    ensures all { OnOk result ((after : List Bool) → IsNext t.now state.now act after → Contains states.new after) }
+{
+    for outcome in 0..t.acts.get(act as usize).outcomes.len() {
+        apply_into(t, state, act, outcome as u32, next);
+        add(alloc, next, states)?;
+    }
+    Ok(())
+}
+
+/// Adds the states to which the rules lead from a state that is no goal. Returns false if it is no goal and no rule holds
+/// in it. `next` is overwritten.
+fn visit(
+    alloc: Global,
+    t: &Task,
+    pairs: &Pairs,
+    rules: &Rules,
+    state: &State,
+    next: &mut State,
+    states: &mut Store,
+) -> Result<bool, NoMemory>
+    requires belong { BelongTo t.now rules.now }
+    requires sure { AreSureRules t.now pairs.now rules.now }
+    requires long { length state.now ≡ length t.now.atoms }
+    requires next_long { length next.old ≡ length t.now.atoms }
+    ensures same_length { length next.new ≡ length next.old }
+    ensures visits { IfOk result (Visits t.now rules.now state.now states.old states.new) }
+{
+    if is_goal(t, state) {
+        return Ok(true);
+    }
+    let Some(rule) = rules.select(state) else {
+        return Ok(false);
+    };
+    add_successors(alloc, t, rules.get(rule).act, state, next, states)?;
+    Ok(true)
+}
+
+/// The number of the first state that is found, after one more.
+fn first_of(unruled: Option<u32>, ruled: bool, at: u32) -> Option<u32>
+    ensures { result ≡ first_open ruled at unruled }
+{
+    match unruled {
+        Some(first) => Some(first),
+        None if ruled => None,
+        None => Some(at),
+    }
+}
+
+/// A copy of the state of this number, if there is a number.
+fn copy_numbered(
+    alloc: Global,
+    states: &Store,
+    number: Option<u32>,
+) -> Result<Option<State>, NoMemory>
+    requires { IfSome number (λ n. n < length states.now) }
+    ensures { IfOk result (IsNumbered states.now number) }
+{
+    match number {
+        Some(number) => Ok(Some(states.get(number).copy(alloc)?)),
+        None => Ok(None),
+    }
+}
+
+/// One state alone.
+pub fn one_state(alloc: Global, state: &State) -> Result<Store, NoMemory>
+    ensures { IfOk result (λ states. states ≡ state.now ∷ []) }
+{
+    let mut states = Store::new(alloc);
+    states.add(state.copy(alloc)?)?;
+    Ok(states)
+}
+
+/// The two states that a walk overwrites: the one that it visits, and one to which the rules lead from there.
+#[derive(Drop)]
+struct Scratch {
+    state: State,
+    next: State,
+}
+
+/// The scratch of a walk that has not begun: its states are the initial one.
+fn scratch_of(alloc: Global, t: &Task) -> Result<Scratch, NoMemory>
+    ensures { IfOk result (λ scratch. (scratch.state ≡ t.now.init) × (scratch.next ≡ t.now.init)) }
+{
+    Ok(Scratch {
+        state: t.init.copy(alloc)?,
+        next: t.init.copy(alloc)?,
+    })
+}
+
+/// Walks on from the initial state, which is the only one of the states, as `walk` does. The states that are reached are
+/// added to the states. `scratch` is overwritten.
+fn walk_on(
+    alloc: Global,
+    t: &Task,
+    pairs: &Pairs,
+    rules: &Rules,
+    bound: u64,
+    scratch: &mut Scratch,
+    states: &mut Store,
+) -> Result<Walked, NoMemory>
+    requires belong { BelongTo t.now rules.now }
+    requires sure { AreSureRules t.now pairs.now rules.now }
+    requires long { length scratch.old.state ≡ length t.now.atoms }
+    requires next_long { length scratch.old.next ≡ length t.now.atoms }
+    requires first { states.old ≡ t.now.init ∷ [] }
+    ensures { IfOk result (IsWalked t.now rules.now bound) }
+{
+    let mut unruled = None;
+    let mut at = 0;
+    while at < states.len() {
+        if u64::from(states.len()) > bound {
+            return Ok(Walked::More);
+        }
+        scratch.state.copy_from(states.get(at));
+        let ruled = visit(
+            alloc,
+            t,
+            pairs,
+            rules,
+            &scratch.state,
+            &mut scratch.next,
+            states,
+        )?;
+        unruled = first_of(unruled, ruled, at);
+        at += 1;
+    }
+    if u64::from(states.len()) > bound {
+        return Ok(Walked::More);
+    }
+    Ok(Walked::All {
+        count: states.len(),
+        unruled: copy_numbered(alloc, states, unruled)?,
+    })
+}
+
+/// Walks through the states that the rules reach, until they are more than the bound. Selects the rule of each state
+/// once. Takes memory for the states that are reached, at most 256 more than the bound.
+pub fn walk(
+    alloc: Global,
+    t: &Task,
+    pairs: &Pairs,
+    rules: &Rules,
+    bound: u64,
+) -> Result<Walked, NoMemory>
+    requires belong { BelongTo t.now rules.now }
+    requires sure { AreSureRules t.now pairs.now rules.now }
+    ensures { IfOk result (IsWalked t.now rules.now bound) }
+{
+    let mut states = one_state(alloc, &t.init)?;
+    let mut scratch = scratch_of(alloc, t)?;
+    walk_on(alloc, t, pairs, rules, bound, &mut scratch, &mut states)
+}
