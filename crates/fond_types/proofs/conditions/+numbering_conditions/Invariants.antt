@@ -15,8 +15,8 @@ use Rattle.fond_types.specs.Sound.{are_sound}
 use Rattle.fond_types.proofs.conditions.+numbering_conditions.Given as goal
 
 -- the conditions so far are numbered, and those that are left are sound and declare few variables
-abbrev pub invariant-numbered_conditions-loop-condition : goal.invariant-numbered_conditions-loop-condition
-invariant-numbered_conditions-loop-condition l =
+abbrev pub invariant-put_conditions-loop-condition : goal.invariant-put_conditions-loop-condition
+invariant-put_conditions-loop-condition l =
     let files = declarations_of l.context.table.now.files.now in
     let around = lists_of l.around in
     record {

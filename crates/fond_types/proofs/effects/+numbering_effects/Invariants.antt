@@ -15,8 +15,8 @@ use Rattle.fond_types.specs.Sound.{are_sound, is_mentioned, literals_pass}
 use Rattle.fond_types.proofs.effects.+numbering_effects.Given as goal
 
 -- the effects so far are numbered, and those that are left are sound and declare few variables
-abbrev pub invariant-numbered_effects-loop-effect : goal.invariant-numbered_effects-loop-effect
-invariant-numbered_effects-loop-effect l =
+abbrev pub invariant-put_effects-loop-effect : goal.invariant-put_effects-loop-effect
+invariant-put_effects-loop-effect l =
     let files = declarations_of l.context.table.now.files.now in
     let around = lists_of l.around in
     record {

@@ -3,7 +3,7 @@ use Rattle.fond_types.specs.Files.{declarations_of}
 use Rattle.fond_types.specs.Kept.{are_kept}
 use Rattle.fond_types.specs.Meanings.{meanings}
 use Rattle.fond_types.specs.Resolves.{are_ranges}
-use Rattle.fond_types.proofs.ranges.ranges_of.Given as goal
+use Rattle.fond_types.proofs.ranges.put_ranges.Given as goal
 
 -- the ranges so far are those of the names so far
 abbrev pub invariant-loop-i : goal.invariant-loop-i
