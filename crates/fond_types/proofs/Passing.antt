@@ -3,7 +3,7 @@ use Rattle.std.proofs.Common.{◌≡◌, ℕ, ◌+◌, ◌&&◌, Bool, true, fal
 use Rattle.std.specs.List.{AllZip}
 use Rattle.std.proofs.lemmas.List.{map-append}
 use Rattle.fond_text.specs.Lists.{each_passes}
-use Rattle.fond_types.proofs.Among.{next_taken}
+use Rattle.fond_names.proofs.Among.{next_taken}
 
 pub passes_more : {N : Type 0} (tests : List (N → Bool)) (items : List N) (test : N → Bool) (item : N) → each_passes tests items ≡ true → test item ≡ true → each_passes (tests ++ test ∷ []) (items ++ item ∷ []) ≡ true
 passes_more [] [] test item all one = ap (λ b. b && true) one

@@ -2,23 +2,23 @@
 
 ghost use Rattle.fond_ast.specs.declared.names.TypedName.{TypedName};
 ghost use Rattle.fond_kinds.specs.Kinds.{are_types};
-ghost use Rattle.fond_types.specs.Files.{declarations_of};
+ghost use Rattle.fond_names.specs.Files.{declarations_of};
+ghost use Rattle.fond_names.specs.Names.{Declarations, objects_declared};
+ghost use Rattle.fond_names.specs.Same.{kind_names};
 ghost use Rattle.fond_types.specs.Kept.{is_of, range_by, are_kept};
 ghost use Rattle.fond_types.specs.Meanings.{meanings, are_typed};
-ghost use Rattle.fond_types.specs.Names.{Declarations, objects_declared};
 ghost use Rattle.fond_types.specs.Resolves.{are_ranges};
-ghost use Rattle.fond_types.specs.Same.{kind_names};
 ghost use Rattle.std.specs.Option.{option_copied};
-ghost use Rattle.std.specs.Str.{bytes_eq};
 ghost use Rattle.std.specs.Prelude.{◌≡◌, ◌<◌, ◌++◌, ◌∷◌, [], ℕ, List, IfOk, IfSome, OnOk, Contains, true, slice_get, Some, length};
+ghost use Rattle.std.specs.Str.{bytes_eq};
 
 use crate::kept::{Kept, KeptRanges};
-use crate::lookup::find_object;
 use crate::table::Table;
-use crate::types::is_below_some;
 use fond_ast::form::{Range, Ranges};
 use fond_ast::names::{Kind, Kinds, TypedNames};
 use fond_lookup::text_index::TextIndex;
+use fond_names::lookup::find_object;
+use fond_names::types::is_below_some;
 use fond_text::atom::Objects;
 use fond_text::fault::NoMemory;
 use fond_text::name::Names;

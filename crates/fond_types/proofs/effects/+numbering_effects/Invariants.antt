@@ -4,13 +4,13 @@ use Rattle.fond_ast.specs.Read.{effect_variables, has_choices}
 use Rattle.fond_ast.specs.Within.{is_effect_fluent, is_effect_within}
 use Rattle.fond_text.specs.declared.code.TheConstants.{LONGEST_TEXT}
 use Rattle.fond_text.specs.Lists.{each_passes}
-use Rattle.fond_types.specs.Files.{declarations_of}
+use Rattle.fond_names.specs.Files.{declarations_of}
 use Rattle.fond_types.specs.Kept.{are_kept}
 use Rattle.fond_types.specs.Meanings.{meanings, ranges_around}
-use Rattle.fond_types.specs.Names.{objects_declared}
+use Rattle.fond_names.specs.Names.{objects_declared}
 use Rattle.fond_types.specs.Resolves.{is_effect}
-use Rattle.fond_types.specs.Scopes.{lists_of}
-use Rattle.fond_types.specs.Sites.{effect_sites, variables_of}
+use Rattle.fond_names.specs.Scopes.{lists_of}
+use Rattle.fond_names.specs.Sites.{effect_sites, variables_of}
 use Rattle.fond_types.specs.Sound.{are_sound, is_mentioned, literals_pass}
 use Rattle.fond_types.proofs.effects.+numbering_effects.Given as goal
 

@@ -1,8 +1,8 @@
 use Rattle.std.proofs.Common.{sym}
 use Rattle.std.specs.Cmp.Lexicographic.{bytes_decides}
-use Rattle.fond_types.specs.Files.{declarations_of}
+use Rattle.fond_names.specs.Files.{declarations_of}
 use Rattle.fond_types.specs.Kept.{range_by}
-use Rattle.fond_types.specs.Same.{kind_names}
+use Rattle.fond_names.specs.Same.{kind_names}
 use Rattle.fond_types.proofs.ranges.new_range.Goals as goal
 
 pub returns-clause-sound : goal.returns-clause-sound

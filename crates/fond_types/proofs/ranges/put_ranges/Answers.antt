@@ -5,11 +5,11 @@ use Rattle.std.proofs.lemmas.List.{map-append}
 use Rattle.fond_ast.specs.Ranges.{objects_of}
 use Rattle.fond_ast.specs.declared.names.TypedName.{TypedName}
 use Rattle.fond_text.specs.Lists.{each_passes}
-use Rattle.fond_types.specs.Files.{declarations_of}
+use Rattle.fond_names.specs.Files.{declarations_of}
 use Rattle.fond_types.specs.Meanings.{meanings}
 use Rattle.fond_types.specs.Resolves.{are_ranges}
 use Rattle.fond_kinds.specs.Kinds.{are_types}
-use Rattle.fond_types.proofs.Members.{all_got}
+use Rattle.fond_names.proofs.Members.{all_got}
 use Rattle.fond_types.proofs.Passing.{passes_next}
 use Rattle.fond_types.proofs.ranges.put_ranges.Goals as goal
 

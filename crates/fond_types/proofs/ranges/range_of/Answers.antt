@@ -2,9 +2,9 @@ use Rattle.std.proofs.Common.{sym, ap, ◌∙◌}
 use Rattle.std.specs.Str.{bytes_eq}
 use Rattle.std.specs.Cmp.Lexicographic.{bytes_decides}
 use Rattle.fond_types.specs.declared.kept.Kept.{Kept}
-use Rattle.fond_types.specs.Files.{declarations_of}
+use Rattle.fond_names.specs.Files.{declarations_of}
 use Rattle.fond_types.specs.Kept.{range_by}
-use Rattle.fond_types.proofs.Members.{all_hold}
+use Rattle.fond_names.proofs.Members.{all_hold}
 use Rattle.fond_types.proofs.Passing.{if_ok}
 use Rattle.fond_types.proofs.RangeLemmas.{range_named}
 use Rattle.fond_types.proofs.ranges.range_of.Goals as goal

@@ -1,11 +1,11 @@
 use Rattle.std.proofs.Common.{◌≡◌, ◌++◌, ◌∷◌, [], true, sym, ◌∙◌, subst}
 use Rattle.std.proofs.lemmas.List.Folds.{list_all-append}
-use Rattle.fond_types.specs.Files.{declarations_of}
-use Rattle.fond_types.specs.Scopes.{lists_of}
-use Rattle.fond_types.specs.Sites.{Scope, AList, condition_sites, effect_sites}
+use Rattle.fond_names.specs.Files.{declarations_of}
+use Rattle.fond_names.specs.Scopes.{lists_of}
+use Rattle.fond_names.specs.Sites.{Scope, AList, condition_sites, effect_sites}
 use Rattle.fond_types.specs.Sound.{is_sound, are_sound}
-use Rattle.fond_types.proofs.Members.{and_parts}
-use Rattle.fond_types.proofs.ScopeLemmas.{lists-Nothing}
+use Rattle.fond_names.proofs.Members.{and_parts}
+use Rattle.fond_names.proofs.ScopeLemmas.{lists-Nothing}
 use Rattle.fond_types.proofs.schemas.numbered_body.Goals as goal
 
 pub numbered_effect-requires-clause-sound : goal.numbered_effect-requires-clause-sound

@@ -3,11 +3,11 @@ use Rattle.fond_ast.specs.Ranges.{objects_of}
 use Rattle.fond_ast.specs.Within.{are_ranges_within, is_condition_within, is_effect_within}
 use Rattle.fond_ast.specs.declared.names.Kind.{Kind}
 use Rattle.fond_lookup.specs.Texts.{number_beside}
-use Rattle.fond_types.specs.Files.{declarations_of}
+use Rattle.fond_names.specs.Files.{declarations_of}
 use Rattle.fond_types.specs.Meanings.{meanings, ranges_around}
-use Rattle.fond_types.specs.Names.{objects_declared}
+use Rattle.fond_names.specs.Names.{objects_declared}
 use Rattle.fond_types.proofs.AtomLemmas.{are_ranges_of}
-use Rattle.fond_types.proofs.Members.{and_both}
+use Rattle.fond_names.proofs.Members.{and_both}
 use Rattle.fond_types.proofs.TermLemmas.{among_names}
 use Rattle.fond_types.proofs.WithinLemmas.{ranges_within}
 use Rattle.fond_types.proofs.schemas.numbered_schema.Goals as goal

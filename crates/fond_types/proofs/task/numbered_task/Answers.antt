@@ -1,8 +1,8 @@
 use Rattle.std.proofs.Common.{◌≡◌, inr, true, sym, subst}
 use Rattle.fond_text.specs.declared.place.FileKind.TheVariants as kind
-use Rattle.fond_types.specs.declared.files.Files.{Files}
-use Rattle.fond_types.specs.Files.{declarations_of}
-use Rattle.fond_types.specs.Sites.{domain_sites, problem_sites}
+use Rattle.fond_names.specs.declared.files.Files.{Files}
+use Rattle.fond_names.specs.Files.{declarations_of}
+use Rattle.fond_names.specs.Sites.{domain_sites, problem_sites}
 use Rattle.fond_types.specs.Sound.{are_sound}
 use Rattle.fond_types.proofs.CleanLemmas.{sound_if_clean}
 use Rattle.fond_types.proofs.task.numbered_task.Goals as goal
