@@ -1,14 +1,29 @@
 //! Indexes from names to the positions of their first declarations.
 
+ghost use Rattle.fond_lookup.specs.Texts.{with_text};
 ghost use Rattle.fond_text.specs.declared.code.TheConstants.{LONGEST_TEXT};
 ghost use Rattle.fond_names.specs.Indexes.{IsIndex};
-ghost use Rattle.std.specs.Prelude.{◌≡◌, ◌≤◌, ◌<◌, ◌+◌, ◌++◌, IfOk, Some, length, slice_get};
+ghost use Rattle.std.specs.Prelude.{◌≡◌, ◌≤◌, ◌<◌, ◌+◌, ◌++◌, IfOk, OnOk, Some, length, slice_get};
 
 use fond_ast::files::{DeclaredList, Schemas};
 use fond_ast::names::{TypedName, TypedNames};
 use fond_lookup::text_index::TextIndex;
 use fond_text::fault::NoMemory;
+use fond_text::name::Name;
 use std::alloc::Global;
+
+/// Gives a name a number, unless it has one.
+pub fn insert_name(
+    alloc: Global,
+    index: &mut TextIndex,
+    name: &Name,
+    number: u32,
+) -> Result<(), NoMemory>
+    ensures { OnOk result (index.new ≡ with_text index.old name.now number) }
+{
+    let text = Vec::from_slice(alloc, name.bytes())?;
+    index.insert(text, number)
+}
 
 /// An index of predicates.
 pub(crate) fn index_predicates(
@@ -20,8 +35,7 @@ pub(crate) fn index_predicates(
 {
     let mut index = TextIndex::new(alloc);
     for i in 0..predicates.len() {
-        let name = Vec::from_slice(alloc, predicates.get(i).name.bytes())?;
-        index.insert(name, i as u32)?;
+        insert_name(alloc, &mut index, &predicates.get(i).name, i as u32)?;
     }
     Ok(index)
 }
@@ -33,8 +47,7 @@ pub(crate) fn index_schemas(alloc: Global, schemas: &Schemas) -> Result<TextInde
 {
     let mut index = TextIndex::new(alloc);
     for i in 0..schemas.len() {
-        let name = Vec::from_slice(alloc, schemas.get(i).name.bytes())?;
-        index.insert(name, i as u32)?;
+        insert_name(alloc, &mut index, &schemas.get(i).name, i as u32)?;
     }
     Ok(index)
 }
@@ -46,18 +59,13 @@ pub(crate) fn index_variables(alloc: Global, names: &TypedNames) -> Result<TextI
 {
     let mut index = TextIndex::new(alloc);
     for i in 0..names.len() {
-        let name = Vec::from_slice(alloc, names.get(i).name.bytes())?;
-        index.insert(name, i as u32)?;
+        insert_name(alloc, &mut index, &names.get(i).name, i as u32)?;
     }
     Ok(index)
 }
 
 /// The item of this index in two lists, one after the other.
-pub fn joined_get<'a>(
-    names: &'a TypedNames,
-    others: &'a TypedNames,
-    i: usize,
-) -> &'a TypedName
+pub fn joined_get<'a>(names: &'a TypedNames, others: &'a TypedNames, i: usize) -> &'a TypedName
     requires { i < length names.now + length others.now }
     ensures { slice_get (names.now ++ others.now) i ≡ Some result.now }
 {
@@ -81,8 +89,12 @@ pub(crate) fn index_objects(
 {
     let mut index = TextIndex::new(alloc);
     for i in 0..constants.len() + objects.len() {
-        let name = Vec::from_slice(alloc, joined_get(constants, objects, i).name.bytes())?;
-        index.insert(name, i as u32)?;
+        insert_name(
+            alloc,
+            &mut index,
+            &joined_get(constants, objects, i).name,
+            i as u32,
+        )?;
     }
     Ok(index)
 }

@@ -1,18 +1,34 @@
 //! First declarations by name, and the table of all declarations.
 
 ghost use Rattle.fond_names.specs.Files.{declarations_of};
+ghost use Rattle.fond_names.specs.Indexes.{IsIndex};
 ghost use Rattle.fond_names.specs.Names.{predicate_of, first_of, all_objects};
 ghost use Rattle.std.specs.Option.{option_copied};
-ghost use Rattle.std.specs.Prelude.{◌≡◌, IfOk};
+ghost use Rattle.std.specs.Prelude.{◌≡◌, ◌++◌, IfOk};
 
 use crate::files::Files;
 use crate::index::{index_objects, index_predicates, index_schemas, joined_get};
 use fond_ast::files::{Declared, Domain, Problem, Side};
 use fond_ast::names::TypedName;
 use fond_kinds::table::TypeTable;
+use fond_lookup::text_index::TextIndex;
 use fond_text::fault::NoMemory;
 use fond_text::name::Name;
 use std::alloc::Global;
+
+/// An index of the predicates of a domain, and one of its constants and the objects of a problem.
+fn indexed_names(
+    alloc: Global,
+    domain: &Domain,
+    problem: &Problem,
+) -> Result<(TextIndex, TextIndex), NoMemory>
+    ensures predicates { IfOk result (λ made. IsIndex (λ predicate. predicate.name) made.0 domain.now.predicates) }
+    ensures objects { IfOk result (λ made. IsIndex (λ object. object.name) made.1 (domain.now.constants ++ problem.now.objects)) }
+{
+    let predicates = index_predicates(alloc, &domain.predicates)?;
+    let objects = index_objects(alloc, &domain.constants, &problem.objects)?;
+    Ok((predicates, objects))
+}
 
 /// The declarations of three files, indexed. Takes time and memory linear in their names.
 pub fn indexed<'a>(
@@ -24,9 +40,8 @@ pub fn indexed<'a>(
     ensures { IfOk result (λ files. declarations_of files ≡ record { domain = domain.now; problem = problem.now; side = side.now }) }
 {
     let types = TypeTable::of(alloc, &domain.kinds)?;
-    let predicates = index_predicates(alloc, &domain.predicates)?;
-    let objects = index_objects(alloc, &domain.constants, &problem.objects)?;
     let schemas = index_schemas(alloc, &domain.schemas)?;
+    let (predicates, objects) = indexed_names(alloc, domain, problem)?;
     Ok(Files {
         domain,
         problem,

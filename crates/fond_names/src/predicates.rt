@@ -10,6 +10,7 @@ ghost use Rattle.std.specs.Option.{option_map_or};
 ghost use Rattle.std.specs.Prelude.{◌≡◌, ℕ, List, IfOk, false, not, is_some};
 
 use crate::files::Files;
+use crate::index::insert_name;
 use crate::lookup::find_predicate;
 use fond_ast::files::Declared;
 use fond_ast::names::{Kinds, TypedNames};
@@ -25,8 +26,7 @@ pub fn index_kinds(alloc: Global, kinds: &Kinds) -> Result<TextIndex, NoMemory>
 {
     let mut index = TextIndex::new(alloc);
     for i in 0..kinds.len() {
-        let name = Vec::from_slice(alloc, kinds.get(i).name.bytes())?;
-        index.insert(name, 0)?;
+        insert_name(alloc, &mut index, &kinds.get(i).name, 0)?;
     }
     Ok(index)
 }

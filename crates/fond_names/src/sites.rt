@@ -6,20 +6,22 @@ ghost use Rattle.fond_text.specs.Firsts.{IsFirst};
 ghost use Rattle.fond_names.specs.Faults.{OccursAmong};
 ghost use Rattle.fond_names.specs.Files.{declarations_of};
 ghost use Rattle.fond_names.specs.Scopes.{lists_of};
-ghost use Rattle.fond_names.specs.Sites.{AnAtom, condition_sites, effect_sites, schema_sites, domain_sites, problem_sites};
-ghost use Rattle.std.specs.Prelude.{◌≡◌, ◌≤◌, [], IfOk, map, true};
+ghost use Rattle.fond_names.specs.Sites.{AList, AnAtom, condition_sites, effect_sites, schema_sites, domain_sites, problem_sites};
+ghost use Rattle.std.specs.Prelude.{◌≡◌, ◌≤◌, ◌+◌, ◌∷◌, [], IfOk, length, map, true};
 
 use crate::atoms::{atom_fault, equality_fault, list_fault};
 use crate::files::Files;
-use crate::scope::Around;
+use crate::scope::{Around, Variables};
 use crate::variable::{indexed_variables, inside};
 use fond_ast::files::Schema;
+use fond_ast::names::TypedNames;
 use fond_ast::syntax::{Cond, Effect};
 use fond_text::fault::NoMemory;
 use fond_text::first::{Found, earlier};
 use std::alloc::Global;
 
 /// The first fault of names in a condition.
+#[cycle(condition_fault)]
 fn condition_fault(
     alloc: Global,
     files: &Files,
@@ -46,15 +48,31 @@ fn condition_fault(
             Ok(earlier(first, condition_fault(alloc, files, other, around)?))
         }
         Cond::Forall(names, part) | Cond::Exists(names, part) => {
-            let variables = indexed_variables(alloc, names)?;
-            let first = list_fault(files, &variables);
-            let within = inside(&variables, around);
-            Ok(earlier(first, condition_fault(alloc, files, part, &within)?))
+            quantified_fault(alloc, files, names, part, around)
         }
     }
 }
 
+/// The first fault of names in the variables and the part of a quantifier.
+#[cycle(condition_fault)]
+fn quantified_fault(
+    alloc: Global,
+    files: &Files,
+    names: &TypedNames,
+    part: &Cond,
+    around: &Around,
+) -> Result<Option<Found>, NoMemory>
+    requires { length names.now + condition_variables part.now ≤ LONGEST_TEXT }
+    ensures { IfOk result (IsFirst (OccursAmong (declarations_of files.now) (AList names.now ∷ condition_sites part.now (names.now ∷ lists_of around.now)))) }
+{
+    let variables = indexed_variables(alloc, names)?;
+    let first = list_fault(files, &variables);
+    let within = inside(&variables, &*around);
+    Ok(earlier(first, condition_fault(alloc, files, part, &within)?))
+}
+
 /// The first fault of names in an effect.
+#[cycle(effect_fault)]
 fn effect_fault(
     alloc: Global,
     files: &Files,
@@ -74,17 +92,49 @@ fn effect_fault(
             }
             Ok(first)
         }
-        Effect::Forall(names, part) => {
-            let variables = indexed_variables(alloc, names)?;
-            let first = list_fault(files, &variables);
-            let within = inside(&variables, around);
-            Ok(earlier(first, effect_fault(alloc, files, part, &within)?))
-        }
+        Effect::Forall(names, part) => universal_fault(alloc, files, names, part, around),
         Effect::When(condition, part) => {
             let first = condition_fault(alloc, files, condition, around)?;
             Ok(earlier(first, effect_fault(alloc, files, part, around)?))
         }
     }
+}
+
+/// The first fault of names in the variables and the part of a quantified effect.
+#[cycle(effect_fault)]
+fn universal_fault(
+    alloc: Global,
+    files: &Files,
+    names: &TypedNames,
+    part: &Effect,
+    around: &Around,
+) -> Result<Option<Found>, NoMemory>
+    requires { length names.now + effect_variables part.now ≤ LONGEST_TEXT }
+    ensures { IfOk result (IsFirst (OccursAmong (declarations_of files.now) (AList names.now ∷ effect_sites part.now (names.now ∷ lists_of around.now)))) }
+{
+    let variables = indexed_variables(alloc, names)?;
+    let first = list_fault(files, &variables);
+    let within = inside(&variables, &*around);
+    Ok(earlier(first, effect_fault(alloc, files, part, &within)?))
+}
+
+/// The first fault of names in a schema with these parameters.
+fn fault_inside(
+    alloc: Global,
+    files: &Files,
+    schema: &Schema,
+    parameters: &Variables,
+) -> Result<Option<Found>, NoMemory>
+    requires named { parameters.now.names.now ≡ schema.now.parameters }
+    requires few { has_few_variables schema.now ≡ true }
+    ensures { IfOk result (IsFirst (OccursAmong (declarations_of files.now) (schema_sites schema.now))) }
+{
+    let list = list_fault(files, parameters);
+    let outside = Around::Nothing;
+    let within = inside(&*parameters, &outside);
+    let first = condition_fault(alloc, files, &schema.pre, &within)?;
+    let body = earlier(first, effect_fault(alloc, files, &schema.effect, &within)?);
+    Ok(earlier(list, body))
 }
 
 /// The first fault of names in a schema.
@@ -93,12 +143,7 @@ fn schema_fault(alloc: Global, files: &Files, schema: &Schema) -> Result<Option<
     ensures { IfOk result (IsFirst (OccursAmong (declarations_of files.now) (schema_sites schema.now))) }
 {
     let parameters = indexed_variables(alloc, &schema.parameters)?;
-    let list = list_fault(files, &parameters);
-    let outside = Around::Nothing;
-    let within = inside(&parameters, &outside);
-    let first = condition_fault(alloc, files, &schema.pre, &within)?;
-    let body = earlier(first, effect_fault(alloc, files, &schema.effect, &within)?);
-    Ok(earlier(list, body))
+    fault_inside(alloc, files, schema, &parameters)
 }
 
 /// The first fault of names in the schemas of the domain.

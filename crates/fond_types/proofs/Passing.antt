@@ -1,5 +1,5 @@
 -- Tests that items pass place by place, with one more.
-use Rattle.std.proofs.Common.{◌≡◌, ℕ, ◌+◌, ◌&&◌, Bool, true, false, List, [], ◌∷◌, ◌++◌, Some, map, take, slice_get, sym, ap, ◌∙◌, subst, Result, Ok, Err, IfOk}
+use Rattle.std.proofs.Common.{◌≡◌, ℕ, ◌+◌, ◌&&◌, Bool, true, false, List, [], ◌∷◌, ◌++◌, Some, map, take, slice_get, sym, ap, ◌∙◌, subst, Result, Ok, Err, IfOk, OnOk}
 use Rattle.std.specs.List.{AllZip}
 use Rattle.std.proofs.lemmas.List.{map-append}
 use Rattle.fond_text.specs.Lists.{each_passes}
@@ -36,3 +36,8 @@ zip_next {A} R forms i form items item got before one = subst (λ (some : List A
 pub if_ok : {A : Type 0} {E : Type 0} (P Q : A → Type 0) (result : Result A E) → ((a : A) → P a → Q a) → IfOk result P → IfOk result Q
 if_ok P Q (Ok a) so holds = so a holds
 if_ok P Q (Err e) so holds = tt
+
+-- what follows from success follows from it
+pub on_ok : {A : Type 0} {E : Type 0} {P Q : Type 0} (result : Result A E) → (P → Q) → OnOk result P → OnOk result Q
+on_ok (Ok a) so holds = so holds
+on_ok (Err e) so holds = tt

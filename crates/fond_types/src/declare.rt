@@ -9,7 +9,7 @@ ghost use Rattle.std.specs.Prelude.{◌≡◌, ◌<◌, ◌≤◌, ◌+◌, ◌^
 use crate::numbers::Numbers;
 use fond_lookup::text_index::TextIndex;
 use fond_names::files::Files;
-use fond_names::index::joined_get;
+use fond_names::index::{insert_name, joined_get};
 use fond_text::fault::NoMemory;
 use fond_text::name::{Name, Names};
 use std::alloc::Global;
@@ -30,7 +30,7 @@ fn declare(
     if numbers.find(name.bytes()).is_some() {
         return Ok(());
     }
-    numbers.insert(Vec::from_slice(alloc, name.bytes())?, names.len() as u32)?;
+    insert_name(alloc, numbers, name, names.len() as u32)?;
     names.push(name.copy(alloc)?)?;
     Ok(())
 }

@@ -66,7 +66,10 @@ pub(crate) fn numbered_effect(
         }
         Effect::When(condition, part) => {
             let condition = numbered_condition(alloc, context, kept, condition, around)?;
-            Ok(LEffect::When(condition, numbered_boxed(alloc, context, kept, part, around)?))
+            Ok(LEffect::When(
+                condition,
+                numbered_boxed(alloc, context, kept, part, around)?,
+            ))
         }
     }
 }

@@ -1,4 +1,4 @@
-use Rattle.std.proofs.Common.{◌∙◌, arith}
+use Rattle.std.proofs.Common.{arith, refl}
 use Rattle.std.proofs.lemmas.Bool.Decides.{nat_tests}
 use Rattle.fond_ast.specs.declared.names.TypedName.{TypedName}
 use Rattle.fond_lookup.proofs.Firsts.{has_all, has_more}
@@ -6,8 +6,7 @@ use Rattle.fond_names.proofs.index.index_variables.Goals as goal
 
 pub loop-i-preserved : goal.loop-i-preserved
 loop-i-preserved c =
-    has_more (λ (name : TypedName). name.name) c.args.names.now c.loop-i.index c.insert.new.self c.loop-i.i c.get.result.now c.in_ok-name.name.items c.get.ensures
-    (c.in_ok-name.ensures.items ∙ c.bytes.ensures.value) c.in_ok-insert.ensures.ok c.loop-i.invariant
+    has_more (λ (name : TypedName). name.name) c.args.names.now c.loop-i.index c.insert_name.new.index c.loop-i.i c.get.result.now _ c.get.ensures refl c.in_ok-insert_name.ensures c.loop-i.invariant
 
 pub returns : goal.returns
 returns c = has_all (λ (name : TypedName). name.name) c.args.names.now c.loop-i.index c.loop-i.i (grind (arith, nat_tests)) c.loop-i.invariant

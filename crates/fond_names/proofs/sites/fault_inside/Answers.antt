@@ -7,13 +7,13 @@ use Rattle.fond_names.specs.Scopes.{lists_of}
 use Rattle.fond_names.specs.Sites.{Scope, AList, condition_sites, effect_sites}
 use Rattle.fond_names.proofs.ScopeLemmas.{lists-Nothing}
 use Rattle.fond_names.proofs.SiteLemmas.{sites_both, site_then}
-use Rattle.fond_names.proofs.sites.schema_fault.Goals as goal
+use Rattle.fond_names.proofs.sites.fault_inside.Goals as goal
 
 pub returns : goal.returns
 returns c =
     let files = declarations_of c.args.files.now in
     let schema = c.args.schema.now in
-    let named = c.in_ok-parameters.ensures in
+    let named = c.requires.named in
     let lists : lists_of c.inside-within.result ≡ schema.parameters ∷ [] = c.inside-within.ensures ∙ (λ i. named i ∷ lists-Nothing i) in
     let conditions = condition_sites schema.pre (schema.parameters ∷ []) in
     let effects = effect_sites schema.effect (schema.parameters ∷ []) in
