@@ -14,8 +14,8 @@ use Rattle.fond_tree.specs.declared.tree.Tree.{Tree}
 use Rattle.fond_tree.specs.Faults.{IsTextFault, IsFaultOf}
 use Rattle.fond_tree.specs.Spelling.{IsReadAs}
 use Rattle.fond_grammar.specs.Faults.{StandsInDomain, StandsInProblem}
-use Rattle.fond_types.specs.Faults.{StandsInNames}
-use Rattle.fond_types.specs.Names.{Declarations}
+use Rattle.fond_names.specs.Faults.{StandsInNames}
+use Rattle.fond_names.specs.Names.{Declarations}
 use Rattle.fond_types.specs.Resolves.{IsResolved}
 use Rattle.fond_front.specs.declared.parse.Trees.{Trees}
 use Rattle.fond_front.specs.declared.texts.TaskTexts.{TaskTexts}

@@ -10,8 +10,8 @@ use Rattle.fond_tree.specs.Faults.{IsTextFault}
 use Rattle.fond_tree.specs.Spelling.{IsReadAs}
 use Rattle.fond_grammar.specs.Faults.{StandsInDomain, StandsInProblem}
 use Rattle.fond_reader.specs.Files.{IsDomainOf, IsProblemOf}
-use Rattle.fond_types.specs.Faults.{StandsInNames}
-use Rattle.fond_types.specs.Names.{Declarations}
+use Rattle.fond_names.specs.Faults.{StandsInNames}
+use Rattle.fond_names.specs.Names.{Declarations}
 use Rattle.fond_types.specs.Resolves.{IsResolved}
 use Rattle.fond_front.specs.declared.declare.Files.{Files}
 use Rattle.fond_front.specs.declared.parse.Trees.{Trees}

@@ -70,6 +70,17 @@ fn read_keyed_effect(alloc: Global, pairs: &[Tree]) -> Result<Effect, NoMemory>
     }
 }
 
+/// The precondition and the effect among pairs.
+fn read_body(alloc: Global, pairs: &[Tree]) -> Result<(Cond, Effect), NoMemory>
+    requires { FitsPairs pairs.now }
+    ensures pre { IfOk result (λ body. IsPrecondition (values (codes ":precondition") pairs.now) body.0) }
+    ensures effect { IfOk result (λ body. IsKeyedEffect (values (codes ":effect") pairs.now) body.1) }
+{
+    let pre = read_precondition(alloc, pairs)?;
+    let effect = read_keyed_effect(alloc, pairs)?;
+    Ok((pre, effect))
+}
+
 /// The schema of this name and these pairs.
 fn schema_of(alloc: Global, name: &Tree, pairs: &[Tree]) -> Result<Schema, NoMemory>
     requires named { Fits NameRole name.now }
@@ -78,8 +89,7 @@ fn schema_of(alloc: Global, name: &Tree, pairs: &[Tree]) -> Result<Schema, NoMem
 {
     let (place, name) = read_leaf(alloc, name)?;
     let parameters = read_parameters(alloc, pairs)?;
-    let pre = read_precondition(alloc, pairs)?;
-    let effect = read_keyed_effect(alloc, pairs)?;
+    let (pre, effect) = read_body(alloc, pairs)?;
     Ok(Schema {
         place,
         name,

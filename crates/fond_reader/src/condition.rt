@@ -6,7 +6,7 @@ ghost use Rattle.fond_reader.specs.Bodies.{is_condition, is_term};
 ghost use Rattle.fond_reader.specs.Typed.{is_variable_list};
 ghost use Rattle.fond_text.specs.Lists.{each_passes};
 ghost use Rattle.std.specs.List.{AllByRecursion, AllZip};
-ghost use Rattle.std.specs.Prelude.{◌≡◌, ◌∷◌, [], true, map, IfOk};
+ghost use Rattle.std.specs.Prelude.{◌≡◌, ◌∷◌, [], true, map, IfOk, OnOk};
 
 use crate::atom::{read_atom, read_term};
 use crate::node::word_of;
@@ -59,6 +59,16 @@ pub(crate) fn read_condition(alloc: Global, tree: &Tree) -> Result<Cond, NoMemor
     Ok(Cond::Holds(read_atom(alloc, tree)?))
 }
 
+/// The condition that a tree is read as, in a box.
+#[cycle(condition)]
+fn read_boxed(alloc: Global, tree: &Tree) -> Result<Box<Cond>, NoMemory>
+    requires fits { Fits ConditionRole tree.now }
+    ensures { IfOk result (λ part. is_condition part.value tree.now ≡ true) }
+{
+    let part = read_condition(alloc, tree)?;
+    Ok(Box::new(alloc, part)?)
+}
+
 /// The conditions that trees are read as, one by one.
 #[cycle(condition)]
 fn read_conditions(alloc: Global, trees: &[Tree]) -> Result<Vec<Cond>, NoMemory>
@@ -66,10 +76,21 @@ fn read_conditions(alloc: Global, trees: &[Tree]) -> Result<Vec<Cond>, NoMemory>
     ensures { IfOk result (λ parts. each_passes (map is_condition parts.items) trees.now ≡ true) }
 {
     let mut parts = Vec::with_capacity(alloc, trees.len())?;
+    put_conditions(alloc, trees, &mut parts)?;
+    Ok(parts)
+}
+
+/// Puts the conditions that trees are read as into an empty vector, one by one.
+#[cycle(condition)]
+fn put_conditions(alloc: Global, trees: &[Tree], parts: &mut Vec<Cond>) -> Result<(), NoMemory>
+    requires empty { parts.old.items ≡ [] }
+    requires fit { AllByRecursion (Fits ConditionRole) trees.now }
+    ensures { OnOk result (each_passes (map is_condition parts.new.items) trees.now ≡ true) }
+{
     for tree in trees {
         parts.push(read_condition(alloc, tree)?)?;
     }
-    Ok(parts)
+    Ok(())
 }
 
 /// The condition that the only one of these trees is read as.
@@ -79,7 +100,7 @@ fn read_only(alloc: Global, trees: &[Tree]) -> Result<Box<Cond>, NoMemory>
     ensures { IfOk result (λ part. each_passes (is_condition part.value ∷ []) trees.now ≡ true) }
 {
     match trees {
-        [tree] => Ok(Box::new(alloc, read_condition(alloc, tree)?)?),
+        [tree] => read_boxed(alloc, tree),
         _ => unreachable!(),
     }
 }
@@ -92,8 +113,8 @@ fn read_both(alloc: Global, trees: &[Tree]) -> Result<(Box<Cond>, Box<Cond>), No
 {
     match trees {
         [tree, second] => {
-            let part = Box::new(alloc, read_condition(alloc, tree)?)?;
-            let other = Box::new(alloc, read_condition(alloc, second)?)?;
+            let part = read_boxed(alloc, tree)?;
+            let other = read_boxed(alloc, second)?;
             Ok((part, other))
         }
         _ => unreachable!(),
@@ -109,7 +130,7 @@ fn read_quantified(alloc: Global, trees: &[Tree]) -> Result<(TypedNames, Box<Con
     match trees {
         [variables, tree] => {
             let names = read_variables(alloc, variables)?;
-            let part = Box::new(alloc, read_condition(alloc, tree)?)?;
+            let part = read_boxed(alloc, tree)?;
             Ok((names, part))
         }
         _ => unreachable!(),

@@ -2,7 +2,10 @@
 
 ghost use Rattle.fond_grammar.specs.Faults.{Fits, StandsInDomain};
 ghost use Rattle.fond_grammar.specs.declared.role.Role.TheVariants.{DomainFile as DomainRole, DomainSection as DomainSectionRole};
-ghost use Rattle.fond_reader.specs.Files.{IsDomainOf, AreSchemasOf, headed};
+ghost use Rattle.fond_reader.specs.Files.{IsDomainOf, AreSchemasOf, contents, headed};
+ghost use Rattle.fond_reader.specs.Sorts.{FitsTyped};
+ghost use Rattle.fond_reader.specs.Typed.{are_names};
+ghost use Rattle.fond_reader.specs.declared.typed.Sort.TheVariants.{Names};
 ghost use Rattle.fond_text.specs.Faults.{IsClean, IsLeastIn, Refuses};
 ghost use Rattle.fond_text.specs.declared.code.TheConstants.{LONGEST_TEXT};
 ghost use Rattle.fond_text.specs.declared.place.FileKind.TheVariants.{Domain as DomainKind};
@@ -15,6 +18,7 @@ use crate::initial::read_predicates;
 use crate::section::{contents_of, sections_of};
 use crate::typed::{Sort, read_typed};
 use fond_ast::files::{Domain, Schemas};
+use fond_ast::names::TypedNames;
 use fond_grammar::fault::first_fault;
 use fond_grammar::leaves::begins;
 use fond_grammar::role::Role;
@@ -37,6 +41,20 @@ fn read_schemas(alloc: Global, sections: &[Tree]) -> Result<Schemas, NoMemory>
     Ok(schemas)
 }
 
+/// The types and the constants of sections.
+fn read_names(alloc: Global, sections: &[Tree]) -> Result<(TypedNames, TypedNames), NoMemory>
+    requires types_once { length (headed (codes ":types") sections.now) ≤ 1 }
+    requires constants_once { length (headed (codes ":constants") sections.now) ≤ 1 }
+    requires types { FitsTyped Names (contents (codes ":types") sections.now) }
+    requires constants { FitsTyped Names (contents (codes ":constants") sections.now) }
+    ensures types { IfOk result (λ names. are_names names.0 (contents (codes ":types") sections.now) ≡ true) }
+    ensures constants { IfOk result (λ names. are_names names.1 (contents (codes ":constants") sections.now) ≡ true) }
+{
+    let kinds = read_typed(alloc, Sort::Names, contents_of(sections, b":types"))?;
+    let constants = read_typed(alloc, Sort::Names, contents_of(sections, b":constants"))?;
+    Ok((kinds, constants))
+}
+
 /// The domain that a tree without a fault is read as.
 fn domain_of(alloc: Global, tree: &Tree) -> Result<Domain, NoMemory>
     requires fits { Fits DomainRole tree.now }
@@ -44,8 +62,7 @@ fn domain_of(alloc: Global, tree: &Tree) -> Result<Domain, NoMemory>
     ensures { IfOk result (IsDomainOf tree.now) }
 {
     let sections = sections_of(tree);
-    let kinds = read_typed(alloc, Sort::Names, contents_of(sections, b":types"))?;
-    let constants = read_typed(alloc, Sort::Names, contents_of(sections, b":constants"))?;
+    let (kinds, constants) = read_names(alloc, sections)?;
     let predicates = read_predicates(alloc, contents_of(sections, b":predicates"))?;
     let schemas = read_schemas(alloc, sections)?;
     Ok(Domain {

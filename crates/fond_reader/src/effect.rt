@@ -6,7 +6,7 @@ ghost use Rattle.fond_reader.specs.Bodies.{is_condition, is_effect};
 ghost use Rattle.fond_reader.specs.Typed.{is_variable_list};
 ghost use Rattle.fond_text.specs.Lists.{each_passes};
 ghost use Rattle.std.specs.List.{AllByRecursion, AllZip};
-ghost use Rattle.std.specs.Prelude.{◌≡◌, ◌∷◌, [], true, map, IfOk};
+ghost use Rattle.std.specs.Prelude.{◌≡◌, ◌∷◌, [], true, map, IfOk, OnOk};
 
 use crate::atom::{read_atom, read_only_atom};
 use crate::condition::read_condition;
@@ -52,6 +52,16 @@ pub(crate) fn read_effect(alloc: Global, tree: &Tree) -> Result<Effect, NoMemory
     Ok(Effect::Add(read_atom(alloc, tree)?))
 }
 
+/// The effect that a tree is read as, in a box.
+#[cycle(effect)]
+fn read_boxed(alloc: Global, tree: &Tree) -> Result<Box<Effect>, NoMemory>
+    requires fits { Fits EffectRole tree.now }
+    ensures { IfOk result (λ part. is_effect part.value tree.now ≡ true) }
+{
+    let part = read_effect(alloc, tree)?;
+    Ok(Box::new(alloc, part)?)
+}
+
 /// The effects that trees are read as, one by one.
 #[cycle(effect)]
 fn read_effects(alloc: Global, trees: &[Tree]) -> Result<Vec<Effect>, NoMemory>
@@ -59,10 +69,21 @@ fn read_effects(alloc: Global, trees: &[Tree]) -> Result<Vec<Effect>, NoMemory>
     ensures { IfOk result (λ parts. each_passes (map is_effect parts.items) trees.now ≡ true) }
 {
     let mut parts = Vec::with_capacity(alloc, trees.len())?;
+    put_effects(alloc, trees, &mut parts)?;
+    Ok(parts)
+}
+
+/// Puts the effects that trees are read as into an empty vector, one by one.
+#[cycle(effect)]
+fn put_effects(alloc: Global, trees: &[Tree], parts: &mut Vec<Effect>) -> Result<(), NoMemory>
+    requires empty { parts.old.items ≡ [] }
+    requires fit { AllByRecursion (Fits EffectRole) trees.now }
+    ensures { OnOk result (each_passes (map is_effect parts.new.items) trees.now ≡ true) }
+{
     for tree in trees {
         parts.push(read_effect(alloc, tree)?)?;
     }
-    Ok(parts)
+    Ok(())
 }
 
 /// The variables and the effect that these two trees are read as.
@@ -74,7 +95,7 @@ fn read_quantified(alloc: Global, trees: &[Tree]) -> Result<(TypedNames, Box<Eff
     match trees {
         [variables, tree] => {
             let names = read_variables(alloc, variables)?;
-            let part = Box::new(alloc, read_effect(alloc, tree)?)?;
+            let part = read_boxed(alloc, tree)?;
             Ok((names, part))
         }
         _ => unreachable!(),
@@ -90,7 +111,7 @@ fn read_conditional(alloc: Global, trees: &[Tree]) -> Result<(Cond, Box<Effect>)
     match trees {
         [first, tree] => {
             let condition = read_condition(alloc, first)?;
-            let part = Box::new(alloc, read_effect(alloc, tree)?)?;
+            let part = read_boxed(alloc, tree)?;
             Ok((condition, part))
         }
         _ => unreachable!(),

@@ -11,7 +11,7 @@ use Rattle.fond_ast.specs.declared.task.LPredicate.{LPredicate}
 use Rattle.fond_ast.specs.declared.task.LSchema.{LSchema}
 use Rattle.fond_ast.specs.declared.task.LiftedTask.{LiftedTask}
 use Rattle.fond_kinds.specs.Kinds.{IsSubtype}
-use Rattle.fond_types.specs.Names.{Declarations, all_objects, firsts, objects_declared, predicates_declared}
+use Rattle.fond_names.specs.Names.{Declarations, all_objects, firsts, objects_declared, predicates_declared}
 use Rattle.fond_types.specs.Resolves.{IsResolved, HasParts, IsResolvedPredicate, IsResolvedSchema, Meanings, meanings_of, range_of, is_condition, is_effect, is_ground_atom, positive, mentions}
 use Rattle.fond_types.proofs.Firsts.{distinct_names, names_of_firsts}
 use Rattle.fond_same.specs.Read.{AreSameFiles, IsSameWritten}

@@ -11,8 +11,8 @@ use Rattle.fond_ast.specs.declared.form.LEffect.{LEffect, out-LEffect, Row_of-LE
 use Rattle.fond_ast.specs.declared.form.LEffect as form
 use Rattle.fond_ast.specs.declared.form.LEffect.TheOpen as numbered
 use Rattle.fond_types.specs.Resolves.{Meanings, is_atom, are_ranges, is_condition, is_effect, effect_step}
-use Rattle.fond_types.specs.Sites.{Scope}
-use Rattle.fond_types.proofs.Members.{and_parts}
+use Rattle.fond_names.specs.Sites.{Scope}
+use Rattle.fond_names.proofs.Members.{and_parts}
 
 module _ (meanings : Meanings) where
   -- an effect over numbers has the form of a written one, and its parts are those of the parts

@@ -11,7 +11,7 @@ use Rattle.fond_ast.specs.declared.syntax.Cond.{Cond, Truth, Holds, Equal, And',
 use Rattle.fond_ast.specs.declared.form.LCond.{LCond, Row_of-LCond, end_of-LCond, more_of-LCond}
 use Rattle.fond_ast.specs.declared.form.LCond as form
 use Rattle.fond_types.specs.Resolves.{Meanings, is_term, is_atom, are_ranges, is_condition}
-use Rattle.fond_types.specs.Sites.{Scope}
+use Rattle.fond_names.specs.Sites.{Scope}
 use Rattle.fond_same.specs.Read.{IsSameCond, AreSameConds}
 use Rattle.fond_same.specs.Lifted.{IsSameCondition, AreSameConditions}
 use Rattle.fond_same.proofs.OneTaskNumbers.{one_atom, one_range, one_term}

@@ -9,7 +9,7 @@ use Rattle.fond_ast.specs.declared.syntax.Effect.TheViews.{outs-And', outs-Foral
 use Rattle.fond_ast.specs.declared.form.LEffect.{LEffect, Row_of-LEffect, end_of-LEffect, more_of-LEffect}
 use Rattle.fond_ast.specs.declared.form.LEffect as form
 use Rattle.fond_types.specs.Resolves.{Meanings, is_effect, mentions, mentions_step}
-use Rattle.fond_types.specs.Sites.{Scope}
+use Rattle.fond_names.specs.Sites.{Scope}
 use Rattle.fond_same.specs.Read.{IsSameRead, AreSameReads}
 use Rattle.fond_same.specs.Lifted.{IsSameEffect, AreSameEffects}
 use Rattle.fond_same.proofs.OneTaskChanges.{Makes, MakesEach, makes}

@@ -16,8 +16,8 @@ use Rattle.fond_ast.specs.declared.form.LAtom.{LAtom}
 use Rattle.fond_ast.specs.declared.form.LTerm.{LTerm}
 use Rattle.fond_ast.specs.declared.form.LTerm.TheVariants.{Object, Variable}
 use Rattle.fond_types.specs.Resolves.{Meanings, is_number_of, is_term, is_atom, is_ground_atom, are_ranges, variable_number}
-use Rattle.fond_types.specs.Sites.{Scope}
-use Rattle.fond_types.proofs.Members.{and_parts, or_left, or_right}
+use Rattle.fond_names.specs.Sites.{Scope}
+use Rattle.fond_names.proofs.Members.{and_parts, or_left, or_right}
 
 -- a text with an index is one of the texts
 any_at : (text : List ℕ) (texts : List (List ℕ)) (i : ℕ) → i < length texts → text ≡ slice_index_or texts i [] → list_any (bytes_eq text) texts ≡ true

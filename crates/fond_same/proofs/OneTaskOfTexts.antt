@@ -2,7 +2,7 @@
 use Rattle.fond_tree.proofs.OneTree.{one_tree_lem}
 use Rattle.fond_front.specs.Tasks.{AreFilesOf}
 use Rattle.fond_front.specs.declared.texts.TaskTexts.{TaskTexts}
-use Rattle.fond_types.specs.Names.{Declarations}
+use Rattle.fond_names.specs.Names.{Declarations}
 use Rattle.fond_same.specs.Laws.{TextsHaveOneTask}
 use Rattle.fond_same.specs.Read.{AreSameFiles}
 use Rattle.fond_same.proofs.OneReading.{one_domain, one_problem, one_side}

@@ -11,8 +11,8 @@ use Rattle.fond_ast.specs.declared.form.LCond.{LCond, out-LCond, Row_of-LCond, e
 use Rattle.fond_ast.specs.declared.form.LCond as form
 use Rattle.fond_ast.specs.declared.form.LCond.TheOpen as numbered
 use Rattle.fond_types.specs.Resolves.{Meanings, is_term, is_atom, are_ranges, is_condition, condition_step}
-use Rattle.fond_types.specs.Sites.{Scope}
-use Rattle.fond_types.proofs.Members.{and_parts}
+use Rattle.fond_names.specs.Sites.{Scope}
+use Rattle.fond_names.proofs.Members.{and_parts}
 
 module _ (meanings : Meanings) where
   -- a condition over numbers has the form of a written one, and its parts are those of the parts

@@ -17,9 +17,9 @@ use Rattle.fond_tree.specs.Alike.{IsAlike}
 use Rattle.fond_tree.specs.declared.tree.Tree.{Tree}
 use Rattle.fond_grammar.specs.Faults.{StandsInDomain, StandsInProblem}
 use Rattle.fond_grammar.specs.declared.role.Role.TheVariants.{DomainFile, ProblemFile}
-use Rattle.fond_types.specs.Faults.{declaration_of, HasMismatch, HasUnknownType, IsRepeatedObject, IsRepeatedPredicate, IsRepeatedSchema, IsUnknownSchema, IsUnknownTerm, OccursAmong, OccursAt, StandsInNames}
-use Rattle.fond_types.specs.Names.{Declarations, first_of, is_among, predicate_of, schema_names}
-use Rattle.fond_types.specs.Sites.{Scope, Site, variable_of, AnAtom, AnEquality, AList, domain_sites, problem_sites}
+use Rattle.fond_names.specs.Faults.{declaration_of, HasMismatch, HasUnknownType, IsRepeatedObject, IsRepeatedPredicate, IsRepeatedSchema, IsUnknownSchema, IsUnknownTerm, OccursAmong, OccursAt, StandsInNames}
+use Rattle.fond_names.specs.Names.{Declarations, first_of, is_among, predicate_of, schema_names}
+use Rattle.fond_names.specs.Sites.{Scope, Site, variable_of, AnAtom, AnEquality, AList, domain_sites, problem_sites}
 use Rattle.fond_same.specs.Read.{AreSameFiles, IsSameWritten}
 use Rattle.fond_same.proofs.SameForms.{same_form}
 use Rattle.fond_same.proofs.SameLists.{zip-images, zip-somewhere}

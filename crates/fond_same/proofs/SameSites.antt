@@ -9,8 +9,8 @@ use Rattle.fond_ast.specs.declared.syntax.Cond.TheViews as condition_view
 use Rattle.fond_ast.specs.declared.syntax.Effect.{Effect, Row_of-Effect, end_of-Effect, more_of-Effect, items-the_row-Effect, items_shown-the_row-Effect-0}
 use Rattle.fond_ast.specs.declared.syntax.Effect as effect
 use Rattle.fond_ast.specs.declared.syntax.Effect.TheViews as effect_view
-use Rattle.fond_types.specs.Sites.{Scope, Site, AnAtom, AnEquality, AList, condition_sites, effect_sites, schema_sites, domain_sites, problem_sites}
-use Rattle.fond_types.proofs.SiteLemmas.{condition_sites_by, effect_sites_by}
+use Rattle.fond_names.specs.Sites.{Scope, Site, AnAtom, AnEquality, AList, condition_sites, effect_sites, schema_sites, domain_sites, problem_sites}
+use Rattle.fond_names.proofs.SiteLemmas.{condition_sites_by, effect_sites_by}
 use Rattle.fond_same.specs.Read.{IsSameCond, AreSameConds, IsSameRead, AreSameReads, IsSameWritten, IsSameDomain, IsSameProblem}
 
 -- the sites of parts

@@ -7,7 +7,7 @@ use Rattle.fond_ast.specs.declared.files.Schema.{Schema}
 use Rattle.fond_ast.specs.declared.syntax.Cond.{Cond, Truth, Holds, Equal, And', Or', Not', Imply', Forall', Exists', Row_of-Cond, end_of-Cond, more_of-Cond}
 use Rattle.fond_ast.specs.declared.syntax.Effect.{Effect, Row_of-Effect, end_of-Effect, more_of-Effect}
 use Rattle.fond_ast.specs.declared.syntax.Effect as effect
-use Rattle.fond_types.specs.Names.{Declarations}
+use Rattle.fond_names.specs.Names.{Declarations}
 
 -- two conditions have the same form, with the same atoms, terms and variables, and parts that are alike in the same order
 abbrev mutual

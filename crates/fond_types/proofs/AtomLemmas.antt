@@ -20,15 +20,15 @@ use Rattle.fond_ast.specs.declared.names.TypedName.{TypedName}
 use Rattle.fond_ast.specs.declared.task.LPredicate.{LPredicate}
 use Rattle.fond_kinds.specs.Kinds.{are_types}
 use Rattle.fond_types.specs.Context.{is_predicate, are_predicates}
-use Rattle.fond_types.specs.Faults.{declaration_of}
+use Rattle.fond_names.specs.Faults.{declaration_of}
 use Rattle.fond_types.specs.Meanings.{meanings, ranges_around, are_typed, are_typed_around, has_root}
-use Rattle.fond_types.specs.Names.{Declarations, all_objects, objects_declared, predicate_of, predicates_declared}
+use Rattle.fond_names.specs.Names.{Declarations, all_objects, objects_declared, predicate_of, predicates_declared}
 use Rattle.fond_types.specs.Resolves.{is_number_of, is_term, is_atom, are_ranges}
-use Rattle.fond_types.specs.Sites.{Scope, AnAtom, variables_of}
+use Rattle.fond_names.specs.Sites.{Scope, AnAtom, variables_of}
 use Rattle.fond_types.specs.Sound.{is_known, is_fitting, is_sound, is_mentioned}
-use Rattle.fond_types.specs.Subtypes.{are_misfits}
+use Rattle.fond_names.specs.Subtypes.{are_misfits}
 use Rattle.fond_types.proofs.Firsts.{item_of_number}
-use Rattle.fond_types.proofs.Members.{and_parts, and_both}
+use Rattle.fond_names.proofs.Members.{and_parts, and_both}
 use Rattle.fond_types.proofs.RangeLemmas.{found_passes}
 use Rattle.fond_types.proofs.TermLemmas.{ranges_counted, argument_fits}
 

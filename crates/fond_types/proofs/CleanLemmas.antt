@@ -12,14 +12,14 @@ use Rattle.fond_ast.specs.declared.names.ReadAtom.{ReadAtom}
 use Rattle.fond_ast.specs.declared.names.Term.{Term}
 use Rattle.fond_ast.specs.declared.names.TypedName.{TypedName}
 use Rattle.fond_kinds.specs.Kinds.{is_type, are_types}
-use Rattle.fond_types.specs.Faults.{HasUnknownType, IsUnknownTerm, OccursAt, OccursAmong, declaration_of}
+use Rattle.fond_names.specs.Faults.{HasUnknownType, IsUnknownTerm, OccursAt, OccursAmong, declaration_of}
 use Rattle.fond_types.specs.Meanings.{are_typed}
-use Rattle.fond_types.specs.Names.{Declarations, predicate_of}
-use Rattle.fond_types.specs.Sites.{Scope, Site, AnAtom, AnEquality, AList}
+use Rattle.fond_names.specs.Names.{Declarations, predicate_of}
+use Rattle.fond_names.specs.Sites.{Scope, Site, AnAtom, AnEquality, AList}
 use Rattle.fond_types.specs.Sound.{is_known, is_fitting, is_sound, are_sound}
-use Rattle.fond_types.specs.Subtypes.{are_misfits}
-use Rattle.fond_types.proofs.Fits.{misfits_decide}
-use Rattle.fond_types.proofs.Members.{and_both, all_from, here, there}
+use Rattle.fond_names.specs.Subtypes.{are_misfits}
+use Rattle.fond_names.proofs.Fits.{misfits_decide}
+use Rattle.fond_names.proofs.Members.{and_both, all_from, here, there}
 
 -- types without an unknown one are declared
 pub typed_if_clean : (types : List TypedName) (names : List TypedName) → IsClean (HasUnknownType types names) → are_typed types names ≡ true

@@ -9,8 +9,8 @@ use Rattle.std.proofs.lemmas.List.{map-append}
 use Rattle.std.proofs.lemmas.List.Folds.{find-append, list_any-append}
 use Rattle.fond_text.specs.Lists.{are_distinct_texts}
 use Rattle.fond_types.specs.Meanings.{name_also}
-use Rattle.fond_types.specs.Names.{is_among, named_also, firsts}
-use Rattle.fond_types.proofs.Members.{and_parts, and_both}
+use Rattle.fond_names.specs.Names.{is_among, named_also, firsts}
+use Rattle.fond_names.proofs.Members.{and_parts, and_both}
 
 module _ {A : Type 0} (name : A → List ℕ) where
   also_named : (items : List A) (item : A) → map name (named_also name items item) ≡ name_also (map name items) (name item)

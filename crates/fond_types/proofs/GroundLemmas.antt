@@ -16,8 +16,8 @@ use Rattle.fond_ast.specs.declared.names.Term.{Term}
 use Rattle.fond_ast.specs.declared.task.LPredicate.{LPredicate}
 use Rattle.fond_types.specs.Ground.{objects_in}
 use Rattle.fond_types.specs.Resolves.{Meanings, is_number_of, is_term, positive}
-use Rattle.fond_types.proofs.Among.{next_taken}
-use Rattle.fond_types.proofs.Members.{and_parts, and_both}
+use Rattle.fond_names.proofs.Among.{next_taken}
+use Rattle.fond_names.proofs.Members.{and_parts, and_both}
 
 -- the terms of an atom outside all lists are objects
 pub ground_terms : (meanings : Meanings) (terms : List Term) (numbers : List LTerm) → each_passes (map (is_term meanings []) terms) numbers ≡ true → each_passes (map (λ (term : Term). is_number_of meanings.objects term.name) terms) (objects_in numbers) ≡ true

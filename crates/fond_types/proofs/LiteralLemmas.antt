@@ -10,8 +10,8 @@ use Rattle.fond_ast.specs.declared.syntax.Effect.TheFolds.{fold_out-Effect, map-
 use Rattle.fond_ast.specs.declared.syntax.Effect.TheViews.{outs-Nothing, outs-Add, outs-Delete, outs-And', outs-Forall', outs-When', outs-OneOf'}
 use Rattle.fond_types.specs.Resolves.{mentions, mentions_step}
 use Rattle.fond_types.specs.Sound.{is_mentioned, literals_pass, literals_step}
-use Rattle.fond_types.proofs.Differs.{same_text}
-use Rattle.fond_types.proofs.Members.{and_both, or_left, or_right}
+use Rattle.fond_names.proofs.Differs.{same_text}
+use Rattle.fond_names.proofs.Members.{and_both, or_left, or_right}
 
 mentions_by : (name : List ℕ) (effect : Effect) (layer : open_effect.Effect-F Effect) → out-Effect effect ≡ layer → mentions name effect ≡ mentions_step name (map-Effect Effect Bool (mentions name) layer)
 mentions_by name effect layer is = fold_out-Effect Bool (mentions_step name) effect ∙ ap (λ x. mentions_step name (map-Effect Effect Bool (mentions name) x)) is

@@ -7,7 +7,7 @@ use Rattle.std.proofs.lemmas.Bool.Decides.{nat_tests}
 use Rattle.fond_lookup.specs.Texts.{number_beside, with_text}
 use Rattle.fond_lookup.proofs.Entries.{kept_last}
 use Rattle.fond_types.specs.Meanings.{numbered_from, name_also}
-use Rattle.fond_types.specs.Names.{is_among}
+use Rattle.fond_names.specs.Names.{is_among}
 use Rattle.fond_types.specs.Resolves.{is_number_of}
 
 pub negated : (a b : Bool) → a ≡ not b → b ≡ not a

@@ -1,9 +1,9 @@
 -- Tests that items pass place by place, with one more.
-use Rattle.std.proofs.Common.{◌≡◌, ℕ, ◌+◌, ◌&&◌, Bool, true, false, List, [], ◌∷◌, ◌++◌, Some, map, take, slice_get, sym, ap, ◌∙◌, subst}
+use Rattle.std.proofs.Common.{◌≡◌, ℕ, ◌+◌, ◌&&◌, Bool, true, false, List, [], ◌∷◌, ◌++◌, Some, map, take, slice_get, sym, ap, ◌∙◌, subst, Result, Ok, Err, IfOk, OnOk}
 use Rattle.std.specs.List.{AllZip}
 use Rattle.std.proofs.lemmas.List.{map-append}
 use Rattle.fond_text.specs.Lists.{each_passes}
-use Rattle.fond_types.proofs.Among.{next_taken}
+use Rattle.fond_names.proofs.Among.{next_taken}
 
 pub passes_more : {N : Type 0} (tests : List (N → Bool)) (items : List N) (test : N → Bool) (item : N) → each_passes tests items ≡ true → test item ≡ true → each_passes (tests ++ test ∷ []) (items ++ item ∷ []) ≡ true
 passes_more [] [] test item all one = ap (λ b. b && true) one
@@ -31,3 +31,13 @@ zip_more R (f ∷ forms) (n ∷ items) form item all one = (all.0, zip_more R fo
 -- one more item goes with the next form of a list
 pub zip_next : {A N : Type 0} (R : A → N → Type 0) (forms : List A) (i : ℕ) (form : A) (items : List N) (item : N) → slice_get forms i ≡ Some form → AllZip R (take i forms) items → R form item → AllZip R (take (i + 1) forms) (items ++ item ∷ [])
 zip_next {A} R forms i form items item got before one = subst (λ (some : List A). AllZip R some (items ++ item ∷ [])) (sym (next_taken forms i form got)) (zip_more R (take i forms) items form item before one)
+
+-- what holds of a result in one way holds of it in another
+pub if_ok : {A : Type 0} {E : Type 0} (P Q : A → Type 0) (result : Result A E) → ((a : A) → P a → Q a) → IfOk result P → IfOk result Q
+if_ok P Q (Ok a) so holds = so a holds
+if_ok P Q (Err e) so holds = tt
+
+-- what follows from success follows from it
+pub on_ok : {A : Type 0} {E : Type 0} {P Q : Type 0} (result : Result A E) → (P → Q) → OnOk result P → OnOk result Q
+on_ok (Ok a) so holds = so holds
+on_ok (Err e) so holds = tt

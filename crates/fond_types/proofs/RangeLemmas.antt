@@ -9,12 +9,12 @@ use Rattle.fond_ast.specs.declared.names.TypedName.{TypedName}
 use Rattle.fond_kinds.specs.Kinds.{only_kind, is_type, are_types}
 use Rattle.fond_types.specs.Kept.{is_of, numbers_of, range_by}
 use Rattle.fond_types.specs.Meanings.{meanings}
-use Rattle.fond_types.specs.Names.{Declarations, firsts, objects_declared}
-use Rattle.fond_types.specs.Same.{kind_names}
-use Rattle.fond_types.specs.Subtypes.{is_subtype, is_below, is_below_some}
-use Rattle.fond_types.proofs.Differs.{next_left, same_text}
+use Rattle.fond_names.specs.Names.{Declarations, firsts, objects_declared}
+use Rattle.fond_names.specs.Same.{kind_names}
+use Rattle.fond_names.specs.Subtypes.{is_subtype, is_below, is_below_some}
+use Rattle.fond_names.proofs.Differs.{next_left, same_text}
 use Rattle.fond_types.proofs.Firsts.{item_of_number}
-use Rattle.fond_types.proofs.Members.{and_parts}
+use Rattle.fond_names.proofs.Members.{and_parts}
 
 -- a test that all items pass is passed by the one that is found
 pub found_passes : {X : Type 0} (p q : X → Bool) (xs : List X) (x : X) → find p xs ≡ Some x → list_all q xs ≡ true → q x ≡ true

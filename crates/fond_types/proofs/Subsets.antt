@@ -10,10 +10,10 @@ use Rattle.fond_ast.specs.declared.names.TypedName.{TypedName}
 use Rattle.fond_kinds.specs.Kinds.{root, only_kind, is_type, parent_of, IsAncestor, parent, onward, IsSubtype}
 use Rattle.fond_types.specs.Kept.{is_of, numbers_of}
 use Rattle.fond_types.specs.Meanings.{has_root}
-use Rattle.fond_types.specs.Same.{kind_names}
-use Rattle.fond_types.specs.Subtypes.{is_subtype, is_below, is_below_some}
-use Rattle.fond_types.proofs.Ancestors.{subtype_decides}
-use Rattle.fond_types.proofs.Members.{and_parts, and_both, or_cases, or_left, or_right}
+use Rattle.fond_names.specs.Same.{kind_names}
+use Rattle.fond_names.specs.Subtypes.{is_subtype, is_below, is_below_some}
+use Rattle.fond_names.proofs.Ancestors.{subtype_decides}
+use Rattle.fond_names.proofs.Members.{and_parts, and_both, or_cases, or_left, or_right}
 use Rattle.fond_types.proofs.RangeLemmas.{numbers_more}
 
 module _ (types : List TypedName) (rooted : has_root types ≡ true) where

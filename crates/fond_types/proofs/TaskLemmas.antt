@@ -20,14 +20,14 @@ use Rattle.fond_kinds.specs.Faults.{StandsInKinds}
 use Rattle.fond_kinds.specs.Kinds.{root, only_kind, is_passed_over, type_of}
 use Rattle.fond_text.specs.Bools.{is_same}
 use Rattle.fond_types.specs.Context.{is_predicate}
-use Rattle.fond_types.specs.Faults.{IsRepeatedSchema}
+use Rattle.fond_names.specs.Faults.{IsRepeatedSchema}
 use Rattle.fond_types.specs.Meanings.{meanings, has_root}
-use Rattle.fond_types.specs.Names.{Declarations, is_among, objects_declared}
+use Rattle.fond_names.specs.Names.{Declarations, is_among, objects_declared}
 use Rattle.fond_types.specs.Resolves.{Meanings, are_ranges, IsResolvedPredicate, IsResolvedSchema}
 use Rattle.fond_types.specs.Sound.{is_mentioned}
 use Rattle.fond_types.proofs.AtomLemmas.{found_itself, same_bools}
-use Rattle.fond_types.proofs.Differs.{same_text}
-use Rattle.fond_types.proofs.Members.{and_parts, and_both, here, there, or_left, or_right}
+use Rattle.fond_names.proofs.Differs.{same_text}
+use Rattle.fond_names.proofs.Members.{and_parts, and_both, here, there, or_left, or_right}
 use Rattle.fond_types.proofs.WithinLemmas.{ranges_within}
 
 found_contained : {X : Type 0} (p : X → Bool) (xs : List X) (x : X) → find p xs ≡ Some x → Contains xs x

@@ -17,19 +17,19 @@ use Rattle.fond_ast.specs.declared.names.Term.{Term}
 use Rattle.fond_ast.specs.declared.names.TypedName.{TypedName}
 use Rattle.fond_kinds.specs.Kinds.{root, first_kind, are_types}
 use Rattle.fond_text.specs.declared.code.TheConstants.{LONGEST_TEXT}
-use Rattle.fond_types.specs.Faults.{declaration_of}
+use Rattle.fond_names.specs.Faults.{declaration_of}
 use Rattle.fond_types.specs.Kept.{is_of, range_by}
 use Rattle.fond_types.specs.Meanings.{meanings, ranges_around, are_typed, are_typed_around, has_root}
-use Rattle.fond_types.specs.Names.{Declarations, is_among, all_objects, first_of, objects_declared, firsts}
+use Rattle.fond_names.specs.Names.{Declarations, is_among, all_objects, first_of, objects_declared, firsts}
 use Rattle.fond_types.specs.Resolves.{is_number_of, is_term, placed_or, variable_number}
-use Rattle.fond_types.specs.Same.{kind_names}
-use Rattle.fond_types.specs.Sites.{Scope, variables_of, variable_of}
+use Rattle.fond_names.specs.Same.{kind_names}
+use Rattle.fond_names.specs.Sites.{Scope, variables_of, variable_of}
 use Rattle.fond_types.specs.Sound.{is_fitting}
-use Rattle.fond_types.specs.Subtypes.{is_above, links_of, is_subtype, is_below_some, are_misfits}
-use Rattle.fond_types.proofs.Differs.{same_text}
+use Rattle.fond_names.specs.Subtypes.{is_above, links_of, is_subtype, is_below_some, are_misfits}
+use Rattle.fond_names.proofs.Differs.{same_text}
 use Rattle.fond_types.proofs.Firsts.{find-firsts, item_of_number}
-use Rattle.fond_types.proofs.Lookups.{found_at, found_none}
-use Rattle.fond_types.proofs.Members.{and_parts, and_both, or_left, or_cases}
+use Rattle.fond_names.proofs.Lookups.{found_at, found_none}
+use Rattle.fond_names.proofs.Members.{and_parts, and_both, or_left, or_cases}
 use Rattle.fond_types.proofs.RangeLemmas.{found_passes, got_some, length-names, range_named}
 use Rattle.fond_types.proofs.Subsets.{numbers_within, number_among, of_fitting}
 

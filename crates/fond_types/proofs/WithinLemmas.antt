@@ -15,15 +15,15 @@ use Rattle.fond_ast.specs.declared.names.TypedName.{TypedName}
 use Rattle.fond_ast.specs.declared.task.LPredicate.{LPredicate}
 use Rattle.fond_types.specs.Kept.{range_by}
 use Rattle.fond_types.specs.Meanings.{meanings}
-use Rattle.fond_types.specs.Names.{Declarations, objects_declared}
+use Rattle.fond_names.specs.Names.{Declarations, objects_declared}
 use Rattle.fond_types.specs.Resolves.{are_ranges}
-use Rattle.fond_types.specs.Same.{kind_names}
-use Rattle.fond_types.specs.Sites.{Scope, Site}
+use Rattle.fond_names.specs.Same.{kind_names}
+use Rattle.fond_names.specs.Sites.{Scope, Site}
 use Rattle.fond_types.specs.Sound.{is_sound, are_sound}
 use Rattle.fond_types.proofs.AtomLemmas.{are_ranges_of}
 use Rattle.std.proofs.lemmas.List.Sums.{sum_by-cons}
-use Rattle.fond_types.proofs.Differs.{next_left}
-use Rattle.fond_types.proofs.Members.{and_parts, and_both}
+use Rattle.fond_names.proofs.Differs.{next_left}
+use Rattle.fond_names.proofs.Members.{and_parts, and_both}
 use Rattle.fond_types.proofs.RangeLemmas.{range_named}
 use Rattle.fond_types.proofs.Subsets.{numbers_rise, numbers_below}
 

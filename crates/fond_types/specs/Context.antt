@@ -6,7 +6,7 @@ use Rattle.fond_text.specs.Lists.{each_passes}
 use Rattle.fond_ast.specs.declared.files.Declared.{Declared}
 use Rattle.fond_ast.specs.declared.task.LPredicate.{LPredicate}
 use Rattle.fond_types.specs.Meanings.{meanings}
-use Rattle.fond_types.specs.Names.{Declarations, predicates_declared}
+use Rattle.fond_names.specs.Names.{Declarations, predicates_declared}
 use Rattle.fond_types.specs.Resolves.{are_ranges}
 use Rattle.fond_types.specs.Sound.{is_mentioned}
 

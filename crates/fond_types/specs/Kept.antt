@@ -4,8 +4,8 @@ use Rattle.std.specs.List.{list_all, list_any, enumerate_from}
 use Rattle.std.specs.Str.{bytes_eq}
 use Rattle.fond_ast.specs.declared.names.TypedName.{TypedName}
 use Rattle.fond_kinds.specs.Kinds.{only_kind}
-use Rattle.fond_types.specs.Names.{Declarations, objects_declared}
-use Rattle.fond_types.specs.Subtypes.{is_subtype}
+use Rattle.fond_names.specs.Names.{Declarations, objects_declared}
+use Rattle.fond_names.specs.Subtypes.{is_subtype}
 use Rattle.fond_types.specs.declared.kept.Kept.{Kept}
 
 -- whether an object is of one of the types of these names

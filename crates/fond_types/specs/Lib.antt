@@ -1,13 +1,4 @@
-pub mod Names
-pub mod Sites
-pub mod Faults
 pub mod Resolves
-pub mod Indexes
-pub mod Scopes
-pub mod Files
-pub mod Same
-pub mod Subtypes
-pub mod Unknown
 pub mod Parts
 pub mod Ground
 pub mod Context

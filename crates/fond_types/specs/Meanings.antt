@@ -5,10 +5,10 @@ use Rattle.std.specs.Str.{bytes_eq}
 use Rattle.fond_ast.specs.declared.names.Kind.{Kind}
 use Rattle.fond_ast.specs.declared.names.TypedName.{TypedName}
 use Rattle.fond_kinds.specs.Kinds.{root, are_types, parent_of}
-use Rattle.fond_types.specs.Names.{Declarations, is_among}
+use Rattle.fond_names.specs.Names.{Declarations, is_among}
 use Rattle.fond_types.specs.Resolves.{Meanings, meanings_of}
-use Rattle.fond_types.specs.Sites.{Scope}
-use Rattle.fond_types.specs.Subtypes.{is_subtype}
+use Rattle.fond_names.specs.Sites.{Scope}
+use Rattle.fond_names.specs.Subtypes.{is_subtype}
 
 -- what names stand for in three files
 abbrev pub meanings : Declarations → Meanings

@@ -5,7 +5,7 @@ use Rattle.fond_text.specs.Lists.{each_passes}
 use Rattle.fond_ast.specs.Within.{is_condition_within, is_initial_within, is_schema_fluent, is_schema_within}
 use Rattle.fond_ast.specs.declared.task.LPredicate.{LPredicate}
 use Rattle.fond_types.specs.Meanings.{meanings}
-use Rattle.fond_types.specs.Names.{Declarations, objects_declared}
+use Rattle.fond_names.specs.Names.{Declarations, objects_declared}
 use Rattle.fond_types.specs.Resolves.{IsResolvedSchema, is_condition, is_ground_atom, positive}
 use Rattle.fond_types.specs.declared.parts.Parts.{Parts}
 

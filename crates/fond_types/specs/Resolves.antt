@@ -33,8 +33,8 @@ use Rattle.fond_ast.specs.declared.task.LPredicate.{LPredicate}
 use Rattle.fond_ast.specs.declared.task.LSchema.{LSchema}
 use Rattle.fond_ast.specs.declared.task.LiftedTask.{LiftedTask}
 use Rattle.fond_kinds.specs.Kinds.{only_kind, IsSubtype}
-use Rattle.fond_types.specs.Names.{Declarations, objects_declared, predicates_declared}
-use Rattle.fond_types.specs.Sites.{Scope, variables_of}
+use Rattle.fond_names.specs.Names.{Declarations, objects_declared, predicates_declared}
+use Rattle.fond_names.specs.Sites.{Scope, variables_of}
 
 -- what names stand for: the names of predicates and of objects by their numbers, and the range of some types
 pub record Meanings : Type 0 where

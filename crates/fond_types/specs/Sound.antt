@@ -9,12 +9,12 @@ use Rattle.fond_ast.specs.declared.files.Domain.{Domain}
 use Rattle.fond_ast.specs.declared.syntax.Effect.{Effect}
 use Rattle.fond_ast.specs.declared.syntax.Effect.TheOpen as effect
 use Rattle.fond_ast.specs.declared.syntax.Effect.TheFolds.{fold-Effect}
-use Rattle.fond_types.specs.Faults.{declaration_of}
+use Rattle.fond_names.specs.Faults.{declaration_of}
 use Rattle.fond_types.specs.Meanings.{are_typed}
-use Rattle.fond_types.specs.Names.{Declarations, predicate_of}
+use Rattle.fond_names.specs.Names.{Declarations, predicate_of}
 use Rattle.fond_types.specs.Resolves.{mentions}
-use Rattle.fond_types.specs.Sites.{Scope, Site, AnAtom, AnEquality, AList}
-use Rattle.fond_types.specs.Subtypes.{are_misfits}
+use Rattle.fond_names.specs.Sites.{Scope, Site, AnAtom, AnEquality, AList}
+use Rattle.fond_names.specs.Subtypes.{are_misfits}
 
 -- whether a term is declared
 abbrev pub is_known : Declarations → Scope → Term → Bool

@@ -1,7 +1,7 @@
 //! What conditions and effects are numbered by.
 
+ghost use Rattle.fond_names.specs.Files.{declarations_of};
 ghost use Rattle.fond_types.specs.Context.{are_predicates};
-ghost use Rattle.fond_types.specs.Files.{declarations_of};
 ghost use Rattle.std.specs.Prelude.{◌≡◌, true};
 
 use crate::table::Table;

@@ -1,15 +1,15 @@
 //! The names of predicates and of objects, each at its first declaration.
 
+ghost use Rattle.fond_names.specs.Files.{declarations_of};
+ghost use Rattle.fond_names.specs.Names.{all_objects};
 ghost use Rattle.fond_text.specs.declared.code.TheConstants.{LONGEST_TEXT};
-ghost use Rattle.fond_types.specs.Files.{declarations_of};
 ghost use Rattle.fond_types.specs.Meanings.{name_also, numbered_from};
-ghost use Rattle.fond_types.specs.Names.{all_objects};
 ghost use Rattle.std.specs.Prelude.{◌≡◌, ◌<◌, ◌≤◌, ◌+◌, ◌^◌, [], IfOk, OnOk, fold, length, map};
 
-use crate::files::Files;
-use crate::index::joined_get;
 use crate::numbers::Numbers;
 use fond_lookup::text_index::TextIndex;
+use fond_names::files::Files;
+use fond_names::index::{insert_name, joined_get};
 use fond_text::fault::NoMemory;
 use fond_text::name::{Name, Names};
 use std::alloc::Global;
@@ -30,7 +30,7 @@ fn declare(
     if numbers.find(name.bytes()).is_some() {
         return Ok(());
     }
-    numbers.insert(Vec::from_slice(alloc, name.bytes())?, names.len() as u32)?;
+    insert_name(alloc, numbers, name, names.len() as u32)?;
     names.push(name.copy(alloc)?)?;
     Ok(())
 }

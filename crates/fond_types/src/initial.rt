@@ -1,21 +1,21 @@
 //! Initial atoms with each name replaced by its number.
 
 ghost use Rattle.fond_ast.specs.Within.{is_initial_within};
+ghost use Rattle.fond_names.specs.Files.{declarations_of};
+ghost use Rattle.fond_names.specs.Sites.{AnAtom};
 ghost use Rattle.fond_text.specs.Lists.{each_passes};
-ghost use Rattle.fond_types.specs.Files.{declarations_of};
 ghost use Rattle.fond_types.specs.Ground.{objects_in};
 ghost use Rattle.fond_types.specs.Meanings.{meanings};
 ghost use Rattle.fond_types.specs.Resolves.{is_ground_atom, positive};
-ghost use Rattle.fond_types.specs.Sites.{AnAtom};
 ghost use Rattle.fond_types.specs.Sound.{are_sound, is_sound};
 ghost use Rattle.std.specs.List.{list_all};
 ghost use Rattle.std.specs.Prelude.{◌≡◌, [], IfOk, map, true};
 
 use crate::context::Context;
 use crate::numbered_atom::numbered_atom;
-use crate::scope::Around;
 use fond_ast::form::{LTerm, LTerms};
 use fond_ast::names::ReadAtom;
+use fond_names::scope::Around;
 use fond_text::atom::{Atom, Atoms, Objects};
 use fond_text::fault::NoMemory;
 use std::alloc::Global;

@@ -10,6 +10,7 @@ use fond_ast::files::Domain;
 use fond_ast::names::ReadAtom;
 use fond_ast::syntax::Effect;
 use fond_lookup::text_index::TextIndex;
+use fond_names::index::insert_name;
 use fond_text::fault::NoMemory;
 use std::alloc::Global;
 
@@ -17,9 +18,7 @@ use std::alloc::Global;
 fn add_atom(alloc: Global, index: &mut TextIndex, atom: &ReadAtom) -> Result<(), NoMemory>
     ensures { OnOk result ((name : List ℕ) → is_some (number_beside index.new name) ≡ (is_some (number_beside index.old name) || bytes_eq atom.now.name name)) }
 {
-    let name = Vec::from_slice(alloc, atom.name.bytes())?;
-    index.insert(name, 0)?;
-    Ok(())
+    insert_name(alloc, index, &atom.name, 0)
 }
 
 /// Adds the names of the predicates of all literals of an effect.

@@ -1,21 +1,21 @@
 //! Atoms with each name replaced by its number.
 
 ghost use Rattle.fond_ast.specs.Within.{is_atom_within, is_fluent};
+ghost use Rattle.fond_names.specs.Files.{declarations_of};
+ghost use Rattle.fond_names.specs.Names.{objects_declared};
+ghost use Rattle.fond_names.specs.Scopes.{lists_of};
+ghost use Rattle.fond_names.specs.Sites.{AnAtom, variables_of};
 ghost use Rattle.fond_text.specs.declared.code.TheConstants.{LONGEST_TEXT};
-ghost use Rattle.fond_types.specs.Files.{declarations_of};
 ghost use Rattle.fond_types.specs.Meanings.{meanings, ranges_around, are_typed_around};
-ghost use Rattle.fond_types.specs.Names.{objects_declared};
 ghost use Rattle.fond_types.specs.Resolves.{is_atom};
-ghost use Rattle.fond_types.specs.Scopes.{lists_of};
-ghost use Rattle.fond_types.specs.Sites.{AnAtom, variables_of};
 ghost use Rattle.fond_types.specs.Sound.{is_sound, is_mentioned};
 ghost use Rattle.std.specs.Prelude.{◌≡◌, ◌≤◌, IfOk, length, true};
 
 use crate::context::Context;
-use crate::scope::Around;
 use crate::terms::numbered_terms;
 use fond_ast::form::LAtom;
 use fond_ast::names::ReadAtom;
+use fond_names::scope::Around;
 use fond_text::fault::NoMemory;
 use std::alloc::Global;
 

@@ -1,20 +1,20 @@
 //! Predicates with ranges and flags.
 
 ghost use Rattle.fond_lookup.specs.Texts.{number_beside};
+ghost use Rattle.fond_names.specs.Files.{declarations_of};
 ghost use Rattle.fond_types.specs.Context.{is_predicate, are_predicates};
-ghost use Rattle.fond_types.specs.Files.{declarations_of};
 ghost use Rattle.fond_types.specs.Kept.{are_kept};
 ghost use Rattle.fond_types.specs.Meanings.{are_typed};
 ghost use Rattle.fond_types.specs.Sound.{is_mentioned};
 ghost use Rattle.std.specs.Prelude.{◌≡◌, ℕ, List, IfOk, OnOk, is_some, true};
 
 use crate::kept::KeptRanges;
-use crate::lookup::find_predicate;
 use crate::ranges::ranges_of;
 use crate::table::Table;
 use fond_ast::files::Declared;
 use fond_ast::task::{LPredicate, LPredicates};
 use fond_lookup::text_index::TextIndex;
+use fond_names::lookup::find_predicate;
 use fond_text::fault::NoMemory;
 use std::alloc::Global;
 

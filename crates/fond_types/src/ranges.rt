@@ -2,23 +2,23 @@
 
 ghost use Rattle.fond_ast.specs.declared.names.TypedName.{TypedName};
 ghost use Rattle.fond_kinds.specs.Kinds.{are_types};
-ghost use Rattle.fond_types.specs.Files.{declarations_of};
+ghost use Rattle.fond_names.specs.Files.{declarations_of};
+ghost use Rattle.fond_names.specs.Names.{Declarations, objects_declared};
+ghost use Rattle.fond_names.specs.Same.{kind_names};
 ghost use Rattle.fond_types.specs.Kept.{is_of, range_by, are_kept};
 ghost use Rattle.fond_types.specs.Meanings.{meanings, are_typed};
-ghost use Rattle.fond_types.specs.Names.{Declarations, objects_declared};
 ghost use Rattle.fond_types.specs.Resolves.{are_ranges};
-ghost use Rattle.fond_types.specs.Same.{kind_names};
 ghost use Rattle.std.specs.Option.{option_copied};
-ghost use Rattle.std.specs.Str.{bytes_eq};
 ghost use Rattle.std.specs.Prelude.{◌≡◌, ◌<◌, ◌++◌, ◌∷◌, [], ℕ, List, IfOk, IfSome, OnOk, Contains, true, slice_get, Some, length};
+ghost use Rattle.std.specs.Str.{bytes_eq};
 
 use crate::kept::{Kept, KeptRanges};
-use crate::lookup::find_object;
 use crate::table::Table;
-use crate::types::is_below_some;
 use fond_ast::form::{Range, Ranges};
-use fond_ast::names::{Kinds, TypedNames};
+use fond_ast::names::{Kind, Kinds, TypedNames};
 use fond_lookup::text_index::TextIndex;
+use fond_names::lookup::find_object;
+use fond_names::types::is_below_some;
 use fond_text::atom::Objects;
 use fond_text::fault::NoMemory;
 use fond_text::name::Names;
@@ -78,12 +78,18 @@ fn are_names_of(names: &Names, kinds: &Kinds) -> bool
     true
 }
 
+/// Puts the name of a type and a blank at the end of a text.
+fn put_kind(key: &mut Vec<u8>, kind: &Kind) -> Result<(), NoMemory> {
+    key.extend_from_slice(kind.name.bytes())?;
+    key.push(b' ')?;
+    Ok(())
+}
+
 /// The names of some types as one text, in which blanks separate them.
 fn key_of(alloc: Global, kinds: &Kinds) -> Result<Vec<u8>, NoMemory> {
     let mut key = Vec::new(alloc);
     for kind in kinds.as_slice() {
-        key.extend_from_slice(kind.name.bytes())?;
-        key.push(b' ')?;
+        put_kind(&mut key, kind)?;
     }
     Ok(key)
 }
@@ -113,6 +119,60 @@ fn keep(kept: &mut KeptRanges, key: Vec<u8>, entry: Kept) -> Result<(), NoMemory
     Ok(())
 }
 
+/// A range with the names of its types.
+fn entry_of(alloc: Global, kinds: &Kinds, range: &Range) -> Result<Kept, NoMemory>
+    ensures kinds { IfOk result (λ entry. entry.kinds ≡ kind_names kinds.now) }
+    ensures range { IfOk result (λ entry. entry.range.value ≡ range.now.value) }
+{
+    let kinds = names_of(alloc, kinds)?;
+    Ok(Kept {
+        kinds,
+        range: range.clone()?,
+    })
+}
+
+/// Keeps the range of some types, unless 2^32 are kept.
+fn keep_range(
+    alloc: Global,
+    kept: &mut KeptRanges,
+    key: Vec<u8>,
+    kinds: &Kinds,
+    range: &Range,
+) -> Result<(), NoMemory>
+    ensures { (files : Declarations) → are_kept files kept.old.entries.items ≡ true → bytes_eq (range_by files (kind_names kinds.now)) range.now.value ≡ true
+        → OnOk result (are_kept files kept.new.entries.items ≡ true) }
+{
+    let entry = entry_of(alloc, kinds, range)?;
+    keep(kept, key, entry)
+}
+
+/// The range of some types, to be shared.
+fn shared_range(alloc: Global, table: &Table, kinds: &Kinds) -> Result<Range, NoMemory>
+    requires { are_types table.now.files.now.domain.now.kinds kinds.now ≡ true }
+    ensures { IfOk result (λ range. range.value ≡ range_by (declarations_of table.now.files.now) (kind_names kinds.now)) }
+{
+    let range = made_range(alloc, table, kinds)?;
+    Ok(Rc::new(alloc, range)?)
+}
+
+/// The range of some types, which is computed and then kept.
+fn new_range(
+    alloc: Global,
+    table: &Table,
+    kept: &mut KeptRanges,
+    key: Vec<u8>,
+    kinds: &Kinds,
+) -> Result<Range, NoMemory>
+    requires typed { are_types table.now.files.now.domain.now.kinds kinds.now ≡ true }
+    requires sound { are_kept (declarations_of table.now.files.now) kept.old.entries.items ≡ true }
+    ensures range { IfOk result (λ range. range.value ≡ range_by (declarations_of table.now.files.now) (kind_names kinds.now)) }
+    ensures sound { OnOk result (are_kept (declarations_of table.now.files.now) kept.new.entries.items ≡ true) }
+{
+    let range = shared_range(alloc, table, kinds)?;
+    keep_range(alloc, kept, key, kinds, &range)?;
+    Ok(range)
+}
+
 /// The range of some types, which is kept.
 fn range_of(
     alloc: Global,
@@ -129,17 +189,27 @@ fn range_of(
     if let Some(entry) = find_kept(kept, &key, kinds) {
         return Ok(entry.range.clone()?);
     }
-    let range = Rc::new(alloc, made_range(alloc, table, kinds)?)?;
-    let kinds = names_of(alloc, kinds)?;
-    keep(
-        kept,
-        key,
-        Kept {
-            kinds,
-            range: range.clone()?,
-        },
-    )?;
-    Ok(range)
+    new_range(alloc, table, kept, key, kinds)
+}
+
+/// Puts the ranges of some names at the end of an empty list, in order.
+fn put_ranges(
+    alloc: Global,
+    table: &Table,
+    kept: &mut KeptRanges,
+    names: &TypedNames,
+    ranges: &mut Ranges,
+) -> Result<(), NoMemory>
+    requires empty { ranges.old ≡ [] }
+    requires typed { are_typed table.now.files.now.domain.now.kinds names.now ≡ true }
+    requires sound { are_kept (declarations_of table.now.files.now) kept.old.entries.items ≡ true }
+    ensures ranges { OnOk result (are_ranges (meanings (declarations_of table.now.files.now)) names.now ranges.new ≡ true) }
+    ensures sound { OnOk result (are_kept (declarations_of table.now.files.now) kept.new.entries.items ≡ true) }
+{
+    for i in 0..names.len() {
+        ranges.push(range_of(alloc, table, kept, &names.get(i).kinds)?)?;
+    }
+    Ok(())
 }
 
 /// The ranges of some names, in order.
@@ -155,8 +225,6 @@ pub(crate) fn ranges_of(
     ensures sound { OnOk result (are_kept (declarations_of table.now.files.now) kept.new.entries.items ≡ true) }
 {
     let mut ranges = Ranges::new(alloc);
-    for i in 0..names.len() {
-        ranges.push(range_of(alloc, table, kept, &names.get(i).kinds)?)?;
-    }
+    put_ranges(alloc, table, kept, names, &mut ranges)?;
     Ok(ranges)
 }

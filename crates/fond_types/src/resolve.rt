@@ -1,17 +1,17 @@
 //! From names to numbers.
 
+ghost use Rattle.fond_names.specs.Faults.{StandsInNames};
+ghost use Rattle.fond_names.specs.Files.{declarations_of};
 ghost use Rattle.fond_text.specs.Faults.{AreClean, IsFirstAmong, Refuses};
-ghost use Rattle.fond_types.specs.Faults.{StandsInNames};
-ghost use Rattle.fond_types.specs.Files.{declarations_of};
 ghost use Rattle.fond_types.specs.Resolves.{IsResolved};
 ghost use Rattle.std.specs.Prelude.{IfOk, IfErr, OnOk};
 
-use crate::files::Files;
-use crate::first_fault::first_fault;
-use crate::lookup::indexed;
 use crate::task::numbered_task;
 use fond_ast::files::{Domain, Problem, Side};
 use fond_ast::task::LiftedTask;
+use fond_names::files::Files;
+use fond_names::first_fault::first_fault;
+use fond_names::lookup::indexed;
 use fond_text::fault::FrontError;
 use std::alloc::Global;
 

@@ -3,13 +3,13 @@
 ghost use Rattle.fond_ast.specs.Read.{is_schema_with_choices, has_few_variables};
 ghost use Rattle.fond_ast.specs.Within.{is_condition_within, is_effect_fluent, is_effect_within, is_schema_fluent, is_schema_within};
 ghost use Rattle.fond_lookup.specs.Texts.{number_beside};
-ghost use Rattle.fond_types.specs.Files.{declarations_of};
+ghost use Rattle.fond_names.specs.Files.{declarations_of};
+ghost use Rattle.fond_names.specs.Names.{is_among, objects_declared};
+ghost use Rattle.fond_names.specs.Same.{kind_names};
+ghost use Rattle.fond_names.specs.Sites.{domain_sites, schema_sites};
 ghost use Rattle.fond_types.specs.Kept.{are_kept};
 ghost use Rattle.fond_types.specs.Meanings.{meanings, ranges_around};
-ghost use Rattle.fond_types.specs.Names.{is_among, objects_declared};
 ghost use Rattle.fond_types.specs.Resolves.{is_condition, is_effect, IsResolvedSchema};
-ghost use Rattle.fond_types.specs.Same.{kind_names};
-ghost use Rattle.fond_types.specs.Sites.{domain_sites, schema_sites};
 ghost use Rattle.fond_types.specs.Sound.{are_sound, is_mentioned, literals_pass};
 ghost use Rattle.std.specs.List.{AllZip, list_all};
 ghost use Rattle.std.specs.Prelude.{◌≡◌, ◌∷◌, [], ℕ, List, IfOk, OnOk, is_some, length, true};
@@ -19,14 +19,44 @@ use crate::context::Context;
 use crate::effects::numbered_effect;
 use crate::kept::KeptRanges;
 use crate::ranges::ranges_of;
-use crate::scope::Around;
-use crate::variable::{indexed_variables, inside};
 use fond_ast::files::Schema;
 use fond_ast::form::{LCond, LEffect};
 use fond_ast::task::{LSchema, LSchemas};
 use fond_lookup::text_index::TextIndex;
+use fond_names::scope::{Around, Variables};
+use fond_names::variable::{indexed_variables, inside};
 use fond_text::fault::NoMemory;
 use std::alloc::Global;
+
+/// The precondition and the effect of a sound schema with these parameters, over numbers.
+fn body_inside(
+    alloc: Global,
+    context: &Context,
+    kept: &mut KeptRanges,
+    schema: &Schema,
+    parameters: &Variables,
+) -> Result<(LCond, LEffect), NoMemory>
+    requires named { parameters.now.names.now ≡ schema.now.parameters }
+    requires sound { are_sound (declarations_of context.now.table.now.files.now) (schema_sites schema.now) ≡ true }
+    requires choices { is_schema_with_choices schema.now ≡ true }
+    requires literals { literals_pass (is_mentioned context.now.table.now.files.now.domain.now) schema.now.effect ≡ true }
+    requires few { has_few_variables schema.now ≡ true }
+    requires kept { are_kept (declarations_of context.now.table.now.files.now) kept.old.entries.items ≡ true }
+    ensures pre { IfOk result (λ body. is_condition (meanings (declarations_of context.now.table.now.files.now)) schema.now.pre (schema.now.parameters ∷ []) body.0 ≡ true) }
+    ensures effect { IfOk result (λ body. is_effect (meanings (declarations_of context.now.table.now.files.now)) schema.now.effect (schema.now.parameters ∷ []) body.1 ≡ true) }
+    ensures pre_within { IfOk result (λ body. is_condition_within (length (objects_declared (declarations_of context.now.table.now.files.now))) context.now.predicates.now body.0
+        (ranges_around (meanings (declarations_of context.now.table.now.files.now)).range (schema.now.parameters ∷ [])) ≡ true) }
+    ensures effect_within { IfOk result (λ body. is_effect_within (length (objects_declared (declarations_of context.now.table.now.files.now))) context.now.predicates.now body.1
+        (ranges_around (meanings (declarations_of context.now.table.now.files.now)).range (schema.now.parameters ∷ [])) ≡ true) }
+    ensures fluent { IfOk result (λ body. is_effect_fluent context.now.predicates.now body.1 ≡ true) }
+    ensures kept { OnOk result (are_kept (declarations_of context.now.table.now.files.now) kept.new.entries.items ≡ true) }
+{
+    let outside = Around::Nothing;
+    let within = inside(&*parameters, &outside);
+    let pre = numbered_condition(alloc, context, kept, &schema.pre, &within)?;
+    let effect = numbered_effect(alloc, context, kept, &schema.effect, &within)?;
+    Ok((pre, effect))
+}
 
 /// The precondition and the effect of a sound schema over numbers.
 fn numbered_body(
@@ -50,11 +80,7 @@ fn numbered_body(
     ensures kept { OnOk result (are_kept (declarations_of context.now.table.now.files.now) kept.new.entries.items ≡ true) }
 {
     let parameters = indexed_variables(alloc, &schema.parameters)?;
-    let outside = Around::Nothing;
-    let within = inside(&parameters, &outside);
-    let pre = numbered_condition(alloc, context, kept, &schema.pre, &within)?;
-    let effect = numbered_effect(alloc, context, kept, &schema.effect, &within)?;
-    Ok((pre, effect))
+    body_inside(alloc, context, kept, schema, &parameters)
 }
 
 /// A sound schema over numbers. It is unfair if its name is among those of the side list.
@@ -76,13 +102,14 @@ fn numbered_schema(
     ensures fluent { IfOk result (λ number. is_schema_fluent context.now.predicates.now number ≡ true) }
     ensures kept { OnOk result (are_kept (declarations_of context.now.table.now.files.now) kept.new.entries.items ≡ true) }
 {
-    let (pre, effect) = numbered_body(alloc, context, kept, schema)?;
-    let unfair = leaves.find(schema.name.bytes()).is_some();
     let name = schema.name.copy(alloc)?;
+    let unfair = leaves.find(schema.name.bytes()).is_some();
+    let ranges = ranges_of(alloc, context.table, kept, &schema.parameters)?;
+    let (pre, effect) = numbered_body(alloc, context, kept, schema)?;
     Ok(LSchema {
         place: schema.place,
         name,
-        ranges: ranges_of(alloc, context.table, kept, &schema.parameters)?,
+        ranges,
         pre,
         effect,
         unfair,

@@ -1,13 +1,13 @@
 //! Declarations without a fault of names, and the numbers of their names.
 
-ghost use Rattle.fond_types.specs.Files.{declarations_of};
+ghost use Rattle.fond_names.specs.Files.{declarations_of};
+ghost use Rattle.fond_names.specs.Names.{all_objects, objects_declared, predicates_declared};
 ghost use Rattle.fond_types.specs.Meanings.{are_typed, has_root};
-ghost use Rattle.fond_types.specs.Names.{all_objects, objects_declared, predicates_declared};
 ghost use Rattle.std.specs.List.{list_all};
 ghost use Rattle.std.specs.Prelude.{◌≡◌, map, true};
 
-use crate::files::Files;
 use crate::numbers::Numbers;
+use fond_names::files::Files;
 
 /// The declarations of three files in which each type is declared, and the numbers of their predicates and objects.
 #[derive(Drop)]

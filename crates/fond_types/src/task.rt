@@ -1,36 +1,37 @@
 //! The task of declarations without a fault of names.
 
-ghost use Rattle.fond_ast.specs.Within.{is_condition_within};
+ghost use Rattle.fond_ast.specs.Within.{is_condition_within, is_schema_fluent, is_schema_within};
+ghost use Rattle.fond_names.specs.Faults.{StandsInNames};
+ghost use Rattle.fond_names.specs.Files.{declarations_of};
+ghost use Rattle.fond_names.specs.Names.{objects_declared};
+ghost use Rattle.fond_names.specs.Sites.{domain_sites, problem_sites};
 ghost use Rattle.fond_text.specs.Faults.{AreClean};
 ghost use Rattle.fond_types.specs.Context.{are_predicates};
-ghost use Rattle.fond_types.specs.Faults.{StandsInNames};
-ghost use Rattle.fond_types.specs.Files.{declarations_of};
 ghost use Rattle.fond_types.specs.Kept.{are_kept};
 ghost use Rattle.fond_types.specs.Meanings.{meanings};
-ghost use Rattle.fond_types.specs.Names.{objects_declared};
 ghost use Rattle.fond_types.specs.Parts.{AreParts};
-ghost use Rattle.fond_types.specs.Resolves.{is_condition, IsResolved};
-ghost use Rattle.fond_types.specs.Sites.{domain_sites, problem_sites};
+ghost use Rattle.fond_types.specs.Resolves.{is_condition, IsResolved, IsResolvedSchema};
 ghost use Rattle.fond_types.specs.Sound.{are_sound};
+ghost use Rattle.std.specs.List.{AllZip, list_all};
 ghost use Rattle.std.specs.Prelude.{◌≡◌, [], IfOk, OnOk, length, true};
 
 use crate::conditions::numbered_condition;
 use crate::context::Context;
 use crate::declare::{declared_objects, declared_predicates};
-use crate::files::Files;
 use crate::initial::numbered_init;
 use crate::kept::KeptRanges;
 use crate::mentioned::mentioned;
 use crate::numbered_predicates::numbered_predicates;
 use crate::numbers::Numbers;
 use crate::parts::Parts;
-use crate::predicates::index_kinds;
 use crate::schemas::numbered_schemas;
-use crate::scope::Around;
 use crate::table::Table;
 use fond_ast::form::LCond;
-use fond_ast::task::{LPredicates, LiftedTask};
+use fond_ast::task::{LPredicates, LSchemas, LiftedTask};
 use fond_lookup::text_index::TextIndex;
+use fond_names::files::Files;
+use fond_names::predicates::index_kinds;
+use fond_names::scope::Around;
 use fond_text::fault::NoMemory;
 use fond_text::name::Names;
 use std::alloc::Global;
@@ -66,6 +67,23 @@ fn numbered_goal(alloc: Global, context: &Context, kept: &mut KeptRanges) -> Res
     )
 }
 
+/// The schemas of sound files over numbers. Those that the side list names are unfair.
+fn numbered_actions(
+    alloc: Global,
+    context: &Context,
+    kept: &mut KeptRanges,
+) -> Result<LSchemas, NoMemory>
+    requires sound { are_sound (declarations_of context.now.table.now.files.now) (domain_sites context.now.table.now.files.now.domain.now) ≡ true }
+    requires kept { are_kept (declarations_of context.now.table.now.files.now) kept.old.entries.items ≡ true }
+    ensures resolved { IfOk result (AllZip (IsResolvedSchema (meanings (declarations_of context.now.table.now.files.now)) context.now.table.now.files.now.side.now) context.now.table.now.files.now.domain.now.schemas) }
+    ensures within { IfOk result (λ all. list_all (is_schema_within (length (objects_declared (declarations_of context.now.table.now.files.now))) context.now.predicates.now) all ≡ true) }
+    ensures fluent { IfOk result (λ all. list_all (is_schema_fluent context.now.predicates.now) all ≡ true) }
+    ensures kept { OnOk result (are_kept (declarations_of context.now.table.now.files.now) kept.new.entries.items ≡ true) }
+{
+    let leaves = index_kinds(alloc, &context.table.files.side.names)?;
+    numbered_schemas(alloc, context, kept, &leaves)
+}
+
 /// The schemas, the initial atoms and the goal of sound files over numbers.
 fn numbered_parts(
     alloc: Global,
@@ -77,8 +95,7 @@ fn numbered_parts(
     requires kept { are_kept (declarations_of context.now.table.now.files.now) kept.old.entries.items ≡ true }
     ensures { IfOk result (AreParts (declarations_of context.now.table.now.files.now) context.now.predicates.now) }
 {
-    let leaves = index_kinds(alloc, &context.table.files.side.names)?;
-    let schemas = numbered_schemas(alloc, context, kept, &leaves)?;
+    let schemas = numbered_actions(alloc, context, kept)?;
     let init = numbered_init(alloc, context)?;
     let goal = numbered_goal(alloc, context, kept)?;
     Ok(Parts {
@@ -125,22 +142,61 @@ fn assembled(table: Table, predicates: LPredicates, parts: Parts) -> LiftedTask
     }
 }
 
+/// The predicates of a table over numbers.
+fn flagged_predicates(
+    alloc: Global,
+    table: &Table,
+    kept: &mut KeptRanges,
+) -> Result<LPredicates, NoMemory>
+    requires { are_kept (declarations_of table.now.files.now) kept.old.entries.items ≡ true }
+    ensures resolved { IfOk result (λ predicates. are_predicates (declarations_of table.now.files.now) predicates ≡ true) }
+    ensures kept { OnOk result (are_kept (declarations_of table.now.files.now) kept.new.entries.items ≡ true) }
+{
+    let mentioned = mentioned(alloc, table.files.domain)?;
+    numbered_predicates(alloc, table, kept, &mentioned)
+}
+
+/// The predicates of sound files over numbers, and the parts that are numbered after them.
+fn predicates_and_parts(
+    alloc: Global,
+    table: &Table,
+    kept: &mut KeptRanges,
+) -> Result<(LPredicates, Parts), NoMemory>
+    requires domain { are_sound (declarations_of table.now.files.now) (domain_sites table.now.files.now.domain.now) ≡ true }
+    requires problem { are_sound (declarations_of table.now.files.now) (problem_sites table.now.files.now.problem.now) ≡ true }
+    requires kept { are_kept (declarations_of table.now.files.now) kept.old.entries.items ≡ true }
+    ensures predicates { IfOk result (λ made. are_predicates (declarations_of table.now.files.now) made.0 ≡ true) }
+    ensures parts { IfOk result (λ made. AreParts (declarations_of table.now.files.now) made.0 made.1) }
+{
+    let predicates = flagged_predicates(alloc, table, kept)?;
+    let context = Context {
+        table,
+        predicates: &predicates,
+    };
+    let parts = numbered_parts(alloc, &context, kept)?;
+    Ok((predicates, parts))
+}
+
+/// The predicates and the other parts of sound files over numbers, with ranges that they share.
+fn with_shared_ranges(alloc: Global, table: &Table) -> Result<(LPredicates, Parts), NoMemory>
+    requires domain { are_sound (declarations_of table.now.files.now) (domain_sites table.now.files.now.domain.now) ≡ true }
+    requires problem { are_sound (declarations_of table.now.files.now) (problem_sites table.now.files.now.problem.now) ≡ true }
+    ensures predicates { IfOk result (λ made. are_predicates (declarations_of table.now.files.now) made.0 ≡ true) }
+    ensures parts { IfOk result (λ made. AreParts (declarations_of table.now.files.now) made.0 made.1) }
+{
+    let mut kept = KeptRanges {
+        entries: Vec::new(alloc),
+        index: TextIndex::new(alloc),
+    };
+    predicates_and_parts(alloc, table, &mut kept)
+}
+
 /// The task of files without a fault of names.
 pub(crate) fn numbered_task(alloc: Global, files: &Files) -> Result<LiftedTask, NoMemory>
     requires { AreClean (StandsInNames (declarations_of files.now)) }
     ensures { IfOk result (IsResolved (declarations_of files.now)) }
 {
     let table = table_of(alloc, files)?;
-    let mut kept = KeptRanges {
-        entries: Vec::new(alloc),
-        index: TextIndex::new(alloc),
-    };
-    let mentioned = mentioned(alloc, files.domain)?;
-    let predicates = numbered_predicates(alloc, &table, &mut kept, &mentioned)?;
-    let context = Context {
-        table: &table,
-        predicates: &predicates,
-    };
-    let parts = numbered_parts(alloc, &context, &mut kept)?;
+    let (predicates, parts) = with_shared_ranges(alloc, &table)?;
     Ok(assembled(table, predicates, parts))
 }

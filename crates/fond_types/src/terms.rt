@@ -1,22 +1,22 @@
 //! Terms with each name replaced by its number.
 
 ghost use Rattle.fond_ast.specs.Within.{is_term_within};
-ghost use Rattle.fond_text.specs.declared.code.TheConstants.{LONGEST_TEXT};
+ghost use Rattle.fond_names.specs.Files.{declarations_of};
+ghost use Rattle.fond_names.specs.Names.{objects_declared};
+ghost use Rattle.fond_names.specs.Scopes.{lists_of};
+ghost use Rattle.fond_names.specs.Sites.{variables_of};
 ghost use Rattle.fond_text.specs.Lists.{each_passes};
-ghost use Rattle.fond_types.specs.Files.{declarations_of};
+ghost use Rattle.fond_text.specs.declared.code.TheConstants.{LONGEST_TEXT};
 ghost use Rattle.fond_types.specs.Meanings.{meanings, ranges_around};
-ghost use Rattle.fond_types.specs.Names.{objects_declared};
 ghost use Rattle.fond_types.specs.Resolves.{is_term, variable_number};
-ghost use Rattle.fond_types.specs.Scopes.{lists_of};
-ghost use Rattle.fond_types.specs.Sites.{variables_of};
 ghost use Rattle.fond_types.specs.Sound.{is_known};
 ghost use Rattle.std.specs.List.{list_all};
 ghost use Rattle.std.specs.Prelude.{◌≡◌, ◌≤◌, IfOk, length, map, true};
 
-use crate::scope::Around;
 use crate::table::Table;
 use fond_ast::form::{LTerm, LTerms};
 use fond_ast::names::{Term, Terms};
+use fond_names::scope::Around;
 use fond_text::fault::NoMemory;
 use fond_text::name::Name;
 use std::alloc::Global;

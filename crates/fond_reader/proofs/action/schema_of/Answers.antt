@@ -16,6 +16,6 @@ returns c = λ tree head whole. record {
   paired = c.requires.pairs.paired;
   known = c.requires.pairs.known;
   parameters = c.in_ok-parameters.ensures;
-  pre = c.in_ok-pre.ensures;
-  effect = c.in_ok-effect.ensures;
+  pre = c.in_ok-pre.ensures.pre;
+  effect = c.in_ok-pre.ensures.effect;
 }

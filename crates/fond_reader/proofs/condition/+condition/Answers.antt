@@ -104,26 +104,26 @@ read_condition-read_atom-requires t c =
       equality = sym c.if-is_word-7.ensures;
     })
 
-pub read_conditions-read_condition-requires : goal.read_conditions-read_condition-requires
-read_conditions-read_condition-requires t c =
+pub put_conditions-read_condition-requires : goal.put_conditions-read_condition-requires
+put_conditions-read_condition-requires t c =
     (omega (arith, item_weight c.args.trees.now c.loop-tree.tree-index c.tree-item.result (omega arith) c.tree-item.is), next_fits is_condition (Fits role.Condition) c.args.trees.now c.loop-tree.tree-index c.tree-item.result _ (omega arith) c.tree-item.is c.loop-tree.invariant)
 
-pub read_conditions-loop-tree-preserved : goal.read_conditions-loop-tree-preserved
-read_conditions-loop-tree-preserved t c =
+pub put_conditions-loop-tree-preserved : goal.put_conditions-loop-tree-preserved
+put_conditions-loop-tree-preserved t c =
     one_more is_condition (Fits role.Condition) c.args.trees.now c.loop-tree.tree-index c.tree-item.result _ _ _ (omega arith) c.tree-item.is c.in_ok-push.ensures.items c.loop-tree.invariant
     c.in_ok-read_condition.ensures
 
-pub read_only-read_condition-requires : goal.read_only-read_condition-requires
-read_only-read_condition-requires t c = (omega (arith, item_weight c.args.trees.now 0 c.tree-item.result (omega arith) c.tree-item.is), first_of role.Condition [] _ c.tree-item.result c.requires.fit c.tree-item.is)
+pub read_only-read_boxed-requires : goal.read_only-read_boxed-requires
+read_only-read_boxed-requires t c = (omega (arith, item_weight c.args.trees.now 0 c.tree-item.result (omega arith) c.tree-item.is), first_of role.Condition [] _ c.tree-item.result c.requires.fit c.tree-item.is)
 
-pub read_both-read_condition-requires : goal.read_both-read_condition-requires
-read_both-read_condition-requires t c = (omega (arith, item_weight c.args.trees.now 0 c.tree-item.result (omega arith) c.tree-item.is), first_of role.Condition (role.Condition ∷ []) _ c.tree-item.result c.requires.fit c.tree-item.is)
+pub read_both-read_boxed-requires : goal.read_both-read_boxed-requires
+read_both-read_boxed-requires t c = (omega (arith, item_weight c.args.trees.now 0 c.tree-item.result (omega arith) c.tree-item.is), first_of role.Condition (role.Condition ∷ []) _ c.tree-item.result c.requires.fit c.tree-item.is)
 
-pub read_both-read_condition-requires-in-len2 : goal.read_both-read_condition-requires-in-len2
-read_both-read_condition-requires-in-len2 t c = (omega (arith, item_weight c.args.trees.now 1 c.second-item.result (omega arith) c.second-item.is), second_of role.Condition role.Condition [] _ c.second-item.result c.requires.fit c.second-item.is)
+pub read_both-read_boxed-requires-in-len2 : goal.read_both-read_boxed-requires-in-len2
+read_both-read_boxed-requires-in-len2 t c = (omega (arith, item_weight c.args.trees.now 1 c.second-item.result (omega arith) c.second-item.is), second_of role.Condition role.Condition [] _ c.second-item.result c.requires.fit c.second-item.is)
 
 pub read_quantified-read_variables-requires : goal.read_quantified-read_variables-requires
 read_quantified-read_variables-requires t c = first_of role.Variables (role.Condition ∷ []) _ c.variables-item.result c.requires.fit c.variables-item.is
 
-pub read_quantified-read_condition-requires : goal.read_quantified-read_condition-requires
-read_quantified-read_condition-requires t c = (omega (arith, item_weight c.args.trees.now 1 c.tree-item.result (omega arith) c.tree-item.is), second_of role.Variables role.Condition [] _ c.tree-item.result c.requires.fit c.tree-item.is)
+pub read_quantified-read_boxed-requires : goal.read_quantified-read_boxed-requires
+read_quantified-read_boxed-requires t c = (omega (arith, item_weight c.args.trees.now 1 c.tree-item.result (omega arith) c.tree-item.is), second_of role.Variables role.Condition [] _ c.tree-item.result c.requires.fit c.tree-item.is)

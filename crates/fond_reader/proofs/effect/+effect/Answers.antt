@@ -83,25 +83,25 @@ read_effect-read_atom-requires t c =
       chosen = sym c.if-is_word-5.ensures;
     })
 
-pub read_effects-read_effect-requires : goal.read_effects-read_effect-requires
-read_effects-read_effect-requires t c =
+pub put_effects-read_effect-requires : goal.put_effects-read_effect-requires
+put_effects-read_effect-requires t c =
     (omega (arith, item_weight c.args.trees.now c.loop-tree.tree-index c.tree-item.result (omega arith) c.tree-item.is), next_fits is_effect (Fits role.Effect) c.args.trees.now c.loop-tree.tree-index c.tree-item.result _ (omega arith) c.tree-item.is c.loop-tree.invariant)
 
-pub read_effects-loop-tree-preserved : goal.read_effects-loop-tree-preserved
-read_effects-loop-tree-preserved t c =
+pub put_effects-loop-tree-preserved : goal.put_effects-loop-tree-preserved
+put_effects-loop-tree-preserved t c =
     one_more is_effect (Fits role.Effect) c.args.trees.now c.loop-tree.tree-index c.tree-item.result _ _ _ (omega arith) c.tree-item.is c.in_ok-push.ensures.items c.loop-tree.invariant
     c.in_ok-read_effect.ensures
 
 pub read_quantified-read_variables-requires : goal.read_quantified-read_variables-requires
 read_quantified-read_variables-requires t c = first_of role.Variables (role.Effect ∷ []) _ c.variables-item.result c.requires.fit c.variables-item.is
 
-pub read_quantified-read_effect-requires : goal.read_quantified-read_effect-requires
-read_quantified-read_effect-requires t c =
+pub read_quantified-read_boxed-requires : goal.read_quantified-read_boxed-requires
+read_quantified-read_boxed-requires t c =
     (omega (arith, item_weight c.args.trees.now 1 c.tree-item.result (omega arith) c.tree-item.is), second_of role.Variables role.Effect [] _ c.tree-item.result c.requires.fit c.tree-item.is)
 
 pub read_conditional-read_condition-requires : goal.read_conditional-read_condition-requires
 read_conditional-read_condition-requires t c = record { fits = first_of role.Condition (role.Effect ∷ []) _ c.first-item.result c.requires.fit c.first-item.is }
 
-pub read_conditional-read_effect-requires : goal.read_conditional-read_effect-requires
-read_conditional-read_effect-requires t c =
+pub read_conditional-read_boxed-requires : goal.read_conditional-read_boxed-requires
+read_conditional-read_boxed-requires t c =
     (omega (arith, item_weight c.args.trees.now 1 c.tree-item.result (omega arith) c.tree-item.is), second_of role.Condition role.Effect [] _ c.tree-item.result c.requires.fit c.tree-item.is)

@@ -4,19 +4,19 @@ use Rattle.fond_ast.specs.Read.{condition_variables}
 use Rattle.fond_ast.specs.Within.{is_condition_within}
 use Rattle.fond_text.specs.declared.code.TheConstants.{LONGEST_TEXT}
 use Rattle.fond_text.specs.Lists.{each_passes}
-use Rattle.fond_types.specs.Files.{declarations_of}
+use Rattle.fond_names.specs.Files.{declarations_of}
 use Rattle.fond_types.specs.Kept.{are_kept}
 use Rattle.fond_types.specs.Meanings.{meanings, ranges_around}
-use Rattle.fond_types.specs.Names.{objects_declared}
+use Rattle.fond_names.specs.Names.{objects_declared}
 use Rattle.fond_types.specs.Resolves.{is_condition}
-use Rattle.fond_types.specs.Scopes.{lists_of}
-use Rattle.fond_types.specs.Sites.{condition_sites, variables_of}
+use Rattle.fond_names.specs.Scopes.{lists_of}
+use Rattle.fond_names.specs.Sites.{condition_sites, variables_of}
 use Rattle.fond_types.specs.Sound.{are_sound}
 use Rattle.fond_types.proofs.conditions.+numbering_conditions.Given as goal
 
 -- the conditions so far are numbered, and those that are left are sound and declare few variables
-abbrev pub invariant-numbered_conditions-loop-condition : goal.invariant-numbered_conditions-loop-condition
-invariant-numbered_conditions-loop-condition l =
+abbrev pub invariant-put_conditions-loop-condition : goal.invariant-put_conditions-loop-condition
+invariant-put_conditions-loop-condition l =
     let files = declarations_of l.context.table.now.files.now in
     let around = lists_of l.around in
     record {

@@ -1,5 +1,5 @@
 use Rattle.std.proofs.Common.{◌≡◌, ◌++◌, ◌∷◌, [], ◌∙◌, true, false, is_some, sym, ap}
-use Rattle.fond_lookup.specs.Texts.{number_beside, with_text}
+use Rattle.fond_lookup.specs.Texts.{number_beside}
 use Rattle.fond_types.specs.Meanings.{numbered_from}
 use Rattle.fond_types.proofs.Numbering.{declared_there, declared_new, numbered_new}
 use Rattle.fond_types.proofs.declare.declare.Goals as goal
@@ -21,5 +21,4 @@ returns-clause-numbered c =
     let names = c.args.names.now in
     let none : is_some (number_beside numbers c.args.name.now) ≡ false = cc in
     let named = c.in_ok-push.ensures.ok ∙ ap (λ name. names ++ name ∷ []) c.in_ok-copy.ensures ∙ sym (declared_new numbers names c.requires.numbered c.args.name.now none) in
-    let copied = c.in_ok-from_slice.ensures.items ∙ c.bytes-2.ensures.value in
-    c.in_ok-insert.ensures.ok ∙ ap (λ text. with_text numbers text c.len.result) copied ∙ numbered_new numbers names c.requires.numbered c.args.name.now none c.len.result c.len.ensures ∙ ap (numbered_from 0) (sym named)
+    c.in_ok-insert_name.ensures ∙ numbered_new numbers names c.requires.numbered c.args.name.now none c.len.result c.len.ensures ∙ ap (numbered_from 0) (sym named)

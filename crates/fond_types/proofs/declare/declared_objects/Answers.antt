@@ -1,9 +1,9 @@
 use Rattle.std.proofs.Common.{◌+◌, List, fold, map, drop, sym, ap, ◌∙◌, arith}
 use Rattle.fond_ast.specs.declared.names.TypedName.{TypedName}
-use Rattle.fond_types.specs.Files.{declarations_of}
+use Rattle.fond_names.specs.Files.{declarations_of}
 use Rattle.fond_types.specs.Meanings.{name_also}
-use Rattle.fond_types.specs.Names.{all_objects}
-use Rattle.fond_types.proofs.Differs.{next_left}
+use Rattle.fond_names.specs.Names.{all_objects}
+use Rattle.fond_names.proofs.Differs.{next_left}
 use Rattle.fond_types.proofs.declare.declared_objects.Goals as goal
 
 pub loop-i-preserved : goal.loop-i-preserved

@@ -1,6 +1,6 @@
 use Rattle.std.proofs.Common.{◌≡◌, ◌≤◌, drop, fold, length, map, []}
-use Rattle.fond_types.specs.Files.{declarations_of}
-use Rattle.fond_types.specs.Names.{all_objects}
+use Rattle.fond_names.specs.Files.{declarations_of}
+use Rattle.fond_names.specs.Names.{all_objects}
 use Rattle.fond_types.specs.Meanings.{name_also, numbered_from}
 use Rattle.fond_types.proofs.declare.declared_objects.Given as goal
 

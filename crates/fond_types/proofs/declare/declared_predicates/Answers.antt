@@ -1,7 +1,7 @@
 use Rattle.std.proofs.Common.{◌+◌, List, fold, map, drop, sym, ap, ◌∙◌, arith}
 use Rattle.fond_ast.specs.declared.files.Declared.{Declared}
 use Rattle.fond_types.specs.Meanings.{name_also}
-use Rattle.fond_types.proofs.Differs.{next_left}
+use Rattle.fond_names.proofs.Differs.{next_left}
 use Rattle.fond_types.proofs.declare.declared_predicates.Goals as goal
 
 pub loop-i-preserved : goal.loop-i-preserved

@@ -9,36 +9,36 @@ use Rattle.fond_ast.specs.declared.form.LEffect.{LEffect}
 use Rattle.fond_ast.specs.declared.names.TypedName.{TypedName}
 use Rattle.fond_ast.specs.declared.syntax.Effect.{Effect}
 use Rattle.fond_text.specs.Lists.{each_passes}
-use Rattle.fond_types.specs.Files.{declarations_of}
+use Rattle.fond_names.specs.Files.{declarations_of}
 use Rattle.fond_types.specs.Meanings.{meanings, ranges_around}
-use Rattle.fond_types.specs.Names.{objects_declared}
+use Rattle.fond_names.specs.Names.{objects_declared}
 use Rattle.fond_types.specs.Resolves.{is_effect}
-use Rattle.fond_types.specs.Scopes.{lists_of}
-use Rattle.fond_types.specs.Sites.{effect_sites}
+use Rattle.fond_names.specs.Scopes.{lists_of}
+use Rattle.fond_names.specs.Sites.{effect_sites}
 use Rattle.fond_types.specs.Sound.{are_sound, is_mentioned, literals_pass}
 use Rattle.fond_types.proofs.AtomLemmas.{are_ranges_of}
-use Rattle.fond_types.proofs.Passing.{passes_next}
+use Rattle.fond_types.proofs.Passing.{passes_next, if_ok}
 use Rattle.fond_types.proofs.WithinLemmas.{ranges_within, sound_parts, map-map, next_read, rest_passes, all_more, sum_here}
 use Rattle.fond_types.proofs.effects.+numbering_effects.Goals as goal
 
-pub numbered_effects-loop-effect-init : goal.numbered_effects-loop-effect-init
-numbered_effects-loop-effect-init t c =
+pub put_effects-loop-effect-init : goal.put_effects-loop-effect-init
+put_effects-loop-effect-init t c =
     let files = declarations_of c.args.context.now.table.now.files.now in
     let around = lists_of c.args.around.now in
     record {
-      resolved = ap (each_passes []) c.in_ok-all.ensures.items;
-      within = ap (list_all (λ number. is_effect_within (length (objects_declared files)) c.args.context.now.predicates.now number (ranges_around (meanings files).range around))) c.in_ok-all.ensures.items;
+      resolved = ap (each_passes []) c.requires.empty;
+      within = ap (list_all (λ number. is_effect_within (length (objects_declared files)) c.args.context.now.predicates.now number (ranges_around (meanings files).range around))) c.requires.empty;
       sound = sound_parts files effect_sites around c.args.effects.now c.requires.sound;
       choices = sym (list_all-map (λ (part : Bool). part) has_choices c.args.effects.now) ∙ c.requires.choices;
       literals = sym (list_all-map (λ (part : Bool). part) (literals_pass (is_mentioned files.domain)) c.args.effects.now) ∙ c.requires.literals;
-      fluent = ap (list_all (is_effect_fluent c.args.context.now.predicates.now)) c.in_ok-all.ensures.items;
-      counted = ap length c.in_ok-all.ensures.items;
+      fluent = ap (list_all (is_effect_fluent c.args.context.now.predicates.now)) c.requires.empty;
+      counted = ap length c.requires.empty;
       few = c.requires.few;
       kept = c.requires.kept;
     }
 
-pub numbered_effects-loop-effect-preserved : goal.numbered_effects-loop-effect-preserved
-numbered_effects-loop-effect-preserved t c =
+pub put_effects-loop-effect-preserved : goal.put_effects-loop-effect-preserved
+put_effects-loop-effect-preserved t c =
     let files = declarations_of c.args.context.now.table.now.files.now in
     let around = lists_of c.args.around.now in
     let effects = c.args.effects.now in
@@ -64,8 +64,8 @@ numbered_effects-loop-effect-preserved t c =
       kept = made.kept;
     }
 
-pub numbered_effects-returns-clause-resolved : goal.numbered_effects-returns-clause-resolved
-numbered_effects-returns-clause-resolved t c =
+pub put_effects-returns-clause-resolved : goal.put_effects-returns-clause-resolved
+put_effects-returns-clause-resolved t c =
     let files = declarations_of c.args.context.now.table.now.files.now in
     let around = lists_of c.args.around.now in
     let effects = c.args.effects.now in
@@ -73,8 +73,8 @@ numbered_effects-returns-clause-resolved t c =
     ∙ ap (λ (some : List Effect). each_passes (map (λ (one : Effect). is_effect (meanings files) one around) some) c.loop-effect.all.items) (sym (take_all c.loop-effect.effect-index effects (omega arith)))
     ∙ c.loop-effect.invariant.resolved
 
-pub numbered_effects-returns-clause-within : goal.numbered_effects-returns-clause-within
-numbered_effects-returns-clause-within t c =
+pub put_effects-returns-clause-within : goal.put_effects-returns-clause-within
+put_effects-returns-clause-within t c =
     let files = declarations_of c.args.context.now.table.now.files.now in
     let around = lists_of c.args.around.now in
     list_all-map (λ (part : List (List ℕ) → Bool). part (ranges_around (meanings files).range around)) (is_effect_within (length (objects_declared files)) c.args.context.now.predicates.now) c.loop-effect.all.items
@@ -90,11 +90,18 @@ numbered_part-returns-clause-within t c =
     let names = c.args.names.now in
     let predicates = c.args.context.now.predicates.now in
     let count = length (objects_declared files) in
-    let lists : lists_of c.inside-within.result ≡ names ∷ around = c.inside-within.ensures ∙ ap (λ (list : List TypedName). list ∷ around) c.in_ok-variables.ensures in
     let ranges = are_ranges_of files names c.in_ok-ranges_of.field-0 c.in_ok-ranges_of.ensures.ranges in
-    let one : is_effect_within count predicates c.in_ok-part.part.value (ranges_around (meanings files).range around ++ objects_of c.in_ok-ranges_of.field-0) ≡ is_effect_within count predicates c.in_ok-number.number (ranges_around (meanings files).range (names ∷ around)) =
-    λ i. is_effect_within count predicates (c.in_ok-part.ensures.ok i) (ranges_around (meanings files).range around ++ ranges i) in
-    one ∙ ap (λ some. is_effect_within count predicates c.in_ok-number.number (ranges_around (meanings files).range some)) (sym lists) ∙ c.in_ok-number.ensures.within
+    (λ i. is_effect_within count predicates c.in_ok-part.part.value (ranges_around (meanings files).range around ++ ranges i)) ∙ c.in_ok-part.ensures.within
 
-pub numbered_effects-returns-clause-fluent : goal.numbered_effects-returns-clause-fluent
-numbered_effects-returns-clause-fluent t c = list_all-map (λ (part : Bool). part) (is_effect_fluent c.args.context.now.predicates.now) c.loop-effect.all.items ∙ c.loop-effect.invariant.fluent
+pub numbered_inside-returns-clause-within : goal.numbered_inside-returns-clause-within
+numbered_inside-returns-clause-within t c =
+    let files = declarations_of c.args.context.now.table.now.files.now in
+    let around = lists_of c.args.around.now in
+    let names = c.args.names.now in
+    let predicates = c.args.context.now.predicates.now in
+    let count = length (objects_declared files) in
+    let lists : lists_of c.inside-within.result ≡ names ∷ around = c.inside-within.ensures ∙ ap (λ (list : List TypedName). list ∷ around) c.in_ok-variables.ensures in
+    if_ok _ _ c.numbered_boxed.result (λ part is. ap (λ some. is_effect_within count predicates part.value (ranges_around (meanings files).range some)) (sym lists) ∙ is) c.numbered_boxed.ensures.within
+
+pub put_effects-returns-clause-fluent : goal.put_effects-returns-clause-fluent
+put_effects-returns-clause-fluent t c = list_all-map (λ (part : Bool). part) (is_effect_fluent c.args.context.now.predicates.now) c.loop-effect.all.items ∙ c.loop-effect.invariant.fluent

@@ -4,19 +4,19 @@ use Rattle.fond_ast.specs.Read.{effect_variables, has_choices}
 use Rattle.fond_ast.specs.Within.{is_effect_fluent, is_effect_within}
 use Rattle.fond_text.specs.declared.code.TheConstants.{LONGEST_TEXT}
 use Rattle.fond_text.specs.Lists.{each_passes}
-use Rattle.fond_types.specs.Files.{declarations_of}
+use Rattle.fond_names.specs.Files.{declarations_of}
 use Rattle.fond_types.specs.Kept.{are_kept}
 use Rattle.fond_types.specs.Meanings.{meanings, ranges_around}
-use Rattle.fond_types.specs.Names.{objects_declared}
+use Rattle.fond_names.specs.Names.{objects_declared}
 use Rattle.fond_types.specs.Resolves.{is_effect}
-use Rattle.fond_types.specs.Scopes.{lists_of}
-use Rattle.fond_types.specs.Sites.{effect_sites, variables_of}
+use Rattle.fond_names.specs.Scopes.{lists_of}
+use Rattle.fond_names.specs.Sites.{effect_sites, variables_of}
 use Rattle.fond_types.specs.Sound.{are_sound, is_mentioned, literals_pass}
 use Rattle.fond_types.proofs.effects.+numbering_effects.Given as goal
 
 -- the effects so far are numbered, and those that are left are sound and declare few variables
-abbrev pub invariant-numbered_effects-loop-effect : goal.invariant-numbered_effects-loop-effect
-invariant-numbered_effects-loop-effect l =
+abbrev pub invariant-put_effects-loop-effect : goal.invariant-put_effects-loop-effect
+invariant-put_effects-loop-effect l =
     let files = declarations_of l.context.table.now.files.now in
     let around = lists_of l.around in
     record {

@@ -5,14 +5,14 @@ use Rattle.fond_ast.specs.Ranges.{objects_of, is_among}
 use Rattle.fond_ast.specs.Within.{is_atom_within}
 use Rattle.fond_ast.specs.declared.names.Term.{Term}
 use Rattle.fond_ast.specs.declared.task.LPredicate.{LPredicate}
-use Rattle.fond_types.specs.Files.{declarations_of}
+use Rattle.fond_names.specs.Files.{declarations_of}
 use Rattle.fond_types.specs.Meanings.{meanings, ranges_around}
-use Rattle.fond_types.specs.Names.{objects_declared}
+use Rattle.fond_names.specs.Names.{objects_declared}
 use Rattle.fond_types.specs.Resolves.{is_number_of, is_term, is_atom}
-use Rattle.fond_types.specs.Sites.{Scope}
+use Rattle.fond_names.specs.Sites.{Scope}
 use Rattle.fond_types.proofs.GroundLemmas.{ground_terms, ground_within}
-use Rattle.fond_types.proofs.Members.{and_parts, and_both}
-use Rattle.fond_types.proofs.ScopeLemmas.{lists-Nothing}
+use Rattle.fond_names.proofs.Members.{and_parts, and_both}
+use Rattle.fond_names.proofs.ScopeLemmas.{lists-Nothing}
 use Rattle.fond_types.proofs.initial.ground_atom.Goals as goal
 
 pub returns-clause-resolved : goal.returns-clause-resolved

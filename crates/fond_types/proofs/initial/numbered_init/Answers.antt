@@ -5,13 +5,13 @@ use Rattle.std.proofs.lemmas.List.Folds.{list_all-map}
 use Rattle.fond_ast.specs.Within.{is_initial_within}
 use Rattle.fond_ast.specs.declared.files.InitAtom.{InitAtom}
 use Rattle.fond_text.specs.Lists.{each_passes}
-use Rattle.fond_types.specs.Files.{declarations_of}
+use Rattle.fond_names.specs.Files.{declarations_of}
 use Rattle.fond_types.specs.Meanings.{meanings}
 use Rattle.fond_types.specs.Resolves.{is_ground_atom, positive}
-use Rattle.fond_types.specs.Sites.{AnAtom}
+use Rattle.fond_names.specs.Sites.{AnAtom}
 use Rattle.fond_types.specs.Sound.{is_sound}
 use Rattle.fond_types.proofs.GroundLemmas.{positive_put, positive_passed}
-use Rattle.fond_types.proofs.Members.{all_got}
+use Rattle.fond_names.proofs.Members.{all_got}
 use Rattle.fond_types.proofs.Passing.{passes_more}
 use Rattle.fond_types.proofs.WithinLemmas.{all_more}
 use Rattle.fond_types.proofs.initial.numbered_init.Goals as goal

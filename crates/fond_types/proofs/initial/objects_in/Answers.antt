@@ -1,7 +1,7 @@
 use Rattle.std.proofs.Common.{◌+◌, ◌++◌, ◌∷◌, [], List, ℕ, drop, sym, ap, ◌∙◌, append_assoc}
 use Rattle.fond_ast.specs.declared.form.LTerm.{LTerm}
 use Rattle.fond_types.specs.Ground.{objects_in}
-use Rattle.fond_types.proofs.Differs.{next_left}
+use Rattle.fond_names.proofs.Differs.{next_left}
 use Rattle.fond_types.proofs.initial.objects_in.Goals as goal
 use Rattle.fond_types.proofs.initial.objects_in.Goals.{in-Object+in_ok-push-in-Object, in-Variable}
 

@@ -1,10 +1,8 @@
-use Rattle.std.proofs.Common.{is_some, ap, ◌∙◌}
+use Rattle.std.proofs.Common.{List, ℕ, is_some, ap, ◌∙◌}
 use Rattle.fond_lookup.specs.Texts.{number_beside, with_text}
-use Rattle.fond_types.proofs.Insertions.{kept_there}
+use Rattle.fond_names.proofs.Insertions.{kept_there}
+use Rattle.fond_types.proofs.Passing.{on_ok}
 use Rattle.fond_types.proofs.mentioned.add_atom.Goals as goal
 
 pub returns : goal.returns
-returns c = λ name.
-    let index = c.args.index.now in
-    let own = c.args.atom.now.name in
-    ap (λ items. is_some (number_beside items name)) (c.in_ok-insert.ensures.ok ∙ ap (λ text. with_text index text 0) (c.in_ok-name.ensures.items ∙ c.bytes.ensures.value)) ∙ kept_there index own 0 name
+returns c = on_ok c.insert_name.result (λ is name. ap (λ items. is_some (number_beside items name)) is ∙ kept_there c.args.index.now c.args.atom.now.name 0 name) c.insert_name.ensures

@@ -3,8 +3,8 @@ use Rattle.std.specs.List.{list_any}
 use Rattle.fond_ast.specs.declared.files.Schema.{Schema}
 use Rattle.fond_lookup.specs.Texts.{number_beside}
 use Rattle.fond_types.specs.Resolves.{mentions}
-use Rattle.fond_types.proofs.Differs.{next_left}
-use Rattle.fond_types.proofs.Insertions.{or_again}
+use Rattle.fond_names.proofs.Differs.{next_left}
+use Rattle.fond_names.proofs.Insertions.{or_again}
 use Rattle.fond_types.proofs.mentioned.mentioned.Goals as goal
 
 pub loop-i-preserved : goal.loop-i-preserved

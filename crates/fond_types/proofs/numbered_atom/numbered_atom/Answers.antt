@@ -3,13 +3,13 @@ use Rattle.fond_text.specs.Lists.{each_passes}
 use Rattle.fond_ast.specs.declared.files.Declared.{Declared}
 use Rattle.fond_ast.specs.declared.form.LAtom.{LAtom}
 use Rattle.fond_lookup.specs.Texts.{number_beside}
-use Rattle.fond_types.specs.Files.{declarations_of}
+use Rattle.fond_names.specs.Files.{declarations_of}
 use Rattle.fond_types.specs.Meanings.{meanings}
-use Rattle.fond_types.specs.Names.{is_among}
+use Rattle.fond_names.specs.Names.{is_among}
 use Rattle.fond_types.specs.Resolves.{is_number_of, is_term, is_atom}
-use Rattle.fond_types.specs.Scopes.{lists_of}
+use Rattle.fond_names.specs.Scopes.{lists_of}
 use Rattle.fond_types.proofs.AtomLemmas.{atom_known, sound_atom, atom_within, atom_fluent}
-use Rattle.fond_types.proofs.Members.{and_both}
+use Rattle.fond_names.proofs.Members.{and_both}
 use Rattle.fond_types.proofs.Numbering.{is_there, number_is}
 use Rattle.fond_types.proofs.TermLemmas.{first_among}
 use Rattle.fond_types.proofs.numbered_atom.numbered_atom.Goals as goal

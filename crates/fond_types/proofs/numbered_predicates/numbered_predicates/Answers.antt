@@ -3,9 +3,9 @@ use Rattle.std.specs.Str.{bytes_eq}
 use Rattle.fond_ast.specs.declared.files.Declared.{Declared}
 use Rattle.fond_text.specs.Lists.{each_passes}
 use Rattle.fond_types.specs.Context.{is_predicate}
-use Rattle.fond_types.specs.Files.{declarations_of}
+use Rattle.fond_names.specs.Files.{declarations_of}
 use Rattle.fond_types.specs.Meanings.{are_typed}
-use Rattle.fond_types.specs.Names.{predicate_of, predicates_declared}
+use Rattle.fond_names.specs.Names.{predicate_of, predicates_declared}
 use Rattle.fond_types.proofs.Passing.{passes_next}
 use Rattle.fond_types.proofs.RangeLemmas.{found_passes, item_named, got_some, length-names}
 use Rattle.fond_types.proofs.numbered_predicates.numbered_predicates.Goals as goal

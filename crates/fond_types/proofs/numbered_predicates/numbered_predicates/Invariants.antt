@@ -1,9 +1,9 @@
 use Rattle.std.proofs.Common.{◌≡◌, true, map, take}
 use Rattle.fond_text.specs.Lists.{each_passes}
 use Rattle.fond_types.specs.Context.{is_predicate}
-use Rattle.fond_types.specs.Files.{declarations_of}
+use Rattle.fond_names.specs.Files.{declarations_of}
 use Rattle.fond_types.specs.Kept.{are_kept}
-use Rattle.fond_types.specs.Names.{predicates_declared}
+use Rattle.fond_names.specs.Names.{predicates_declared}
 use Rattle.fond_types.proofs.numbered_predicates.numbered_predicates.Given as goal
 
 -- the predicates so far are the declared ones so far

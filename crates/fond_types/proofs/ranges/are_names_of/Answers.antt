@@ -1,9 +1,9 @@
 use Rattle.std.proofs.Common.{◌≡◌, ◌++◌, ◌∷◌, [], List, take, sym, ap, ◌∙◌}
 use Rattle.std.proofs.lemmas.List.{map-append}
 use Rattle.fond_ast.specs.declared.names.Kind.{Kind}
-use Rattle.fond_types.specs.Same.{kind_names}
-use Rattle.fond_types.proofs.Among.{next_taken}
-use Rattle.fond_types.proofs.Differs.{same_bytes}
+use Rattle.fond_names.specs.Same.{kind_names}
+use Rattle.fond_names.proofs.Among.{next_taken}
+use Rattle.fond_names.proofs.Differs.{same_bytes}
 use Rattle.fond_types.proofs.ranges.are_names_of.Goals as goal
 
 pub loop-i-preserved : goal.loop-i-preserved

@@ -1,5 +1,5 @@
 use Rattle.std.proofs.Common.{◌≡◌, length, take}
-use Rattle.fond_types.specs.Same.{kind_names}
+use Rattle.fond_names.specs.Same.{kind_names}
 use Rattle.fond_types.proofs.ranges.are_names_of.Given as goal
 
 -- the names so far are those of the types so far

@@ -7,12 +7,12 @@ use Rattle.fond_ast.specs.Read.{has_one_kind}
 use Rattle.fond_ast.specs.declared.names.Kind.{Kind}
 use Rattle.fond_ast.specs.declared.names.TypedName.{TypedName}
 use Rattle.fond_kinds.specs.Kinds.{first_kind, only_kind, is_type, are_types}
-use Rattle.fond_types.specs.Files.{declarations_of}
+use Rattle.fond_names.specs.Files.{declarations_of}
 use Rattle.fond_types.specs.Kept.{is_of}
-use Rattle.fond_types.specs.Names.{all_objects, first_of, objects_declared}
-use Rattle.fond_types.specs.Same.{kind_names}
-use Rattle.fond_types.specs.Subtypes.{is_subtype, is_below_some}
-use Rattle.fond_types.proofs.Members.{and_parts, and_both}
+use Rattle.fond_names.specs.Names.{all_objects, first_of, objects_declared}
+use Rattle.fond_names.specs.Same.{kind_names}
+use Rattle.fond_names.specs.Subtypes.{is_subtype, is_below_some}
+use Rattle.fond_names.proofs.Members.{and_parts, and_both}
 use Rattle.fond_types.proofs.RangeLemmas.{found_passes, item_named, below_is}
 use Rattle.fond_types.proofs.ranges.is_in_range.Goals as goal
 

@@ -1,9 +1,9 @@
 use Rattle.std.proofs.Common.{◌≡◌, ◌<◌, ◌+◌, ◌++◌, drop, ap, ◌∙◌, sym, length, ℕ, List, arith}
 use Rattle.fond_ast.specs.declared.names.TypedName.{TypedName}
-use Rattle.fond_types.specs.Files.{declarations_of}
+use Rattle.fond_names.specs.Files.{declarations_of}
 use Rattle.fond_types.specs.Kept.{range_by, numbers_of}
-use Rattle.fond_types.specs.Names.{objects_declared}
-use Rattle.fond_types.specs.Same.{kind_names}
+use Rattle.fond_names.specs.Names.{objects_declared}
+use Rattle.fond_names.specs.Same.{kind_names}
 use Rattle.fond_types.proofs.RangeLemmas.{number_put, number_passed, got_some, length-names}
 use Rattle.fond_types.proofs.ranges.made_range.Goals as goal
 use Rattle.fond_types.proofs.ranges.made_range.Goals.{then-is_in_range+in_ok-push, else-is_in_range}

@@ -1,8 +1,8 @@
 use Rattle.std.proofs.Common.{◌≡◌, ◌++◌, drop}
-use Rattle.fond_types.specs.Files.{declarations_of}
+use Rattle.fond_names.specs.Files.{declarations_of}
 use Rattle.fond_types.specs.Kept.{numbers_of, range_by}
-use Rattle.fond_types.specs.Names.{objects_declared}
-use Rattle.fond_types.specs.Same.{kind_names}
+use Rattle.fond_names.specs.Names.{objects_declared}
+use Rattle.fond_names.specs.Same.{kind_names}
 use Rattle.fond_types.proofs.ranges.made_range.Given as goal
 
 -- the objects so far and those that are left make the range

@@ -1,7 +1,7 @@
 use Rattle.std.proofs.Common.{◌+◌, ◌++◌, ◌∷◌, [], List, drop, sym, ap, ◌∙◌, append_assoc}
 use Rattle.fond_ast.specs.declared.names.Kind.{Kind}
-use Rattle.fond_types.specs.Same.{kind_names}
-use Rattle.fond_types.proofs.Differs.{next_left}
+use Rattle.fond_names.specs.Same.{kind_names}
+use Rattle.fond_names.proofs.Differs.{next_left}
 use Rattle.fond_types.proofs.ranges.names_of.Goals as goal
 
 pub loop-i-preserved : goal.loop-i-preserved

@@ -1,5 +1,5 @@
 use Rattle.std.proofs.Common.{◌≡◌, ◌++◌, drop}
-use Rattle.fond_types.specs.Same.{kind_names}
+use Rattle.fond_names.specs.Same.{kind_names}
 use Rattle.fond_types.proofs.ranges.names_of.Given as goal
 
 -- the names so far and those that are left are all

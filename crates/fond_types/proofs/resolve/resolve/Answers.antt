@@ -1,7 +1,7 @@
 use Rattle.std.proofs.Common.{OnOk, IfErr, subst}
 use Rattle.fond_text.specs.Faults.{AreClean, IsFirstAmong, Refuses}
-use Rattle.fond_types.specs.Faults.{StandsInNames}
-use Rattle.fond_types.specs.Names.{Declarations}
+use Rattle.fond_names.specs.Faults.{StandsInNames}
+use Rattle.fond_names.specs.Names.{Declarations}
 use Rattle.fond_types.proofs.resolve.resolve.Goals as goal
 
 pub returns-clause-clean : goal.returns-clause-clean

@@ -4,14 +4,14 @@ use Rattle.fond_ast.specs.Read.{is_schema_with_choices, has_few_variables}
 use Rattle.fond_ast.specs.Within.{is_schema_fluent, is_schema_within}
 use Rattle.fond_ast.specs.declared.files.Schema.{Schema}
 use Rattle.fond_ast.specs.declared.task.LSchema.{LSchema}
-use Rattle.fond_types.specs.Files.{declarations_of}
+use Rattle.fond_names.specs.Files.{declarations_of}
 use Rattle.fond_types.specs.Meanings.{meanings}
-use Rattle.fond_types.specs.Names.{objects_declared}
+use Rattle.fond_names.specs.Names.{objects_declared}
 use Rattle.fond_types.specs.Resolves.{IsResolvedSchema}
-use Rattle.fond_types.specs.Sites.{schema_sites}
+use Rattle.fond_names.specs.Sites.{schema_sites}
 use Rattle.fond_types.specs.Sound.{are_sound}
 use Rattle.fond_types.proofs.LiteralLemmas.{own_literals}
-use Rattle.fond_types.proofs.Members.{all_got}
+use Rattle.fond_names.proofs.Members.{all_got}
 use Rattle.fond_types.proofs.Passing.{zip_next}
 use Rattle.fond_types.proofs.WithinLemmas.{sound_flat, all_more}
 use Rattle.fond_types.proofs.schemas.numbered_schemas.Goals as goal

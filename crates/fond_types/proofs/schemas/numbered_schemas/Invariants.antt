@@ -1,10 +1,10 @@
 use Rattle.std.proofs.Common.{◌≡◌, true, length, take}
 use Rattle.std.specs.List.{AllZip, list_all}
 use Rattle.fond_ast.specs.Within.{is_schema_fluent, is_schema_within}
-use Rattle.fond_types.specs.Files.{declarations_of}
+use Rattle.fond_names.specs.Files.{declarations_of}
 use Rattle.fond_types.specs.Kept.{are_kept}
 use Rattle.fond_types.specs.Meanings.{meanings}
-use Rattle.fond_types.specs.Names.{objects_declared}
+use Rattle.fond_names.specs.Names.{objects_declared}
 use Rattle.fond_types.specs.Resolves.{IsResolvedSchema}
 use Rattle.fond_types.proofs.schemas.numbered_schemas.Given as goal
 

@@ -7,12 +7,12 @@ use Rattle.fond_ast.specs.Within.{is_condition_within, is_schema_within, are_ran
 use Rattle.fond_ast.specs.declared.task.LPredicate.{LPredicate}
 use Rattle.fond_text.specs.Lists.{are_distinct_texts}
 use Rattle.fond_text.specs.declared.place.FileKind.TheVariants as kind
-use Rattle.fond_types.specs.Files.{declarations_of}
+use Rattle.fond_names.specs.Files.{declarations_of}
 use Rattle.fond_types.specs.Meanings.{meanings}
-use Rattle.fond_types.specs.Names.{all_objects, objects_declared, predicates_declared}
+use Rattle.fond_names.specs.Names.{all_objects, objects_declared, predicates_declared}
 use Rattle.fond_types.specs.Resolves.{IsResolvedPredicate, IsResolvedSchema}
-use Rattle.fond_types.specs.Subtypes.{is_subtype}
-use Rattle.fond_types.proofs.Ancestors.{subtype_decides}
+use Rattle.fond_names.specs.Subtypes.{is_subtype}
+use Rattle.fond_names.proofs.Ancestors.{subtype_decides}
 use Rattle.fond_types.proofs.Firsts.{names_of_firsts, distinct_names}
 use Rattle.fond_types.proofs.RangeLemmas.{length-names}
 use Rattle.fond_types.proofs.TaskLemmas.{resolved_predicates, predicate_names, predicates_rise, numbered_names, distinct_schemas}

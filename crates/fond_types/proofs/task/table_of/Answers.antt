@@ -4,12 +4,12 @@ use Rattle.fond_ast.specs.declared.files.Declared.{Declared}
 use Rattle.fond_ast.specs.declared.names.TypedName.{TypedName}
 use Rattle.fond_kinds.specs.Kinds.{are_types}
 use Rattle.fond_text.specs.declared.place.FileKind.TheVariants as kind
-use Rattle.fond_types.specs.Files.{declarations_of}
+use Rattle.fond_names.specs.Files.{declarations_of}
 use Rattle.fond_types.specs.Meanings.{are_typed}
-use Rattle.fond_types.specs.Names.{all_objects}
+use Rattle.fond_names.specs.Names.{all_objects}
 use Rattle.fond_types.proofs.CleanLemmas.{typed_if_clean}
 use Rattle.fond_types.proofs.Firsts.{names_of_firsts}
-use Rattle.fond_types.proofs.Members.{and_both, all_from}
+use Rattle.fond_names.proofs.Members.{and_both, all_from}
 use Rattle.fond_types.proofs.TaskLemmas.{rooted_if_clean}
 use Rattle.fond_types.proofs.task.table_of.Goals as goal
 

@@ -1,9 +1,9 @@
 use Rattle.std.proofs.Common.{◌≡◌, None, Option, ℕ, length, sym, ap, ◌∙◌}
 use Rattle.fond_lookup.specs.Texts.{number_beside}
 use Rattle.fond_types.specs.Resolves.{placed_or, variable_number}
-use Rattle.fond_types.specs.Scopes.{lists_of}
-use Rattle.fond_types.specs.Sites.{variables_of}
-use Rattle.fond_types.proofs.ScopeLemmas.{lists-Inside}
+use Rattle.fond_names.specs.Scopes.{lists_of}
+use Rattle.fond_names.specs.Sites.{variables_of}
+use Rattle.fond_names.proofs.ScopeLemmas.{lists-Inside}
 use Rattle.fond_types.proofs.terms.+variable_number.Goals as goal
 
 pub returns-in-None : goal.returns-in-None

@@ -5,12 +5,12 @@ use Rattle.fond_ast.specs.declared.form.LTerm.TheVariants.{Object, Variable}
 use Rattle.fond_types.proofs.Subsets.{same_number}
 use Rattle.fond_ast.specs.declared.names.TypedName.{TypedName}
 use Rattle.fond_lookup.specs.Texts.{number_beside}
-use Rattle.fond_types.specs.Files.{declarations_of}
-use Rattle.fond_types.specs.Names.{is_among, all_objects, first_of}
+use Rattle.fond_names.specs.Files.{declarations_of}
+use Rattle.fond_names.specs.Names.{is_among, all_objects, first_of}
 use Rattle.fond_types.specs.Resolves.{is_number_of, is_term, variable_number}
 use Rattle.fond_types.specs.Meanings.{meanings}
-use Rattle.fond_types.specs.Scopes.{lists_of}
-use Rattle.fond_types.specs.Sites.{variable_of}
+use Rattle.fond_names.specs.Scopes.{lists_of}
+use Rattle.fond_names.specs.Sites.{variable_of}
 use Rattle.fond_types.proofs.Numbering.{is_there, number_is}
 use Rattle.fond_types.proofs.TermLemmas.{no_variable, first_among, term_within}
 use Rattle.fond_types.proofs.terms.numbered_term.Goals as goal

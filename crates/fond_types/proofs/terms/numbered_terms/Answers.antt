@@ -1,11 +1,11 @@
 use Rattle.std.proofs.Common.{ap, ◌∙◌, ◌+◌, map, take}
 use Rattle.fond_text.specs.Lists.{each_passes}
-use Rattle.fond_types.specs.Files.{declarations_of}
+use Rattle.fond_names.specs.Files.{declarations_of}
 use Rattle.fond_types.specs.Meanings.{meanings}
 use Rattle.fond_types.specs.Resolves.{is_term}
-use Rattle.fond_types.specs.Scopes.{lists_of}
+use Rattle.fond_names.specs.Scopes.{lists_of}
 use Rattle.fond_types.specs.Sound.{is_known}
-use Rattle.fond_types.proofs.Members.{all_got}
+use Rattle.fond_names.proofs.Members.{all_got}
 use Rattle.fond_types.proofs.Passing.{passes_next}
 use Rattle.fond_types.proofs.terms.numbered_terms.Goals as goal
 

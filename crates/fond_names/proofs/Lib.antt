@@ -1,0 +1,16 @@
+pub mod Among
+pub mod Ancestors
+pub mod Members
+pub mod AtomFaults
+pub mod Cuts
+pub mod Fits
+pub mod Insertions
+pub mod SameLemmas
+pub mod Lookups
+pub mod Mismatches
+pub mod Missing
+pub mod Order
+pub mod Positions
+pub mod Differs
+pub mod SiteLemmas
+pub mod ScopeLemmas

@@ -1,0 +1,7 @@
+use Rattle.std.proofs.Common.{◌++◌}
+use Rattle.fond_lookup.proofs.Firsts.{HasFirsts}
+use Rattle.fond_names.proofs.index.index_objects.Given as goal
+
+-- the index has the first position of each name so far
+abbrev pub invariant-loop-i : goal.invariant-loop-i
+invariant-loop-i l = HasFirsts (λ name. name.name) (l.constants ++ l.objects) l.index l.i

@@ -1,0 +1,17 @@
+use Rattle.std.proofs.Common.{◌≤◌, drop, map, sum, take}
+use Rattle.std.specs.List.{flat_map}
+use Rattle.fond_ast.specs.Read.{condition_variables}
+use Rattle.fond_text.specs.declared.code.TheConstants.{LONGEST_TEXT}
+use Rattle.fond_text.specs.Firsts.{IsFirst}
+use Rattle.fond_names.specs.Faults.{OccursAmong}
+use Rattle.fond_names.specs.Files.{declarations_of}
+use Rattle.fond_names.specs.Scopes.{lists_of}
+use Rattle.fond_names.specs.Sites.{condition_sites}
+use Rattle.fond_names.proofs.sites.+condition_fault.Given as goal
+
+-- the fault is the first in the parts so far, and those that are left declare few variables
+abbrev pub invariant-condition_fault-loop-part : goal.invariant-condition_fault-loop-part
+invariant-condition_fault-loop-part l = record {
+  first : IsFirst (OccursAmong (declarations_of l.files) (flat_map (λ part. part (lists_of l.around)) (map condition_sites (take l.part-index l.part-items)))) l.first;
+  few : sum (map condition_variables (drop l.part-index l.part-items)) ≤ LONGEST_TEXT;
+}

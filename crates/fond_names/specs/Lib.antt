@@ -1,0 +1,9 @@
+pub mod Names
+pub mod Sites
+pub mod Faults
+pub mod Indexes
+pub mod Scopes
+pub mod Files
+pub mod Same
+pub mod Subtypes
+pub mod Unknown

@@ -1,0 +1,25 @@
+-- Unknown types, and arguments that do not fit, one by one.
+use Rattle.std.specs.Prelude.{◌≡◌, ℕ, false, true, List, Contains, Some}
+use Rattle.fond_text.specs.declared.code.TheConstants.{UNKNOWN_TYPE, TYPE_MISMATCH}
+use Rattle.fond_text.specs.declared.place.Place.{Place}
+use Rattle.fond_ast.specs.declared.names.Kind.{Kind}
+use Rattle.fond_ast.specs.declared.names.Term.{Term}
+use Rattle.fond_ast.specs.declared.names.TypedName.{TypedName}
+use Rattle.fond_kinds.specs.Kinds.{is_type, are_types, Fit}
+use Rattle.fond_names.specs.Faults.{declaration_of}
+use Rattle.fond_names.specs.Names.{Declarations}
+use Rattle.fond_names.specs.Sites.{Scope}
+
+-- one of these types is not declared; the fault is at the type
+abbrev pub IsUnknownKind : List TypedName → List Kind → Place → ℕ → Type 0
+IsUnknownKind types kinds place code = (kind : Kind) × Contains kinds kind × (is_type types kind.name ≡ false) × (place ≡ kind.place) × (code ≡ UNKNOWN_TYPE)
+
+-- an argument whose types are declared does not fit a parameter whose types are declared; the fault is at the argument
+pub record IsMisfit (files : Declarations) (around : Scope) (argument : Term) (parameter : TypedName) (place : Place) (code : ℕ) : Type 0 where
+  pub declared : TypedName
+  pub known : declaration_of files around argument ≡ Some declared
+  pub has_types : are_types files.domain.kinds declared.kinds ≡ true
+  pub parameter_has_types : are_types files.domain.kinds parameter.kinds ≡ true
+  pub misfit : ¬ Fit files.domain.kinds declared.kinds parameter.kinds
+  pub place_is : place ≡ argument.place
+  pub coded : code ≡ TYPE_MISMATCH

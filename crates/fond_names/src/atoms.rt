@@ -1,0 +1,112 @@
+//! The first fault of names in an atom, an equality or a list of variables.
+
+ghost use Rattle.fond_text.specs.Firsts.{IsFirst};
+ghost use Rattle.fond_names.specs.Faults.{HasMismatch, HasWrongArity, IsUnknownTerm, HasUnknownTerm, OccursAt};
+ghost use Rattle.fond_names.specs.Files.{declarations_of};
+ghost use Rattle.fond_names.specs.Names.{predicate_of};
+ghost use Rattle.fond_names.specs.Scopes.{lists_of};
+ghost use Rattle.fond_names.specs.Sites.{AnAtom, AnEquality, AList};
+ghost use Rattle.fond_names.specs.Unknown.{IsMisfit};
+ghost use Rattle.std.specs.Prelude.{◌≡◌, Some};
+
+use crate::files::Files;
+use crate::lookup::find_predicate;
+use crate::repeated::repeated_variable;
+use crate::scope::{Around, Variables};
+use crate::types::are_misfits;
+use crate::unknown::unknown_type;
+use crate::variable::find_term;
+use fond_ast::files::Declared;
+use fond_ast::names::{ReadAtom, Term, TypedName};
+use fond_text::code::{TYPE_MISMATCH, UNKNOWN_PREDICATE, UNKNOWN_TERM, WRONG_ARITY};
+use fond_text::first::{Found, earlier, found_if};
+
+/// A term, if it is unknown.
+fn unknown_one(files: &Files, around: &Around, term: &Term) -> Option<Found>
+    ensures { IsFirst (IsUnknownTerm (declarations_of files.now) (lists_of around.now) term.now) result }
+{
+    let unknown = find_term(files, around, term).is_none();
+    found_if(unknown, term.place, UNKNOWN_TERM)
+}
+
+/// The first unknown term of an atom.
+fn unknown_term(files: &Files, around: &Around, atom: &ReadAtom) -> Option<Found>
+    ensures { IsFirst (HasUnknownTerm (declarations_of files.now) (lists_of around.now) atom.now) result }
+{
+    let mut first = None;
+    for i in 0..atom.terms.len() {
+        first = earlier(first, unknown_one(files, around, atom.terms.get(i)));
+    }
+    first
+}
+
+/// An argument, if it does not fit a parameter.
+fn misfit(files: &Files, around: &Around, argument: &Term, parameter: &TypedName) -> Option<Found>
+    ensures { IsFirst (IsMisfit (declarations_of files.now) (lists_of around.now) argument.now parameter.now) result }
+{
+    match find_term(files, around, argument) {
+        Some(declared) => {
+            let bad = are_misfits(&files.types, &declared.kinds, &parameter.kinds);
+            found_if(bad, argument.place, TYPE_MISMATCH)
+        }
+        None => None,
+    }
+}
+
+/// The first argument of an atom that does not fit its parameter.
+fn mismatch(files: &Files, around: &Around, predicate: &Declared, atom: &ReadAtom) -> Option<Found>
+    requires { predicate_of files.now.domain.now atom.now.name ≡ Some predicate.now }
+    ensures { IsFirst (HasMismatch (declarations_of files.now) (lists_of around.now) atom.now) result }
+{
+    let mut first = None;
+    for i in 0..atom.terms.len().min(predicate.parameters.len()) {
+        let (argument, parameter) = (atom.terms.get(i), predicate.parameters.get(i));
+        first = earlier(first, misfit(files, around, argument, parameter));
+    }
+    first
+}
+
+/// An atom, if it has another number of terms than its predicate has parameters.
+fn wrong_arity(files: &Files, predicate: &Declared, atom: &ReadAtom) -> Option<Found>
+    requires { predicate_of files.now.domain.now atom.now.name ≡ Some predicate.now }
+    ensures { IsFirst (HasWrongArity (declarations_of files.now) atom.now) result }
+{
+    let wrong = atom.terms.len() != predicate.parameters.len();
+    found_if(wrong, atom.place, WRONG_ARITY)
+}
+
+/// The first fault of names in an atom.
+pub(crate) fn atom_fault(files: &Files, around: &Around, atom: &ReadAtom) -> Option<Found>
+    ensures { IsFirst (λ place code. OccursAt (declarations_of files.now) place code (AnAtom (lists_of around.now) atom.now)) result }
+{
+    let terms = unknown_term(files, around, atom);
+    match find_predicate(files, &atom.name) {
+        Some(predicate) => {
+            let arity = wrong_arity(files, predicate, atom);
+            let arguments = earlier(mismatch(files, around, predicate, atom), terms);
+            earlier(arity, arguments)
+        }
+        None => earlier(found_if(true, atom.head, UNKNOWN_PREDICATE), terms),
+    }
+}
+
+/// The first fault of names in an equality.
+pub(crate) fn equality_fault(
+    files: &Files,
+    around: &Around,
+    term: &Term,
+    other: &Term,
+) -> Option<Found>
+    ensures { IsFirst (λ place code. OccursAt (declarations_of files.now) place code (AnEquality (lists_of around.now) term.now other.now)) result }
+{
+    let first = unknown_one(files, around, term);
+    earlier(first, unknown_one(files, around, other))
+}
+
+/// The first fault of names in a list of variables.
+pub(crate) fn list_fault(files: &Files, variables: &Variables) -> Option<Found>
+    ensures { IsFirst (λ place code. OccursAt (declarations_of files.now) place code (AList variables.now.names.now)) result }
+{
+    let unknown = unknown_type(&files.types, variables.names);
+    earlier(unknown, repeated_variable(variables))
+}

@@ -1,0 +1,74 @@
+//! First declarations by name, and the table of all declarations.
+
+ghost use Rattle.fond_names.specs.Files.{declarations_of};
+ghost use Rattle.fond_names.specs.Indexes.{IsIndex};
+ghost use Rattle.fond_names.specs.Names.{predicate_of, first_of, all_objects};
+ghost use Rattle.std.specs.Option.{option_copied};
+ghost use Rattle.std.specs.Prelude.{◌≡◌, ◌++◌, IfOk};
+
+use crate::files::Files;
+use crate::index::{index_objects, index_predicates, index_schemas, joined_get};
+use fond_ast::files::{Declared, Domain, Problem, Side};
+use fond_ast::names::TypedName;
+use fond_kinds::table::TypeTable;
+use fond_lookup::text_index::TextIndex;
+use fond_text::fault::NoMemory;
+use fond_text::name::Name;
+use std::alloc::Global;
+
+/// An index of the predicates of a domain, and one of its constants and the objects of a problem.
+fn indexed_names(
+    alloc: Global,
+    domain: &Domain,
+    problem: &Problem,
+) -> Result<(TextIndex, TextIndex), NoMemory>
+    ensures predicates { IfOk result (λ made. IsIndex (λ predicate. predicate.name) made.0 domain.now.predicates) }
+    ensures objects { IfOk result (λ made. IsIndex (λ object. object.name) made.1 (domain.now.constants ++ problem.now.objects)) }
+{
+    let predicates = index_predicates(alloc, &domain.predicates)?;
+    let objects = index_objects(alloc, &domain.constants, &problem.objects)?;
+    Ok((predicates, objects))
+}
+
+/// The declarations of three files, indexed. Takes time and memory linear in their names.
+pub fn indexed<'a>(
+    alloc: Global,
+    domain: &'a Domain,
+    problem: &'a Problem,
+    side: &'a Side,
+) -> Result<Files<'a>, NoMemory>
+    ensures { IfOk result (λ files. declarations_of files ≡ record { domain = domain.now; problem = problem.now; side = side.now }) }
+{
+    let types = TypeTable::of(alloc, &domain.kinds)?;
+    let schemas = index_schemas(alloc, &domain.schemas)?;
+    let (predicates, objects) = indexed_names(alloc, domain, problem)?;
+    Ok(Files {
+        domain,
+        problem,
+        side,
+        types,
+        predicates,
+        objects,
+        schemas,
+    })
+}
+
+/// The first declaration of a predicate.
+pub fn find_predicate<'f>(files: &'f Files, name: &Name) -> Option<&'f Declared>
+    ensures { option_copied result ≡ predicate_of files.now.domain.now name.now }
+{
+    match files.predicates.find(name.bytes()) {
+        Some(at) => Some(files.domain.predicates.get(at as usize)),
+        None => None,
+    }
+}
+
+/// The first declaration of an object.
+pub fn find_object<'f>(files: &'f Files, name: &Name) -> Option<&'f TypedName>
+    ensures { option_copied result ≡ first_of (all_objects (declarations_of files.now)) name.now }
+{
+    match files.objects.find(name.bytes()) {
+        Some(at) => Some(joined_get(&files.domain.constants, &files.problem.objects, at as usize)),
+        None => None,
+    }
+}

@@ -1,0 +1,184 @@
+//! The first fault of names in conditions, effects and schemas.
+
+ghost use Rattle.fond_ast.specs.Read.{condition_variables, effect_variables, has_few_variables, schema_variables};
+ghost use Rattle.fond_text.specs.declared.code.TheConstants.{LONGEST_TEXT};
+ghost use Rattle.fond_text.specs.Firsts.{IsFirst};
+ghost use Rattle.fond_names.specs.Faults.{OccursAmong};
+ghost use Rattle.fond_names.specs.Files.{declarations_of};
+ghost use Rattle.fond_names.specs.Scopes.{lists_of};
+ghost use Rattle.fond_names.specs.Sites.{AList, AnAtom, condition_sites, effect_sites, schema_sites, domain_sites, problem_sites};
+ghost use Rattle.std.specs.Prelude.{◌≡◌, ◌≤◌, ◌+◌, ◌∷◌, [], IfOk, length, map, true};
+
+use crate::atoms::{atom_fault, equality_fault, list_fault};
+use crate::files::Files;
+use crate::scope::{Around, Variables};
+use crate::variable::{indexed_variables, inside};
+use fond_ast::files::Schema;
+use fond_ast::names::TypedNames;
+use fond_ast::syntax::{Cond, Effect};
+use fond_text::fault::NoMemory;
+use fond_text::first::{Found, earlier};
+use std::alloc::Global;
+
+/// The first fault of names in a condition.
+#[cycle(condition_fault)]
+fn condition_fault(
+    alloc: Global,
+    files: &Files,
+    condition: &Cond,
+    around: &Around,
+) -> Result<Option<Found>, NoMemory>
+    requires { condition_variables condition.now ≤ LONGEST_TEXT }
+    ensures { IfOk result (IsFirst (OccursAmong (declarations_of files.now) (condition_sites condition.now (lists_of around.now)))) }
+{
+    match condition {
+        Cond::Truth => Ok(None),
+        Cond::Holds(atom) => Ok(atom_fault(files, around, atom)),
+        Cond::Equal(term, other) => Ok(equality_fault(files, around, term, other)),
+        Cond::And(parts) | Cond::Or(parts) => {
+            let mut first = None;
+            for part in parts {
+                first = earlier(first, condition_fault(alloc, files, part, around)?);
+            }
+            Ok(first)
+        }
+        Cond::Not(part) => condition_fault(alloc, files, part, around),
+        Cond::Imply(part, other) => {
+            let first = condition_fault(alloc, files, part, around)?;
+            Ok(earlier(first, condition_fault(alloc, files, other, around)?))
+        }
+        Cond::Forall(names, part) | Cond::Exists(names, part) => {
+            quantified_fault(alloc, files, names, part, around)
+        }
+    }
+}
+
+/// The first fault of names in the variables and the part of a quantifier.
+#[cycle(condition_fault)]
+fn quantified_fault(
+    alloc: Global,
+    files: &Files,
+    names: &TypedNames,
+    part: &Cond,
+    around: &Around,
+) -> Result<Option<Found>, NoMemory>
+    requires { length names.now + condition_variables part.now ≤ LONGEST_TEXT }
+    ensures { IfOk result (IsFirst (OccursAmong (declarations_of files.now) (AList names.now ∷ condition_sites part.now (names.now ∷ lists_of around.now)))) }
+{
+    let variables = indexed_variables(alloc, names)?;
+    let first = list_fault(files, &variables);
+    let within = inside(&variables, &*around);
+    Ok(earlier(first, condition_fault(alloc, files, part, &within)?))
+}
+
+/// The first fault of names in an effect.
+#[cycle(effect_fault)]
+fn effect_fault(
+    alloc: Global,
+    files: &Files,
+    effect: &Effect,
+    around: &Around,
+) -> Result<Option<Found>, NoMemory>
+    requires { effect_variables effect.now ≤ LONGEST_TEXT }
+    ensures { IfOk result (IsFirst (OccursAmong (declarations_of files.now) (effect_sites effect.now (lists_of around.now)))) }
+{
+    match effect {
+        Effect::Nothing => Ok(None),
+        Effect::Add(atom) | Effect::Delete(atom) => Ok(atom_fault(files, around, atom)),
+        Effect::And(parts) | Effect::OneOf(parts) => {
+            let mut first = None;
+            for part in parts {
+                first = earlier(first, effect_fault(alloc, files, part, around)?);
+            }
+            Ok(first)
+        }
+        Effect::Forall(names, part) => universal_fault(alloc, files, names, part, around),
+        Effect::When(condition, part) => {
+            let first = condition_fault(alloc, files, condition, around)?;
+            Ok(earlier(first, effect_fault(alloc, files, part, around)?))
+        }
+    }
+}
+
+/// The first fault of names in the variables and the part of a quantified effect.
+#[cycle(effect_fault)]
+fn universal_fault(
+    alloc: Global,
+    files: &Files,
+    names: &TypedNames,
+    part: &Effect,
+    around: &Around,
+) -> Result<Option<Found>, NoMemory>
+    requires { length names.now + effect_variables part.now ≤ LONGEST_TEXT }
+    ensures { IfOk result (IsFirst (OccursAmong (declarations_of files.now) (AList names.now ∷ effect_sites part.now (names.now ∷ lists_of around.now)))) }
+{
+    let variables = indexed_variables(alloc, names)?;
+    let first = list_fault(files, &variables);
+    let within = inside(&variables, &*around);
+    Ok(earlier(first, effect_fault(alloc, files, part, &within)?))
+}
+
+/// The first fault of names in a schema with these parameters.
+fn fault_inside(
+    alloc: Global,
+    files: &Files,
+    schema: &Schema,
+    parameters: &Variables,
+) -> Result<Option<Found>, NoMemory>
+    requires named { parameters.now.names.now ≡ schema.now.parameters }
+    requires few { has_few_variables schema.now ≡ true }
+    ensures { IfOk result (IsFirst (OccursAmong (declarations_of files.now) (schema_sites schema.now))) }
+{
+    let list = list_fault(files, parameters);
+    let outside = Around::Nothing;
+    let within = inside(&*parameters, &outside);
+    let first = condition_fault(alloc, files, &schema.pre, &within)?;
+    let body = earlier(first, effect_fault(alloc, files, &schema.effect, &within)?);
+    Ok(earlier(list, body))
+}
+
+/// The first fault of names in a schema.
+fn schema_fault(alloc: Global, files: &Files, schema: &Schema) -> Result<Option<Found>, NoMemory>
+    requires { has_few_variables schema.now ≡ true }
+    ensures { IfOk result (IsFirst (OccursAmong (declarations_of files.now) (schema_sites schema.now))) }
+{
+    let parameters = indexed_variables(alloc, &schema.parameters)?;
+    fault_inside(alloc, files, schema, &parameters)
+}
+
+/// The first fault of names in the schemas of the domain.
+pub(crate) fn domain_site_fault(alloc: Global, files: &Files) -> Result<Option<Found>, NoMemory>
+    ensures { IfOk result (IsFirst (OccursAmong (declarations_of files.now) (domain_sites files.now.domain.now))) }
+{
+    let mut first = None;
+    for i in 0..files.domain.schemas.len() {
+        let schema = files.domain.schemas.get(i);
+        first = earlier(first, schema_fault(alloc, files, schema)?);
+    }
+    Ok(first)
+}
+
+/// The first fault of names in the initial atoms of the problem.
+fn init_fault(files: &Files) -> Option<Found>
+    ensures { IsFirst (OccursAmong (declarations_of files.now) (map (λ initial. AnAtom [] initial.atom) files.now.problem.now.init)) result }
+{
+    let outside = Around::Nothing;
+    let mut first = None;
+    for i in 0..files.problem.init.len() {
+        let initial = files.problem.init.get(i);
+        first = earlier(first, atom_fault(files, &outside, &initial.atom));
+    }
+    first
+}
+
+/// The first fault of names in the initial atoms and the goal of the problem.
+pub(crate) fn problem_site_fault(alloc: Global, files: &Files) -> Result<Option<Found>, NoMemory>
+    ensures { IfOk result (IsFirst (OccursAmong (declarations_of files.now) (problem_sites files.now.problem.now))) }
+{
+    let outside = Around::Nothing;
+    let first = init_fault(files);
+    Ok(earlier(
+        first,
+        condition_fault(alloc, files, &files.problem.goal, &outside)?,
+    ))
+}

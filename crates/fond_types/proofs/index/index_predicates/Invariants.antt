@@ -1,6 +1,0 @@
-use Rattle.fond_lookup.proofs.Firsts.{HasFirsts}
-use Rattle.fond_types.proofs.index.index_predicates.Given as goal
-
--- the index has the first position of each name so far
-abbrev pub invariant-loop-i : goal.invariant-loop-i
-invariant-loop-i l = HasFirsts (λ predicate. predicate.name) l.predicates l.index l.i

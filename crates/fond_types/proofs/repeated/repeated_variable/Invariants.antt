@@ -1,8 +1,0 @@
-use Rattle.std.proofs.Common.{take}
-use Rattle.fond_text.specs.Firsts.{IsFirst}
-use Rattle.fond_types.specs.Faults.{IsRepeatedVariable}
-use Rattle.fond_types.proofs.repeated.repeated_variable.Given as goal
-
--- the fault is the first among the variables so far
-abbrev pub invariant-loop-i : goal.invariant-loop-i
-invariant-loop-i l = IsFirst (IsRepeatedVariable (take l.i l.variables.names.now)) l.first

@@ -1,8 +1,0 @@
-use Rattle.std.proofs.Common.{take}
-use Rattle.fond_text.specs.Firsts.{IsFirst}
-use Rattle.fond_types.specs.Unknown.{IsUnknownKind}
-use Rattle.fond_types.proofs.unknown.unknown_kind.Given as goal
-
--- the fault is the first among the types so far
-abbrev pub invariant-loop-i : goal.invariant-loop-i
-invariant-loop-i l = IsFirst (IsUnknownKind l.types.types.now (take l.i l.kinds)) l.first
