@@ -2,6 +2,7 @@ pub mod Completed
 pub mod Declared
 pub mod Found
 pub mod Items
+pub mod Known
 pub mod Joined
 pub mod PairedOff
 pub mod Sound

@@ -1,4 +1,5 @@
-use Rattle.std.proofs.Common.{◌≡◌, ◌∙◌, Some, ap, sym, subst}
+use Rattle.std.proofs.lemmas.Grind.{common_steps}
+use Rattle.std.proofs.Common.{◌≡◌, ◌∙◌, Some, ap, sym, subst, arith}
 use Rattle.std.specs.Prelude.{slice_set}
 use Rattle.std.proofs.lemmas.Bool.{false≢true}
 use Rattle.fond_state.specs.Cubes.{without_literal}
@@ -25,3 +26,15 @@ returns-then-not-is_sure-clause-needed c = λ sign is sure.
     in
     let dropped : without_literal c.put_literal.new.self c.args.atom ≡ c.drop_literal.new.self = ap (λ cube. without_literal cube c.args.atom) back ∙ sym c.drop_literal.ensures in
     false≢true (c.if-not-is_sure.ensures.decides.1 (subst P dropped sure))
+
+pub put_literal-requires : goal.put_literal-requires
+put_literal-requires c = grind (arith, common_steps)
+
+pub returns-then-not-is_sure-clause-shorter : goal.returns-then-not-is_sure-clause-shorter
+returns-then-not-is_sure-clause-shorter c = grind (arith, common_steps)
+
+pub returns-else-not-is_sure-clause-shorter : goal.returns-else-not-is_sure-clause-shorter
+returns-else-not-is_sure-clause-shorter c = grind (arith, common_steps)
+
+pub returns-else-not-is_sure-clause-needed : goal.returns-else-not-is_sure-clause-needed
+returns-else-not-is_sure-clause-needed c = grind (arith, common_steps)
