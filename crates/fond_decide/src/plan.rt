@@ -1,8 +1,9 @@
 //! Plans: choices that win, found by their states.
 
 ghost use Rattle.fond_decide.specs.Plans.{IsPlan};
-ghost use Rattle.fond_explicit.specs.Answers.{AreWinning};
-ghost use Rattle.std.specs.Prelude.{◌≡◌, List, Bool, length, IfOk};
+ghost use Rattle.fond_explicit.specs.Answers.{AreWinning, ChoiceView};
+ghost use Rattle.fond_text.specs.Lists.{AreDistinct};
+ghost use Rattle.std.specs.Prelude.{◌≡◌, List, Bool, length, map, IfOk};
 
 use fond_explicit::answer::Choices;
 use fond_store::store::Store;
@@ -17,11 +18,11 @@ pub(crate) struct Plan {
     pub(crate) states: Store,
 }
 
-/// The plan of choices that win from some state. Memory is said to have run out after 2^32 - 2 choices.
-pub(crate) fn plan_of(alloc: Global, t: &Task, choices: Choices) -> Result<Plan, NoMemory>
-    requires { (from : List Bool) × (length from ≡ length t.now.atoms) × AreWinning t.now from choices }
-    ensures plan { IfOk result (IsPlan t.now) }
-    ensures same { IfOk result (λ plan. plan.choices ≡ choices) }
+/// The states of distinct choices, each under the number of its choice. Memory is said to have run out after 2^32 - 2
+/// choices.
+fn states_of(alloc: Global, choices: &Choices) -> Result<Store, NoMemory>
+    requires { AreDistinct (map (λ (choice : ChoiceView). choice.state) choices.now) }
+    ensures { IfOk result (λ states. states ≡ map (λ (choice : ChoiceView). choice.state) choices.now) }
 {
     let mut states = Store::new(alloc);
     for number in 0..choices.len() {
@@ -30,5 +31,15 @@ pub(crate) fn plan_of(alloc: Global, t: &Task, choices: Choices) -> Result<Plan,
         }
         states.add(choices.get(number).state.copy(alloc)?)?;
     }
+    Ok(states)
+}
+
+/// The plan of choices that win from some state. Memory is said to have run out after 2^32 - 2 choices.
+pub(crate) fn plan_of(alloc: Global, t: &Task, choices: Choices) -> Result<Plan, NoMemory>
+    requires { (from : List Bool) × (length from ≡ length t.now.atoms) × AreWinning t.now from choices }
+    ensures plan { IfOk result (IsPlan t.now) }
+    ensures same { IfOk result (λ plan. plan.choices ≡ choices) }
+{
+    let states = states_of(alloc, &choices)?;
     Ok(Plan { choices, states })
 }

@@ -202,6 +202,26 @@ impl Planner {
         if make_found(alloc, t, &mut self.draft, self.plans.as_slice(), &step.next)? {
             return Ok(true);
         }
+        let within = self.solve_next(alloc, t, budget, step)?;
+        Ok(within)
+    }
+
+    /// Finds out about the next state of a step, as `settle` does, by solving the task from it.
+    fn solve_next(
+        &mut self,
+        alloc: Global,
+        t: &Task,
+        budget: u32,
+        step: &Step,
+    ) -> Result<bool, NoMemory>
+        requires few { budget ≤ 1000000 }
+        requires planner { IsPlanner t.now self.old }
+        requires step { IsStep t.now step.now }
+        requires open { ¬ IsGoal t.now step.now.next }
+        ensures planner { OnOk result (IsPlanner t.now self.new) }
+        ensures settled { IfOk result (λ within. within ≡ true → IsSettled t.now self.new.draft step.now) }
+        ensures past { IfOk result (λ within. within ≡ false → IsPast t.now budget) }
+    {
         match solve(alloc, t, &step.next, budget)? {
             Solved::Won(choices, _) => {
                 self.win(alloc, t, &step.next, choices)?;
@@ -401,8 +421,8 @@ impl Planner {
         ensures past { IfOk result (λ within. within ≡ false → IsPast t.now budget) }
     {
         self.begin(alloc, t)?;
-        let mut states = one_state(alloc, &t.init)?;
         let mut step = first_step(alloc, t)?;
+        let mut states = one_state(alloc, &t.init)?;
         self.walk_on(alloc, t, budget, &mut step, &mut states)
     }
 }

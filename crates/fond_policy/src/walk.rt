@@ -205,7 +205,7 @@ pub fn walk(
     requires sure { AreSureRules t.now pairs.now rules.now }
     ensures { IfOk result (IsWalked t.now rules.now bound) }
 {
-    let mut states = one_state(alloc, &t.init)?;
     let mut scratch = scratch_of(alloc, t)?;
+    let mut states = one_state(alloc, &t.init)?;
     walk_on(alloc, t, pairs, rules, bound, &mut scratch, &mut states)
 }

@@ -1,7 +1,33 @@
+use Rattle.std.proofs.Common.{◌≡◌, ◌∙◌, true, sym, subst}
+use Rattle.std.proofs.lemmas.Option.{same_Some, slice_get_within}
+use Rattle.fond_task.specs.Truth.{is_true}
+use Rattle.fond_task.specs.declared.task.Act.{Act}
 use Rattle.fond_game.specs.declared.rule.Rule.{Rule}
+use Rattle.fond_decide.proofs.Fitting.{fitting_over}
 use Rattle.fond_decide.proofs.Made.{ruled_more}
 use Rattle.fond_decide.proofs.Sure.{sure_full}
 use Rattle.fond_decide.proofs.make.add_rule.Goals as goal
+
+pub targets_of-requires-clause-there : goal.targets_of-requires-clause-there
+targets_of-requires-clause-there c =
+    let applies = c.requires.ready.applicable in
+    slice_get_within c.args.t.now.acts c.args.pick.now.act applies.act applies.numbered
+
+pub targets_of-requires-clause-applicable : goal.targets_of-requires-clause-applicable
+targets_of-requires-clause-applicable c = λ act at.
+    let applies = c.requires.ready.applicable in
+    subst (λ (a : Act). is_true c.args.pick.now.state a.pre ≡ true) (same_Some applies.act act (sym applies.numbered ∙ at)) applies.holds
+
+pub targets_of-requires-clause-has : goal.targets_of-requires-clause-has
+targets_of-requires-clause-has c = c.requires.ready.targets
+
+pub lean_condition-requires-clause-there : goal.lean_condition-requires-clause-there
+lean_condition-requires-clause-there c =
+    let applies = c.requires.ready.applicable in
+    slice_get_within c.args.t.now.acts c.args.pick.now.act applies.act applies.numbered
+
+pub lean_condition-requires-clause-pairs_over : goal.lean_condition-requires-clause-pairs_over
+lean_condition-requires-clause-pairs_over c = fitting_over c.args.t.now c.args.draft.now.layers c.args.draft.now.pairs c.requires.draft.pairs
 
 pub lean_condition-requires-clause-sure : goal.lean_condition-requires-clause-sure
 lean_condition-requires-clause-sure c =

@@ -10,6 +10,14 @@ use Rattle.fond_decide.specs.declared.order.Place.{Place}
 use Rattle.fond_decide.proofs.Plans.{choice_of_state, one_choice}
 use Rattle.fond_decide.proofs.order.places_of.Goals as goal
 
+pub unreachable-requires : goal.unreachable-requires
+unreachable-requires c = c.in_default.ensures (c.requires.listed c.get.result.now (Contains_numbered c.args.states.now c.loop-at.at c.get.result.now c.get.ensures))
+
+pub get-requires-in-loop-at : goal.get-requires-in-loop-at
+get-requires-in-loop-at c =
+    let found = choice_of_state c.args.t.now c.args.plan.now c.requires.plan c.in-Some.number c.get.result.now c.in-Some.ensures in
+    slice_get_within c.args.plan.now.choices c.in-Some.number found.0 found.1
+
 pub loop-at-preserved : goal.loop-at-preserved
 loop-at-preserved c =
     let task = c.args.t.now in

@@ -1,30 +1,7 @@
-use Rattle.std.proofs.Common.{◌≡◌, ◌∙◌, ◌+◌, List, Bool, ◌∷◌, ◌++◌, drop, map, sym, ap, subst, arith}
-use Rattle.std.proofs.lemmas.List.{append-nil}
-use Rattle.fond_text.specs.Lists.{AreDistinct}
-use Rattle.fond_explicit.specs.Answers.{ChoiceView}
-use Rattle.fond_decide.proofs.Listed.{added_state, drop_past, drop_step, new_state}
 use Rattle.fond_decide.proofs.plan.plan_of.Goals as goal
 
-pub loop-number-preserved : goal.loop-number-preserved
-loop-number-preserved c =
-    let f : ChoiceView → List Bool = λ choice. choice.state in
-    let choices = c.args.choices in
-    let own = c.get.result.now in
-    let rest = map f (drop (c.loop-number.number + 1) choices) in
-    let whole : c.loop-number.states ++ own.state ∷ rest ≡ map f choices =
-    ap (λ xs. c.loop-number.states ++ map f xs) (sym (drop_step choices c.loop-number.number own c.get.ensures)) ∙ c.loop-number.invariant in
-    added_state c.loop-number.states own.state c.in_ok-copy.field-0 c.in_ok-add.field-0 c.add.new.self rest c.in_ok-copy.ensures
-    (new_state c.loop-number.states own.state rest (subst AreDistinct (sym whole) c.requires.2.once)) c.in_ok-add.ensures.ok
-    ∙ whole
+pub states_of-requires : goal.states_of-requires
+states_of-requires c = c.requires.2.once
 
 pub returns-clause-plan : goal.returns-clause-plan
-returns-clause-plan c =
-    let f : ChoiceView → List Bool = λ choice. choice.state in
-    record {
-      from = c.requires.0;
-      long = c.requires.1;
-      winning = c.requires.2;
-      numbered = sym (append-nil c.loop-number.states)
-          ∙ ap (λ (xs : List ChoiceView). c.loop-number.states ++ map f xs) (sym (drop_past c.args.choices c.loop-number.number (omega (arith, c.loop-number-test.false, c.len-number-end.ensures))))
-          ∙ c.loop-number.invariant;
-    }
+returns-clause-plan c = record { from = c.requires.0; long = c.requires.1; winning = c.requires.2; numbered = c.in_ok-states.ensures }
