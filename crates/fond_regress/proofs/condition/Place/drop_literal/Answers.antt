@@ -1,6 +1,5 @@
-use Rattle.std.proofs.Common.{rules as rules_, arith as arith_}
-use Rattle.std.proofs.lemmas.Grind.{common_steps as common_steps_, elements as elements_, moves as moves_}
-use Rattle.std.proofs.Common.{◌≡◌, ◌∙◌, Some, ap, refl, sym, subst}
+use Rattle.std.proofs.lemmas.Grind.{elements, common_steps}
+use Rattle.std.proofs.Common.{◌≡◌, ◌∙◌, Some, ap, refl, sym, subst, arith}
 use Rattle.std.specs.Prelude.{slice_set}
 use Rattle.std.proofs.lemmas.Bool.{false≢true}
 use Rattle.fond_state.specs.Cubes.{without_literal}
@@ -34,16 +33,16 @@ pub returns-else-not-is_sure-clause-sure : goal.returns-else-not-is_sure-clause-
 returns-else-not-is_sure-clause-sure c = c.if-not-is_sure.ensures.decides.0 refl
 
 pub is_sure-requires-clause-there : goal.is_sure-requires-clause-there
-is_sure-requires-clause-there c = grind (arith_, common_steps_)
+is_sure-requires-clause-there c = grind (arith, elements)
 
 pub put_literal-requires : goal.put_literal-requires
-put_literal-requires c = grind (arith_, common_steps_)
+put_literal-requires c = grind (arith, common_steps)
 
 pub returns-then-not-is_sure-clause-shorter : goal.returns-then-not-is_sure-clause-shorter
-returns-then-not-is_sure-clause-shorter c = grind (arith_, common_steps_)
+returns-then-not-is_sure-clause-shorter c = grind (arith, common_steps)
 
 pub returns-else-not-is_sure-clause-shorter : goal.returns-else-not-is_sure-clause-shorter
-returns-else-not-is_sure-clause-shorter c = grind (arith_, common_steps_)
+returns-else-not-is_sure-clause-shorter c = grind (arith, common_steps)
 
 pub returns-else-not-is_sure-clause-needed : goal.returns-else-not-is_sure-clause-needed
-returns-else-not-is_sure-clause-needed c = grind (arith_, common_steps_)
+returns-else-not-is_sure-clause-needed c = grind (arith, common_steps)
