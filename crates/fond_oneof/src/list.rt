@@ -1,5 +1,7 @@
 //! The list of the outcomes of an effect.
 
+ghost use Rattle.fond_text.specs.Lists.{concatenations};
+ghost use Rattle.std.specs.List.{flat_map};
 ghost use Rattle.fond_oneof.specs.Shown.{all_shown, pairs, shown, shown_lists, shown_under};
 ghost use Rattle.fond_task.specs.declared.form.Form.TheVariants.{Truth};
 ghost use Rattle.std.specs.Prelude.{◌≡◌, [], ◌∷◌, ◌++◌, true, map, IfOk, OnOk};
@@ -126,30 +128,43 @@ fn all_guarded(alloc: Global, condition: &Form, all: &[Outcome]) -> Result<Vec<O
 /// The outcomes of an effect, in order: the last part of a conjunction varies fastest, and a choice lists those of its
 /// members. If each choice has a member, takes memory proportional to the sum of their sizes, and time proportional to
 /// that sum for each level of nesting.
+#[cycle(listing)]
 pub(crate) fn list(alloc: Global, effect: &GroundEffect) -> Result<Vec<Outcome>, NoMemory>
     ensures { IfOk result (λ all. all_shown all.items ≡ shown_lists effect.now) }
 {
     match effect {
         GroundEffect::Literal(atom, add) => alone(alloc, literal(alloc, *atom, *add)?),
-        GroundEffect::And(parts) => {
-            let mut all = alone(alloc, Outcome::new(alloc))?;
-            for part in parts {
-                let second = list(alloc, part)?;
-                all = joined(alloc, all, &second)?;
-            }
-            Ok(all)
-        }
-        GroundEffect::OneOf(parts) => {
-            let mut all = Vec::new(alloc);
-            for part in parts {
-                let mut more = list(alloc, part)?;
-                all.append(&mut more)?;
-            }
-            Ok(all)
-        }
+        GroundEffect::And(parts) => list_conjunction(alloc, parts),
+        GroundEffect::OneOf(parts) => list_choice(alloc, parts),
         GroundEffect::When(condition, part) => {
             let all = list(alloc, part)?;
             all_guarded(alloc, condition, &all)
         }
     }
+}
+
+/// The outcomes of a conjunction of these parts, of which the last varies fastest.
+#[cycle(listing)]
+fn list_conjunction(alloc: Global, parts: &[GroundEffect]) -> Result<Vec<Outcome>, NoMemory>
+    ensures { IfOk result (λ all. all_shown all.items ≡ concatenations (map shown_lists parts.now)) }
+{
+    let mut all = alone(alloc, Outcome::new(alloc))?;
+    for part in parts {
+        let second = list(alloc, part)?;
+        all = joined(alloc, all, &second)?;
+    }
+    Ok(all)
+}
+
+/// The outcomes of a choice of one of these members.
+#[cycle(listing)]
+fn list_choice(alloc: Global, members: &[GroundEffect]) -> Result<Vec<Outcome>, NoMemory>
+    ensures { IfOk result (λ all. all_shown all.items ≡ flat_map (λ lists. lists) (map shown_lists members.now)) }
+{
+    let mut all = Vec::new(alloc);
+    for member in members {
+        let mut more = list(alloc, member)?;
+        all.append(&mut more)?;
+    }
+    Ok(all)
 }
