@@ -1,11 +1,11 @@
 -- The certificates of what is found out are correct and lean.
-use Rattle.std.proofs.Common.{◌≡◌, ℕ, ◌<◌, ◌^◌, List, Some, length, slice_get, ap, ◌∙◌, arith}
+use Rattle.std.proofs.Common.{◌≡◌, ℕ, zero, suc, ◌<◌, ◌^◌, List, [], ◌∷◌, Some, length, slice_get, ap, subst, ◌∙◌, arith}
 use Rattle.std.specs.Prelude.{All as Each}
 use Rattle.std.proofs.lemmas.List.{length-map}
-use Rattle.std.proofs.lemmas.Option.{slice_get_within}
+use Rattle.std.proofs.lemmas.Option.{none-some, same_Some, slice_get_within}
 use Rattle.fond_task.specs.declared.task.Act.{Act}
 use Rattle.fond_task.specs.declared.task.Task.{Task}
-use Rattle.fond_game.proofs.Lists.{Contains_numbered}
+use Rattle.fond_game.proofs.Lists.{Contains-here, Contains_numbered}
 use Rattle.fond_game.specs.Certificates.{LiesInLayers, ReachesCount}
 use Rattle.fond_game.specs.Layers.{CubeView}
 use Rattle.fond_game.specs.Policies.{selected}
@@ -24,6 +24,8 @@ use Rattle.fond_policy.proofs.Walking.{few_outcomes}
 use Rattle.fond_policy.specs.Parts.{AreSureRules}
 use Rattle.fond_policy.specs.Walks.{HasAllRuled}
 use Rattle.fond_explicit.specs.Answers.{AreStuck}
+use Rattle.fond_relax.specs.Stable.{IsHopelessBy}
+use Rattle.fond_relax.proofs.Hopeless.{stable_sure}
 use Rattle.fond_decide.specs.Decisions.{IsRightCert}
 use Rattle.fond_decide.specs.Drafts.{IsDraft, IsFitting}
 use Rattle.fond_decide.specs.declared.draft.Draft.{Draft}
@@ -109,5 +111,29 @@ right_refusal task layers few few_cubes stuck lies = record {
   };
   small = tt;
   right = record { layers_sure = stuck.sure; start = lies };
+  lean = tt;
+}
+
+-- what holds of one item holds of each item of the list of it
+only_one : {X : Type 0} (P : X → Type 0) (x : X) → P x → Each P (x ∷ [])
+only_one P x holds = all_numbered P (x ∷ []) at
+  where
+    at : (number : ℕ) (y : _) → slice_get (x ∷ []) number ≡ Some y → P y
+    at zero y is = subst P (same_Some x y is) holds
+    at (suc number) y is = absurd (none-some y is)
+
+-- the certificate of the cube by which the initial state is hopeless is correct
+pub right_hopeless : (task : Task) (cube : CubeView) → IsHopelessBy task task.init cube → IsRightCert task (Refusal ((cube ∷ []) ∷ []))
+right_hopeless task cube hopeless = record {
+  belongs = record {
+    few = omega arith;
+    few_cubes = only_one (λ (layer : List CubeView). length layer < 2 ^ 32) (cube ∷ []) (omega arith);
+    over = only_one (IsOver (length task.atoms)) (cube ∷ []) (only_one (λ (one : CubeView). length one ≡ length task.atoms) cube hopeless.over);
+  };
+  small = tt;
+  right = record {
+    layers_sure = stable_sure task cube hopeless.stable hopeless.no_goal;
+    start = record { layer = cube ∷ []; one = Contains-here (cube ∷ []) []; cube = cube; has = Contains-here cube []; lies = hopeless.lies };
+  };
   lean = tt;
 }

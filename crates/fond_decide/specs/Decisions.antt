@@ -8,6 +8,7 @@ use Rattle.fond_policy.specs.Sizes.{HasSmallNumbers}
 use Rattle.fond_policy.specs.declared.cert.Cert.{Cert}
 use Rattle.fond_policy.specs.declared.cert.Cert.TheVariants.{Policy, Refusal}
 use Rattle.fond_policy.specs.Parts.{AreLean, IsRight}
+use Rattle.fond_relax.specs.Stable.{IsHopeless}
 use Rattle.fond_decide.specs.declared.decide.Decision.{Decision}
 use Rattle.fond_decide.specs.declared.decide.Decision.TheVariants.{Certified, Undecided}
 
@@ -27,7 +28,8 @@ pub record IsRightCert (task : Task) (cert : Cert) : Type 0 where
 abbrev pub IsPast : Task → ℕ → Type 0
 IsPast task budget = games.More (game task) budget
 
--- a decision about a task is right: its certificate is correct and lean, or more states are reachable than the budget
+-- a decision about a task is right: its certificate is correct and lean; or more states are reachable than the budget, and the
+-- initial state is not hopeless
 abbrev pub IsDecision : Task → ℕ → Decision → Type 0
 IsDecision task budget (Certified cert) = IsRightCert task cert
-IsDecision task budget Undecided = IsPast task budget
+IsDecision task budget Undecided = IsPast task budget × (¬ IsHopeless task task.init)

@@ -7,6 +7,7 @@ ghost use Rattle.fond_decide.specs.Planners.{IsPlanner};
 ghost use Rattle.fond_explicit.specs.Answers.{AreStuck, AreWinning};
 ghost use Rattle.fond_game.specs.Certificates.{LiesInLayers, ReachesCount};
 ghost use Rattle.fond_game.specs.Policies.{selected};
+ghost use Rattle.fond_relax.specs.Stable.{IsHopeless, IsHopelessBy};
 ghost use Rattle.std.specs.Prelude.{◌≡◌, ◌<◌, ◌≤◌, ◌^◌, None, All, length, IfOk, IfSome, OnOk};
 
 use crate::draft::Draft;
@@ -14,10 +15,12 @@ use crate::plan::plan_of;
 use crate::walk::Planner;
 use fond_explicit::answer::{Choices, Solved};
 use fond_explicit::solve::solve;
-use fond_layers::layers::Layers;
+use fond_layers::layers::{Layer, Layers};
 use fond_policy::cert::Cert;
 use fond_policy::reach::reach_count;
+use fond_relax::estimate::{Guess, estimate};
 use fond_rules::rules::Rules;
+use fond_state::cube::Cube;
 use fond_task::task::Task;
 use fond_text::fault::NoMemory;
 use std::alloc::Global;
@@ -130,9 +133,22 @@ impl Planner {
     }
 }
 
+/// The refusal of a task whose initial state is hopeless by this cube, which is its one layer.
+fn hopeless_refusal(alloc: Global, t: &Task, cube: Cube) -> Result<Cert, NoMemory>
+    requires { IsHopelessBy t.now t.now.init cube }
+    ensures { IfOk result (IsRightCert t.now) }
+{
+    let mut layer = Layer::new(alloc);
+    layer.push(cube)?;
+    let mut layers = Layers::new(alloc);
+    layers.add_raw(layer)?;
+    Ok(Cert::Refusal { layers })
+}
+
 /// Decides a task in which choices win from the initial state, by the rounds of `Planner::finish`.
 fn decide_won(alloc: Global, t: &Task, choices: Choices, budget: u32) -> Result<Decision, NoMemory>
     requires few { budget ≤ 1000000 }
+    requires hope { ¬ IsHopeless t.now t.now.init }
     requires winning { AreWinning t.now t.now.init choices }
     ensures { IfOk result (IsDecision t.now budget) }
 {
@@ -143,17 +159,30 @@ fn decide_won(alloc: Global, t: &Task, choices: Choices, budget: u32) -> Result<
     Ok(Decision::Certified(policy_of(t, planner.draft, reach)))
 }
 
-/// Decides a task within a budget of opened states: a correct and lean certificate of a policy, or a correct one of
-/// unsolvability, or that more states are reachable than the budget. Takes the time of `solve`, once for the initial state and
-/// once for each reached state without a rule that no earlier choices list and that lies in no layer that was kept, and that of
-/// a walk through the states that the policy reaches, once more after each walk that bars actions.
-pub fn decide(alloc: Global, t: &Task, budget: u32) -> Result<Decision, NoMemory>
-    requires { budget ≤ 1000000 }
+/// Decides a task whose initial state is not hopeless, by opening its states.
+fn decide_by_states(alloc: Global, t: &Task, budget: u32) -> Result<Decision, NoMemory>
+    requires few { budget ≤ 1000000 }
+    requires hope { ¬ IsHopeless t.now t.now.init }
     ensures { IfOk result (IsDecision t.now budget) }
 {
     match solve(alloc, t, &t.init, budget)? {
         Solved::Won(choices, _) => decide_won(alloc, t, choices, budget),
         Solved::Lost(layers) => Ok(Decision::Certified(refusal_of(t, layers))),
         Solved::Spent => Ok(Decision::Undecided),
+    }
+}
+
+/// Decides a task within a budget of opened states: a correct and lean certificate of a policy, or a correct one of
+/// unsolvability, or that more states are reachable than the budget. A hopeless initial state is refused without opening any.
+/// Takes the time of `estimate`, and then of `solve`, once for the initial state and once for each reached state without a rule
+/// that no earlier choices list and that lies in no layer that was kept, and that of a walk through the states that the policy
+/// reaches, once more after each walk that bars actions.
+pub fn decide(alloc: Global, t: &Task, budget: u32) -> Result<Decision, NoMemory>
+    requires { budget ≤ 1000000 }
+    ensures { IfOk result (IsDecision t.now budget) }
+{
+    match estimate(alloc, t, &t.init)? {
+        Guess::Never(cube) => Ok(Decision::Certified(hopeless_refusal(alloc, t, cube)?)),
+        Guess::Reach(_) => decide_by_states(alloc, t, budget),
     }
 }

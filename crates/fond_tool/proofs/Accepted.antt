@@ -77,7 +77,7 @@ module _ (texts : TaskTexts) (task : LiftedTask) (game : Task) (described : Desc
       let is_lean : found.2 ≡ true = found.3.1.1 (found.1.lean layers pairs rules lean) in
       found.4 ∙ ap (λ (b : Bool). verdict_reply found.0 (Policy layers pairs rules reach) (Accepted b)) is_lean
   planned_by budget printed reply (AnswersPlan.unsolvable layers text is right none) status answers = (reply_to texts task game (Refusal layers) text reply described is right answers).4
-  planned_by budget printed reply (AnswersPlan.undecided more) status answers = absurd status
+  planned_by budget printed reply (AnswersPlan.undecided more hope) status answers = absurd status
 
 planned_of : (texts : TaskTexts) (budget : ℕ) (printed reply : Reply) → TaskReply texts (λ task game. AnswersPlan task game budget) printed → IsCertStatus printed.status → CheckReply texts printed.text reply → reply ≡ accepted_reply printed.status
 planned_of texts budget printed reply (TaskReply.refused fault refusal) status answers = absurd status
@@ -108,7 +108,7 @@ module _ (texts : TaskTexts) (task : LiftedTask) (budget : ℕ) (described : Des
       inl (refl, (ground-tasks-agree task game same).solvable.0 ((ground-tasks-agree other game is).solvable.1 has))
   decided_by other game reply is same (AnswersPlan.unsolvable layers text cert right none) =
       inr (refl, λ solvable. none ((ground-tasks-agree other game is).solvable.0 ((ground-tasks-agree task game same).solvable.1 solvable)))
-  decided_by other game reply is same (AnswersPlan.undecided more) =
+  decided_by other game reply is same (AnswersPlan.undecided more hope) =
       absurd (few (((ground-tasks-agree task game same).more budget).0 (((ground-tasks-agree other game is).more budget).1 more)))
 
   small_decided : (reply : Reply) → TaskReply texts (λ task game. AnswersPlan task game budget) reply → Decided reply

@@ -75,7 +75,7 @@ check_status (TaskReply.answered task game reply of answers) = judged_status ans
 planned_status : {task : LiftedTask} {game : Task} {budget : ℕ} {reply : Reply} → AnswersPlan task game budget reply → is_reply_status reply.status ≡ true
 planned_status (AnswersPlan.policy layers pairs rules reach text is right lean solves has) = refl
 planned_status (AnswersPlan.unsolvable layers text is right none) = refl
-planned_status (AnswersPlan.undecided more) = refl
+planned_status (AnswersPlan.undecided more hope) = refl
 
 task_plan_status : {texts : TaskTexts} {budget : ℕ} {reply : Reply} → TaskReply texts (λ task game. AnswersPlan task game budget) reply → is_reply_status reply.status ≡ true
 task_plan_status (TaskReply.refused fault first) = refl

@@ -30,7 +30,7 @@ module _ (task : LiftedTask) (game : Task) (budget : ℕ) (is : IsGroundOf task 
 
   decided_as : (decision : Decision) → IsDecision game budget decision → AnswersPlan task game budget (decision_reply game budget decision)
   decided_as (Certified cert) right = certified cert right
-  decided_as Undecided more = AnswersPlan.undecided (((ground-tasks-agree task game is).more budget).0 more)
+  decided_as Undecided (more, hope) = AnswersPlan.undecided (((ground-tasks-agree task game is).more budget).0 more) hope
 
   -- what is decided is the reply
   pub decided : (reply : Reply) → (decision : Decision) × IsDecision game budget decision × (reply ≡ decision_reply game budget decision) → AnswersPlan task game budget reply
