@@ -21,12 +21,11 @@ pub struct Files {
     pub side: Side,
 }
 
-/// The declarations that the trees and the leaves are read as, or the first fault of form. The trees are dropped, so that
-/// they take no memory while names are resolved.
-pub fn declare(alloc: Global, texts: &TaskTexts, trees: Trees) -> Result<Files, FrontError>
-    requires { AreTreesOf texts.now trees }
+/// The declarations that the trees and the leaves are read as, or the first fault of form.
+fn files_of(alloc: Global, texts: &TaskTexts, trees: &Trees) -> Result<Files, FrontError>
+    requires { AreTreesOf texts.now trees.now }
     ensures read { IfOk result (λ files. AreFilesOf texts.now (declarations_of files)) }
-    ensures refused { IfErr result (Refuses (IsFirstAmong (OccursInTrees texts.now trees))) }
+    ensures refused { IfErr result (Refuses (IsFirstAmong (OccursInTrees texts.now trees.now))) }
 {
     let domain = read_domain(alloc, &trees.domain)?;
     let problem = read_problem(alloc, &trees.problem)?;
@@ -36,4 +35,14 @@ pub fn declare(alloc: Global, texts: &TaskTexts, trees: Trees) -> Result<Files, 
         problem,
         side,
     })
+}
+
+/// The declarations that the trees and the leaves are read as, or the first fault of form. The trees are dropped, so that
+/// they take no memory while names are resolved.
+pub fn declare(alloc: Global, texts: &TaskTexts, trees: Trees) -> Result<Files, FrontError>
+    requires { AreTreesOf texts.now trees }
+    ensures read { IfOk result (λ files. AreFilesOf texts.now (declarations_of files)) }
+    ensures refused { IfErr result (Refuses (IsFirstAmong (OccursInTrees texts.now trees))) }
+{
+    files_of(alloc, texts, &trees)
 }
