@@ -2,14 +2,18 @@
 //! conditional effects are ground conditions.
 
 ghost use Rattle.fond_ast.specs.Ranges.{objects_of};
-ghost use Rattle.fond_ground.specs.Atoms.{atom_number};
+ghost use Rattle.fond_ast.specs.declared.form.LCond.{LCond};
+ghost use Rattle.fond_ast.specs.declared.task.LiftedTask.{LiftedTask};
+ghost use Rattle.fond_ground.specs.Atoms.{atom_number, fluent_atoms};
 ghost use Rattle.fond_ground.specs.Effects.{is_numbered, numbered_by, HasOutcomes, HaveOutcomes};
+ghost use Rattle.fond_ground.specs.Values.{StandsFor};
 ghost use Rattle.fond_meaning.specs.Conditions.{ground_atom, tuples};
-ghost use Rattle.fond_meaning.specs.Outcomes.{alone, outcomes};
+ghost use Rattle.fond_meaning.specs.Outcomes.{alone, guarded, Literal, outcomes};
 ghost use Rattle.fond_task.specs.Values.{value};
+ghost use Rattle.fond_task.specs.Within.{is_form_within};
 ghost use Rattle.fond_task.specs.declared.form.Kleene.TheVariants.{Yes};
 ghost use Rattle.std.specs.List.{list_all};
-ghost use Rattle.std.specs.Prelude.{◌≡◌, ◌++◌, List, Option, Bool, is_some, map, true, IfOk, OnOk};
+ghost use Rattle.std.specs.Prelude.{◌≡◌, ◌++◌, ℕ, length, List, Option, Bool, is_some, map, true, IfOk, OnOk};
 
 use crate::forms::form_of;
 use crate::table::{Table, ground_numbers};
@@ -44,6 +48,17 @@ fn is_always(condition: &Form) -> bool
     matches!(condition, Form::Truth(true))
 }
 
+/// An effect under a condition. A condition that is always true is left out.
+fn conditional(alloc: Global, form: Form, effect: GroundEffect) -> Result<GroundEffect, NoMemory>
+    ensures { IfOk result (λ under. (task : LiftedTask) (env : List ℕ) (condition : LCond) (lists : List (List Literal)) → StandsFor task env condition form → is_form_within (length (fluent_atoms task)) form ≡ true
+        → HasOutcomes task lists effect → HasOutcomes task (map (map (guarded (record { env = env; condition = condition }))) lists) under) }
+{
+    if is_always(&form) {
+        return Ok(effect);
+    }
+    Ok(GroundEffect::When(form, Box::new(alloc, effect)?))
+}
+
 /// The ground effect of an effect, where these are the objects of the variables around it. Takes time and memory in the
 /// size of the effect written out over all lists of objects.
 #[cycle(grounding)]
@@ -74,12 +89,9 @@ pub(crate) fn ground_effect(
             Ok(GroundEffect::And(parts))
         }
         LEffect::When(condition, part) => {
-            let condition = form_of(alloc, table, condition, env)?;
-            let part = ground_effect(alloc, table, part, env)?;
-            if is_always(&condition) {
-                return Ok(part);
-            }
-            Ok(GroundEffect::When(condition, Box::new(alloc, part)?))
+            let form = form_of(alloc, table, condition, env)?;
+            let effect = ground_effect(alloc, table, part, env)?;
+            conditional(alloc, form, effect)
         }
     }
 }

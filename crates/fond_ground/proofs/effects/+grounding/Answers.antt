@@ -14,9 +14,10 @@ use Rattle.fond_oneof.specs.declared.effect.GroundEffect.{GroundEffect}
 use Rattle.fond_ground.specs.Atoms.{atom_number}
 use Rattle.fond_ground.specs.Effects.{is_numbered, numbered_by, HasOutcomes, HaveOutcomes}
 use Rattle.std.proofs.Math.Seq.{take-append_seam}
+use Rattle.std.proofs.lemmas.Result.{IfOk-weaker}
 use Rattle.fond_ground.proofs.Signs.{drop_here}
 use Rattle.fond_ground.proofs.Zips.{zip_more}
-use Rattle.fond_ground.proofs.Grounded.{numbered-Add, numbered-Delete, numbered-OneOf, outcomes-And, outcomes-OneOf, outcomes-Forall, outcomes-When, has-And, has-OneOf, has-When, has-always}
+use Rattle.fond_ground.proofs.Grounded.{numbered-Add, numbered-Delete, numbered-OneOf, outcomes-And, outcomes-OneOf, outcomes-Forall, outcomes-When, has-And, has-OneOf}
 use Rattle.fond_ground.proofs.effects.+grounding.Goals as goal
 
 pub ground_effect-ground_literal-requires : goal.ground_effect-ground_literal-requires
@@ -68,28 +69,20 @@ ground_effect-returns-in_ok-parts-in-Forall-clause-effect t c =
     ∙ sym (ap (outcomes env) c.in-Forall.is ∙ outcomes-Forall task env c.in-Forall.ranges c.in-Forall.part))
     (has-And task lists parts c.in_ok-parts-in-Forall.ensures.effects)
 
-pub ground_effect-returns-then-is_always-clause-effect : goal.ground_effect-returns-then-is_always-clause-effect
-ground_effect-returns-then-is_always-clause-effect t c =
+pub ground_effect-returns-in_ok-effect-in-When-clause-effect : goal.ground_effect-returns-in_ok-effect-in-When-clause-effect
+ground_effect-returns-in_ok-effect-in-When-clause-effect t c =
     let task = c.args.table.now.facts.task.now in
     let env = c.args.env.now.items in
-    let form = c.in_ok-condition-in-When.condition in
-    let part = c.in_ok-part-in-When.part in
-    let same : outcomes c.form_of.new.env.items c.deref-in-When.result.now ≡ outcomes env c.in-When.part.value = λ i. outcomes (c.in_ok-condition-in-When.ensures.env i) (c.deref-in-When.ensures i) in
-    subst (λ (some : List (List Literal)). HasOutcomes task some part) (sym (ap (outcomes env) c.in-When.is ∙ outcomes-When task env c.in-When.condition c.in-When.part))
-    (has-always task env c.in-When.condition form c.in_ok-condition-in-When.ensures.value (outcomes env c.in-When.part.value) part (c.is_always.ensures c.if-is_always.true)
-    (subst (λ (some : List (List Literal)). HasOutcomes task some part) same c.in_ok-part-in-When.ensures.effect))
-
-pub ground_effect-returns-in_ok-new-in-When-clause-effect : goal.ground_effect-returns-in_ok-new-in-When-clause-effect
-ground_effect-returns-in_ok-new-in-When-clause-effect t c =
-    let task = c.args.table.now.facts.task.now in
-    let env = c.args.env.now.items in
-    let form = c.in_ok-condition-in-When.condition in
-    let boxed = c.in_ok-new-in-When.field-0 in
-    let same : outcomes c.form_of.new.env.items c.deref-in-When.result.now ≡ outcomes env c.in-When.part.value = λ i. outcomes (c.in_ok-condition-in-When.ensures.env i) (c.deref-in-When.ensures i) in
-    subst (λ (some : List (List Literal)). HasOutcomes task some (made.When form boxed)) (sym (ap (outcomes env) c.in-When.is ∙ outcomes-When task env c.in-When.condition c.in-When.part))
-    (has-When task env c.in-When.condition form c.in_ok-condition-in-When.ensures.value (outcomes env c.in-When.part.value) boxed c.in_ok-condition-in-When.ensures.within
-    (subst (λ (one : GroundEffect). HasOutcomes task (outcomes env c.in-When.part.value) one) (sym c.in_ok-new-in-When.ensures.ok)
-    (subst (λ (some : List (List Literal)). HasOutcomes task some c.in_ok-part-in-When.part) same c.in_ok-part-in-When.ensures.effect)))
+    let condition = c.in-When.condition in
+    let form = c.in_ok-form-in-When.form in
+    let effect = c.in_ok-effect-in-When.effect in
+    let lists = outcomes env c.in-When.part.value in
+    let same : outcomes c.form_of.new.env.items c.deref-in-When.result.now ≡ lists = λ i. outcomes (c.in_ok-form-in-When.ensures.env i) (c.deref-in-When.ensures i) in
+    let whole = sym (ap (outcomes env) c.in-When.is ∙ outcomes-When task env condition c.in-When.part) in
+    IfOk-weaker c.conditional.result _ (HasOutcomes task (outcomes env c.args.effect.now))
+    (λ under all. subst (λ (some : List (List Literal)). HasOutcomes task some under) whole
+    (all task env condition lists c.in_ok-form-in-When.ensures.value c.in_ok-form-in-When.ensures.within (subst (λ (some : List (List Literal)). HasOutcomes task some effect) same c.in_ok-effect-in-When.ensures.effect)))
+    c.conditional.ensures
 
 pub ground_instances-returns-clause-effects : goal.ground_instances-returns-clause-effects
 ground_instances-returns-clause-effects t c =
