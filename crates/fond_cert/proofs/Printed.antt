@@ -66,12 +66,6 @@ next_text f xs i x before after whole at e is =
     rw one
     (ap (λ t. t ++ flat_map f (drop (suc i) xs)) is ∙ append_assoc before (f x) (flat_map f (drop (suc i) xs)) ∙ ap (λ l. before ++ flat_map f l) (sym (drop_at xs i x at)) ∙ e)
 
-pub grew_more : (start before after text : List ℕ) → ((more : List ℕ) × (before ≡ start ++ more)) → after ≡ before ++ text → (more : List ℕ) × (after ≡ start ++ more)
-grew_more start before after text h e = (h.0 ++ text, e ∙ ap (λ t. t ++ text) h.1 ∙ append_assoc start h.0 text)
-
-pub grew_twice : (start before after : List ℕ) → ((more : List ℕ) × (before ≡ start ++ more)) → ((more : List ℕ) × (after ≡ before ++ more)) → (more : List ℕ) × (after ≡ start ++ more)
-grew_twice start before after one two = grew_more start before after two.0 one two.1
-
 -- lines of which each item makes several, item by item
 pub several_lines : {X : Type 0} (f : X → List WrittenLine) (xs : List X) → lines_text (flat_map f xs) ≡ flat_map (λ (x : X). lines_text (f x)) xs
 several_lines f [] = refl

@@ -6,10 +6,6 @@ use Rattle.std.proofs.lemmas.List.{append_assoc, append-nil}
 pub grew_none : (first out : List ℕ) → out ≡ first → (more : List ℕ) × (out ≡ first ++ more)
 grew_none first out same = ([], same ∙ sym (append-nil first))
 
--- one more text was appended
-pub grew_more : (first out next text : List ℕ) → ((more : List ℕ) × (out ≡ first ++ more)) → next ≡ out ++ text → (more : List ℕ) × (next ≡ first ++ more)
-grew_more first out next text grew is = (grew.0 ++ text, is ∙ ap (λ (list : List ℕ). list ++ text) grew.1 ∙ append_assoc first grew.0 text)
-
 -- one more text was not appended
 pub grew_same : (first out next : List ℕ) → ((more : List ℕ) × (out ≡ first ++ more)) → next ≡ out → (more : List ℕ) × (next ≡ first ++ more)
 grew_same first out next grew same = (grew.0, same ∙ grew.1)

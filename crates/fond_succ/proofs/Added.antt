@@ -65,7 +65,3 @@ pub text_more : {X : Type 0} (text : X → List ℕ) (xs : List X) (i : ℕ) (x 
 text_more text xs i x out next whole at is before =
     let split : drop i xs ≡ x ∷ drop (i + 1) xs = at_drop_more (λ rest. rest) xs i x (slice_get_within xs i x at) ∙ ap (λ y. y ∷ drop (i + 1) xs) (get_or_from_slice_get xs i x x at) in
     ap (λ front. front ++ flat_map text (drop (i + 1) xs)) is ∙ append_assoc out (text x) (flat_map text (drop (i + 1) xs)) ∙ sym (ap (λ rest. out ++ flat_map text rest) split) ∙ before
-
--- a text that grew grows on
-pub grew_more : (first out next more : List ℕ) → next ≡ out ++ more → ((text : List ℕ) × (out ≡ first ++ text)) → (text : List ℕ) × (next ≡ first ++ text)
-grew_more first out next more is (text, grew) = (text ++ more, is ∙ ap (λ front. front ++ more) grew ∙ append_assoc first text more)

@@ -44,9 +44,9 @@ fn verdict_answer(alloc: Global, game: &Task, cert: &Cert) -> Result<Answer, NoM
 
 /// The answer to the text of a certificate of a task, or why it is none.
 fn certified_verdict(alloc: Global, files: &TaskFiles, cert: &[u8]) -> Result<Answer, Rejection>
-    requires { IsGroundOf files.now.task files.now.game }
-    ensures replied { IfOk result (AnswersCheck files.now.task files.now.game cert.now) }
-    ensures rejected { IfErr result (Rejects (AnswersCheck files.now.task files.now.game cert.now)) }
+    requires { IsGroundOf files.now.task.value files.now.game.value }
+    ensures replied { IfOk result (AnswersCheck files.now.task.value files.now.game.value cert.now) }
+    ensures rejected { IfErr result (Rejects (AnswersCheck files.now.task.value files.now.game.value cert.now)) }
 {
     let cert = read_cert(alloc, &files.game, cert)?;
     Ok(verdict_answer(alloc, &files.game, &cert)?)

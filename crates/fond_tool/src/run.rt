@@ -60,9 +60,9 @@ fn certified_trace(
     cert: &[u8],
     script: &[u8],
 ) -> Result<Answer, Rejection>
-    requires { IsGroundOf files.now.task files.now.game }
-    ensures replied { IfOk result (AnswersRun files.now.task files.now.game cert.now script.now) }
-    ensures rejected { IfErr result (Rejects (AnswersRun files.now.task files.now.game cert.now script.now)) }
+    requires { IsGroundOf files.now.task.value files.now.game.value }
+    ensures replied { IfOk result (AnswersRun files.now.task.value files.now.game.value cert.now script.now) }
+    ensures rejected { IfErr result (Rejects (AnswersRun files.now.task.value files.now.game.value cert.now script.now)) }
 {
     let cert = read_cert(alloc, &files.game, cert)?;
     let numbers = read_script(alloc, script)?;

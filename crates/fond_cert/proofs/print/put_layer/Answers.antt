@@ -1,4 +1,4 @@
-use Rattle.fond_cert.proofs.Printed.{grew_twice}
+use Rattle.fond_text.proofs.Grown.{grew_twice}
 use Rattle.fond_cert.proofs.print.put_layer.Goals as goal
 
 pub returns-in_err-put_cube_line-clause-grew : goal.returns-in_err-put_cube_line-clause-grew

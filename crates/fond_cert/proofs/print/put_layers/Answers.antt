@@ -1,5 +1,6 @@
 use Rattle.fond_cert.specs.Printed.{layer_text}
-use Rattle.fond_cert.proofs.Printed.{next_text, grew_more, grew_twice}
+use Rattle.fond_text.proofs.Grown.{grew_more, grew_twice}
+use Rattle.fond_cert.proofs.Printed.{next_text}
 use Rattle.fond_cert.proofs.print.put_layers.Goals as goal
 
 pub loop-i-preserved : goal.loop-i-preserved

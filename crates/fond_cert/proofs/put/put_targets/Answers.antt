@@ -1,4 +1,4 @@
-use Rattle.fond_cert.proofs.Printed.{grew_more, grew_twice}
+use Rattle.fond_text.proofs.Grown.{grew_more, grew_twice}
 use Rattle.fond_cert.proofs.put.put_targets.Goals as goal
 
 pub returns-in_err-put_target-clause-grew : goal.returns-in_err-put_target-clause-grew

@@ -1,7 +1,8 @@
 use Rattle.std.proofs.Common.{◌++◌}
 use Rattle.std.specs.Prelude.{codes}
 use Rattle.std.specs.Fmt.{decimal}
-use Rattle.fond_exec.proofs.Grown.{grew_none, grew_more, grew_same, text_more}
+use Rattle.fond_text.proofs.Grown.{grew_more}
+use Rattle.fond_exec.proofs.Grown.{grew_none, grew_same, text_more}
 use Rattle.fond_exec.proofs.trace.put_goal.Goals as goal
 
 pub returns-in_err-extend_from_slice-clause-grew : goal.returns-in_err-extend_from_slice-clause-grew

@@ -4,7 +4,8 @@ use Rattle.std.specs.Fmt.{decimal}
 use Rattle.std.specs.Option.{option_map_or}
 use Rattle.fond_task.specs.declared.task.Act.{Act}
 use Rattle.fond_task.specs.Texts.{action_text}
-use Rattle.fond_exec.proofs.Grown.{grew_none, grew_more, grew_same, text_more}
+use Rattle.fond_text.proofs.Grown.{grew_more}
+use Rattle.fond_exec.proofs.Grown.{grew_none, grew_same, text_more}
 use Rattle.fond_exec.proofs.trace.put_taken.Goals as goal
 
 pub returns-in_err-extend_from_slice-clause-grew : goal.returns-in_err-extend_from_slice-clause-grew

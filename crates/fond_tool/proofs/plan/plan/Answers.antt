@@ -15,4 +15,4 @@ returns-in_err-files-clause-rejected c =
 
 pub returns-clause-replied : goal.returns-clause-replied
 returns-clause-replied c =
-    (c.in-Some.number, c.in-Some.ensures, TaskReply.answered c.in_ok-files.files.task c.in_ok-files.files.game c.in_ok-planned.field-0 c.in_ok-files.ensures.read c.in_ok-planned.ensures)
+    (c.in-Some.number, c.in-Some.ensures, TaskReply.answered c.in_ok-files.files.task.value c.in_ok-files.files.game.value c.in_ok-planned.field-0 c.in_ok-files.ensures.read c.in_ok-planned.ensures)

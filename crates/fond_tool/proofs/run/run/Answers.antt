@@ -20,9 +20,9 @@ certified_trace-requires c = c.in_ok-files.ensures.read.1
 
 pub returns-clause-replied : goal.returns-clause-replied
 returns-clause-replied c =
-    IfOk-weaker c.certified_trace.result _ _ (λ (reply : Reply) answers. TaskReply.answered c.in_ok-files.files.task c.in_ok-files.files.game reply c.in_ok-files.ensures.read answers) c.certified_trace.ensures.replied
+    IfOk-weaker c.certified_trace.result _ _ (λ (reply : Reply) answers. TaskReply.answered c.in_ok-files.files.task.value c.in_ok-files.files.game.value reply c.in_ok-files.ensures.read answers) c.certified_trace.ensures.replied
 
 pub returns-clause-rejected : goal.returns-clause-rejected
 returns-clause-rejected c =
     IfErr-weaker c.certified_trace.result _ _
-    (λ rejection. rejects_also _ _ rejection (λ (reply : Reply) answers. TaskReply.answered c.in_ok-files.files.task c.in_ok-files.files.game reply c.in_ok-files.ensures.read answers)) c.certified_trace.ensures.rejected
+    (λ rejection. rejects_also _ _ rejection (λ (reply : Reply) answers. TaskReply.answered c.in_ok-files.files.task.value c.in_ok-files.files.game.value reply c.in_ok-files.ensures.read answers)) c.certified_trace.ensures.rejected

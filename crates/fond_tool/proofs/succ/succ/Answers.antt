@@ -19,9 +19,9 @@ named_successors-requires-clause-ground c = c.in_ok-files.ensures.read.1
 
 pub returns-clause-replied : goal.returns-clause-replied
 returns-clause-replied c =
-    IfOk-weaker c.named_successors.result _ _ (λ (reply : Reply) answers. SuccReply.answered c.in_ok-files.files.task reply c.in_ok-files.ensures.read.0 answers) c.named_successors.ensures.replied
+    IfOk-weaker c.named_successors.result _ _ (λ (reply : Reply) answers. SuccReply.answered c.in_ok-files.files.task.value reply c.in_ok-files.ensures.read.0 answers) c.named_successors.ensures.replied
 
 pub returns-clause-rejected : goal.returns-clause-rejected
 returns-clause-rejected c =
     IfErr-weaker c.named_successors.result _ _
-    (λ rejection. rejects_also _ _ rejection (λ (reply : Reply) answers. SuccReply.answered c.in_ok-files.files.task reply c.in_ok-files.ensures.read.0 answers)) c.named_successors.ensures.rejected
+    (λ rejection. rejects_also _ _ rejection (λ (reply : Reply) answers. SuccReply.answered c.in_ok-files.files.task.value reply c.in_ok-files.ensures.read.0 answers)) c.named_successors.ensures.rejected
