@@ -14,14 +14,19 @@ const DOMAIN: &[u8] =
 
 const PROBLEM: &[u8] = b"(define (problem c) (:domain coin) (:init (round)) (:goal (heads)))";
 
-/// The task of the coin.
-pub fn coin(alloc: Global) -> Result<LiftedTask, FrontError> {
+/// The task of a domain and a problem without unfair schemas.
+pub fn task_of(alloc: Global, domain: &[u8], problem: &[u8]) -> Result<LiftedTask, FrontError> {
     let texts = TaskTexts {
-        domain: Bytes::copy(alloc, DOMAIN)?,
-        problem: Bytes::copy(alloc, PROBLEM)?,
+        domain: Bytes::copy(alloc, domain)?,
+        problem: Bytes::copy(alloc, problem)?,
         side: Bytes::new(alloc),
     };
     read_task(alloc, &texts)
+}
+
+/// The task of the coin.
+pub fn coin(alloc: Global) -> Result<LiftedTask, FrontError> {
+    task_of(alloc, DOMAIN, PROBLEM)
 }
 
 /// The ground task of the coin: the atom `(heads)` and the action `(flip)`.

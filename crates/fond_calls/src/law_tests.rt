@@ -10,6 +10,7 @@ use fond_meaning::laws::{
     truth_is_tested, tuples_lie_in_ranges,
 };
 use fond_reader::laws::{clean_domains_are_read, clean_problems_are_read};
+use fond_relax::laws::stable_cubes_are_sure;
 use fond_rules::laws::{earlier_rules_decide, selected_rule_is_policy};
 use fond_task::laws::{full_cubes_are_exact, images_are_sound, values_are_sound};
 use fond_tree::laws::{no_tree_has_a_fault, one_fault, one_tree, read_trees_are_short};
@@ -58,6 +59,7 @@ fn laws_of_games_can_be_called() {
     ranks_exclude_traps();
     layers_force();
     refusals_hold();
+    stable_cubes_are_sure();
 }
 
 #[test]

@@ -35,6 +35,8 @@ mod reader_tests;
 #[cfg(test)]
 mod regress_tests;
 #[cfg(test)]
+mod relax_tests;
+#[cfg(test)]
 mod rules_tests;
 #[cfg(test)]
 mod state_tests;

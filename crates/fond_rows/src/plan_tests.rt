@@ -32,8 +32,14 @@ const UPPER_FILES: [&str; 3] = [
     "",
 ];
 
+const FAR_FILES: [&str; 3] = [
+    "(define (domain far) (:predicates (g) (a) (h))\n(:action flip :effect (oneof (a) (not (a))))\n(:action go :precondition (h) :effect (g)))\n",
+    "(define (problem f) (:domain far) (:goal (g)))\n",
+    "",
+];
+
 /// A name, the files of the task, the budget, and the status and the text of the answer.
-const ROWS: [(&str, [&str; 3], &str, u8, &str); 13] = [
+const ROWS: [(&str, [&str; 3], &str, u8, &str); 14] = [
     (
         "a goal that holds at once",
         WON_FILES,
@@ -80,6 +86,13 @@ const ROWS: [(&str, [&str; 3], &str, u8, &str); 13] = [
         "no action",
         IDLE_FILES,
         "5",
+        1,
+        "dualfond 1 refusal\nlayer\ncube -(g)\nend\n",
+    ),
+    (
+        "a hopeless task with more states than its budget",
+        FAR_FILES,
+        "1",
         1,
         "dualfond 1 refusal\nlayer\ncube -(g)\nend\n",
     ),
@@ -156,7 +169,7 @@ fn a_failing_write_is_a_write_fault(rt: HostRuntime) -> Result<(), Fail> {
 }
 
 /// The files of tasks, the status of `plan`, and the text of `check` for what it prints.
-const PLANNED: [([&str; 3], u8, &str); 8] = [
+const PLANNED: [([&str; 3], u8, &str); 9] = [
     (COIN_FILES, 0, "accepted policy lean\n"),
     (MIX_FILES, 0, "accepted policy lean\n"),
     (DETOUR_FILES, 0, "accepted policy lean\n"),
@@ -164,6 +177,7 @@ const PLANNED: [([&str; 3], u8, &str); 8] = [
     (PIT_FILES, 1, "accepted refusal\n"),
     (SWAP_FILES, 1, "accepted refusal\n"),
     (UNFAIR_FILES, 1, "accepted refusal\n"),
+    (FAR_FILES, 1, "accepted refusal\n"),
     ([BLOCKS, BLOCKS_P, ""], 0, "accepted policy lean\n"),
 ];
 
