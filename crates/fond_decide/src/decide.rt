@@ -133,7 +133,7 @@ impl Planner {
     }
 }
 
-/// The refusal of a task whose initial state is hopeless by this cube, which is its one layer.
+/// The refusal of a task whose initial state is hopeless by this cube. Its one layer is the cube.
 fn hopeless_refusal(alloc: Global, t: &Task, cube: Cube) -> Result<Cert, NoMemory>
     requires { IsHopelessBy t.now t.now.init cube }
     ensures { IfOk result (IsRightCert t.now) }

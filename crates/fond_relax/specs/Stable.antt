@@ -25,7 +25,7 @@ StaysAt task cube number = (act : Act) → slice_get task.acts number ≡ Some a
 abbrev pub IsStable : Task → CubeView → Type 0
 IsStable task cube = (number : ℕ) → StaysAt task cube number
 
--- a state is hopeless by a cube: the cube is stable, the state lies in it, and the goal is No on it
+-- a state is hopeless by a cube over the task's atoms: the cube is stable, the state lies in it, and the goal is No on it
 pub record IsHopelessBy (task : Task) (state : List Bool) (cube : CubeView) : Type 0 where
   pub over : length cube ≡ length task.atoms
   pub stable : IsStable task cube

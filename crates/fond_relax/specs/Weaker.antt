@@ -13,7 +13,7 @@ abbrev pub literals : CubeView → ℕ
 literals [] = 0
 literals (known ∷ cube) = one_if known + literals cube
 
--- a cube has become another one in which it lies; if it changed, that one has fewer literals, and otherwise it is the same
+-- a cube has become another one over as many atoms, in which it lies; if it changed, that one has fewer literals, and otherwise it is the same
 pub record IsWeaker (old new : CubeView) (changed : Bool) : Type 0 where
   pub long : length new ≡ length old
   pub lies : CubeLiesIn old new

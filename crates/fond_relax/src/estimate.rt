@@ -20,7 +20,7 @@ use std::alloc::Global;
 pub enum Guess {
     /// A goal may be reachable. Nothing is claimed of the number, which is 0 today.
     Reach(u64),
-    /// No goal is reachable: the state lies in this stable cube, which has no goal.
+    /// No goal is reachable: the state lies in this stable cube, on which the goal is No.
     Never(Cube),
 }
 
@@ -32,9 +32,10 @@ fn is_no(form: &Form, cube: &Cube) -> bool
     matches!(value(form, cube), Kleene::No)
 }
 
-/// Whether some stable cube of the state has no goal. If so, the least one is returned. Goes through all outcomes again and
-/// again, in both directions, until none loses a literal: in the worst case once for each atom, and mostly a few times. An
-/// outcome takes time in the number of atoms by 64. Takes memory for two cubes.
+/// Whether the goal is No on some stable cube of the state. If so, such a cube is returned; it is the least one, which no clause
+/// says. Goes through all outcomes again and again, in both directions, until none loses a literal: in the worst case once for
+/// each atom, and mostly a few times. An outcome takes time in its size and in the number of words of a cube, and the loss of
+/// literals that of atoms. Takes memory for two cubes.
 pub fn estimate(alloc: Global, t: &Task, s: &State) -> Result<Guess, NoMemory>
     requires { length s.now ≡ length t.now.atoms }
     ensures { IfOk result (IsGuess t.now s.now) }

@@ -2,7 +2,7 @@
 
 ghost use Rattle.fond_relax.specs.Laws.{StableCubesAreSure};
 
-/// A stable cube without a goal is a sure layer by itself.
+/// A stable cube on which the goal is No is a sure layer by itself.
 pub fn stable_cubes_are_sure()
     ensures { StableCubesAreSure }
 {}

@@ -48,8 +48,9 @@ fn certified_verdict(alloc: Global, files: &TaskFiles, cert: &[u8]) -> Result<An
     ensures replied { IfOk result (AnswersCheck files.now.task.value files.now.game.value cert.now) }
     ensures rejected { IfErr result (Rejects (AnswersCheck files.now.task.value files.now.game.value cert.now)) }
 {
-    let cert = read_cert(alloc, &files.game, cert)?;
-    Ok(verdict_answer(alloc, &files.game, &cert)?)
+    let game: &Task = &files.game;
+    let cert = read_cert(alloc, game, cert)?;
+    Ok(verdict_answer(alloc, game, &cert)?)
 }
 
 /// The answer to `check`: the verdict on the certificate, or why there is none.

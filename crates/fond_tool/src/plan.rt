@@ -74,10 +74,12 @@ fn planned(alloc: Global, files: &TaskFiles, budget: u32) -> Result<Answer, NoMe
     requires ground { IsGroundOf files.now.task.value files.now.game.value }
     ensures { IfOk result (AnswersPlan files.now.task.value files.now.game.value budget) }
 {
-    decision_answer(alloc, &files.game, budget)
+    let game: &Task = &files.game;
+    decision_answer(alloc, game, budget)
 }
 
-/// The answer to `plan`: a policy, that there is none, or that more states are reachable than the budget.
+/// The answer to `plan`: a policy, that there is none, or that more states are reachable than the budget and the initial state
+/// is not hopeless.
 pub fn plan(alloc: Global, texts: &TaskTexts, budget: &Word) -> Result<Answer, Rejection>
     requires { (n : ℕ) × IsBudget budget.now n }
     ensures replied { IfOk result (PlanReply texts.now budget.now) }

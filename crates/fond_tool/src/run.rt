@@ -64,10 +64,11 @@ fn certified_trace(
     ensures replied { IfOk result (AnswersRun files.now.task.value files.now.game.value cert.now script.now) }
     ensures rejected { IfErr result (Rejects (AnswersRun files.now.task.value files.now.game.value cert.now script.now)) }
 {
-    let cert = read_cert(alloc, &files.game, cert)?;
+    let game: &Task = &files.game;
+    let cert = read_cert(alloc, game, cert)?;
     let numbers = read_script(alloc, script)?;
     let rules = rules_of(alloc, cert);
-    Ok(trace_answer(alloc, &files.game, &rules, &numbers)?)
+    Ok(trace_answer(alloc, game, &rules, &numbers)?)
 }
 
 /// The answer to `run`: the trace of the certificate's rules over the script, or why there is none.

@@ -10,7 +10,7 @@ pub enum Status {
     Done,
     /// No policy is a solution.
     Unsolvable,
-    /// More states than the budget are reachable.
+    /// More states than the budget are reachable, and the initial state is not hopeless.
     Undecided,
     /// A file has a fault.
     Refused,

@@ -10,8 +10,9 @@ returns-in_err-cert-clause-rejected c =
     let game = c.args.files.now.game.value in
     let error = c.in_err-cert.field-0.0 in
     rejected_by _ (of_cert error) (AnswersCheck task game c.args.cert.now) c.from_residual.ensures.1
-    (cert_rejected task game c.args.cert.now error c.in_err-cert.ensures.refused)
+    (cert_rejected task game c.args.cert.now error (rw c.deref-game.ensures at c.in_err-cert.ensures.refused))
 
 pub returns-clause-replied : goal.returns-clause-replied
 returns-clause-replied c =
-    judged c.args.files.now.task.value c.args.files.now.game.value c.args.cert.now c.requires c.in_ok-cert.cert (c.in_ok-cert.ensures.belongs, c.in_ok-cert.ensures.small, c.in_ok-cert.ensures.read) c.in_ok-verdict_answer.field-0 c.in_ok-verdict_answer.ensures
+    judged c.args.files.now.task.value c.args.files.now.game.value c.args.cert.now c.requires c.in_ok-cert.cert (rw c.deref-game.ensures at c.in_ok-cert.ensures.belongs, c.in_ok-cert.ensures.small, rw c.deref-game.ensures at c.in_ok-cert.ensures.read)
+    c.in_ok-verdict_answer.field-0 (rw c.deref-game.ensures at c.in_ok-verdict_answer.ensures)

@@ -12,7 +12,7 @@ returns-in_err-cert-clause-rejected c =
     let game = c.args.files.now.game.value in
     let error = c.in_err-cert.field-0.0 in
     rejected_by _ (of_cert error) (AnswersRun task game c.args.cert.now c.args.script.now) c.from_residual.ensures.1
-    (cert_rejected task game c.requires c.args.cert.now c.args.script.now error c.in_err-cert.ensures.refused)
+    (cert_rejected task game c.requires c.args.cert.now c.args.script.now error (rw c.deref-game.ensures at c.in_err-cert.ensures.refused))
 
 pub returns-in_err-numbers-clause-rejected : goal.returns-in_err-numbers-clause-rejected
 returns-in_err-numbers-clause-rejected c =
@@ -20,13 +20,13 @@ returns-in_err-numbers-clause-rejected c =
     let game = c.args.files.now.game.value in
     let error = c.in_err-numbers.field-0.0 in
     rejected_by _ (of_script error) (AnswersRun task game c.args.cert.now c.args.script.now) c.from_residual-in_err-numbers.ensures.1
-    (script_rejected task game c.requires c.args.cert.now c.args.script.now c.in_ok-cert.cert (c.in_ok-cert.ensures.belongs, c.in_ok-cert.ensures.small, c.in_ok-cert.ensures.read) error c.in_err-numbers.ensures.refused)
+    (script_rejected task game c.requires c.args.cert.now c.args.script.now c.in_ok-cert.cert (rw c.deref-game.ensures at c.in_ok-cert.ensures.belongs, c.in_ok-cert.ensures.small, rw c.deref-game.ensures at c.in_ok-cert.ensures.read) error c.in_err-numbers.ensures.refused)
 
 pub trace_answer-requires : goal.trace_answer-requires
-trace_answer-requires c = subst (BelongTo c.args.files.now.game.value) (sym c.rules_of-rules.ensures) (rules_belong c.args.files.now.game.value c.in_ok-cert.cert c.in_ok-cert.ensures.belongs)
+trace_answer-requires c = subst (BelongTo c.deref-game.result.now) (sym c.rules_of-rules.ensures) (rules_belong c.deref-game.result.now c.in_ok-cert.cert c.in_ok-cert.ensures.belongs)
 
 pub returns-clause-replied : goal.returns-clause-replied
 returns-clause-replied c =
     let numbers = c.in_ok-numbers.numbers.items in
-    traced c.args.files.now.task.value c.args.files.now.game.value c.requires c.args.cert.now c.args.script.now c.in_ok-cert.cert (c.in_ok-cert.ensures.belongs, c.in_ok-cert.ensures.small, c.in_ok-cert.ensures.read)
-    numbers c.in_ok-trace_answer.field-0 c.in_ok-numbers.ensures.read (rw (c.deref.ensures.value, c.rules_of-rules.ensures) at c.in_ok-trace_answer.ensures)
+    traced c.args.files.now.task.value c.args.files.now.game.value c.requires c.args.cert.now c.args.script.now c.in_ok-cert.cert (rw c.deref-game.ensures at c.in_ok-cert.ensures.belongs, c.in_ok-cert.ensures.small, rw c.deref-game.ensures at c.in_ok-cert.ensures.read)
+    numbers c.in_ok-trace_answer.field-0 c.in_ok-numbers.ensures.read (rw (c.deref.ensures.value, c.rules_of-rules.ensures, c.deref-game.ensures) at c.in_ok-trace_answer.ensures)
