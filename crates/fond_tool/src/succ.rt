@@ -63,5 +63,7 @@ pub fn succ(alloc: Global, texts: &TaskTexts, action: &Word) -> Result<Answer, R
     ensures rejected { IfErr result (Rejects (SuccReply texts.now action.now)) }
 {
     let files = read_files(alloc, texts)?;
-    named_successors(alloc, &files.task, &files.game, action)
+    let task: &LiftedTask = &files.task;
+    let game: &Task = &files.game;
+    named_successors(alloc, task, game, action)
 }

@@ -15,13 +15,13 @@ returns-in_err-files-clause-rejected c =
     (files_rejected holds (IsRefusal c.args.texts.now) (λ (fault : Fault) first. SuccReply.refused fault first) error c.in_err-files.ensures.refused)
 
 pub named_successors-requires-clause-ground : goal.named_successors-requires-clause-ground
-named_successors-requires-clause-ground c = c.in_ok-files.ensures.read.1
+named_successors-requires-clause-ground c = rw (c.deref-task.ensures, c.deref-game.ensures) c.in_ok-files.ensures.read.1
 
 pub returns-clause-replied : goal.returns-clause-replied
 returns-clause-replied c =
-    IfOk-weaker c.named_successors.result _ _ (λ (reply : Reply) answers. SuccReply.answered c.in_ok-files.files.task.value reply c.in_ok-files.ensures.read.0 answers) c.named_successors.ensures.replied
+    IfOk-weaker c.named_successors.result _ _ (λ (reply : Reply) answers. SuccReply.answered c.in_ok-files.files.task.value reply c.in_ok-files.ensures.read.0 answers) (rw c.deref-task.ensures at c.named_successors.ensures.replied)
 
 pub returns-clause-rejected : goal.returns-clause-rejected
 returns-clause-rejected c =
     IfErr-weaker c.named_successors.result _ _
-    (λ rejection. rejects_also _ _ rejection (λ (reply : Reply) answers. SuccReply.answered c.in_ok-files.files.task.value reply c.in_ok-files.ensures.read.0 answers)) c.named_successors.ensures.rejected
+    (λ rejection. rejects_also _ _ rejection (λ (reply : Reply) answers. SuccReply.answered c.in_ok-files.files.task.value reply c.in_ok-files.ensures.read.0 answers)) (rw c.deref-task.ensures at c.named_successors.ensures.rejected)

@@ -18,7 +18,7 @@ returns-in_err-game-clause-refused c =
     let texts = c.args.texts.now in
     let error = c.in_err-game.field-0.0 in
     handed_on _ error (IsRefusal texts) c.from_residual-in_err-game.ensures.1
-    (refuses_also (IsGroundFault c.in_ok-task.task.value) (IsRefusal texts) (λ (fault : Fault) is. inr (c.in_ok-task.task.value, c.in_ok-task.ensures.read, is)) error c.in_err-game.ensures.refused)
+    (refuses_also (IsGroundFault c.in_ok-task.task.value) (IsRefusal texts) (λ (fault : Fault) is. inr (c.in_ok-task.task.value, c.in_ok-task.ensures.read, is)) error (rw c.deref.ensures at c.in_err-game.ensures.refused))
 
 pub returns-clause-read : goal.returns-clause-read
-returns-clause-read c = ((c.in_ok-task.ensures.read, c.in_ok-game.ensures.clean), c.in_ok-game.ensures.grounded)
+returns-clause-read c = ((c.in_ok-task.ensures.read, rw c.deref.ensures at c.in_ok-game.ensures.clean), rw c.deref.ensures at c.in_ok-game.ensures.grounded)
