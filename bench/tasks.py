@@ -51,11 +51,9 @@ def grid(sides, length, goal_in_reach=True):
 def wide(bits, idle):
     """A counter beside many actions that never apply, each with an atom of its own, which make each state wide."""
     domain, problem, side = counter(bits)
-    atoms = " ".join(f"(x{i}) (y{i})" for i in range(idle))
-    actions = "\n".join(f"(:action idle{i} :precondition (and (x{i}) (y{i})) :effect (not (x{i})))" for i in range(idle))
-    domain = domain.rstrip()[:-1].replace("(:predicates", f"(:predicates {atoms}", 1) + "\n" + actions + ")\n"
-    inits = " ".join(f"(x{i})" for i in range(idle))
-    return domain, problem.replace("(:goal", f"(:init {inits}) (:goal", 1), side
+    atoms = " ".join(f"(x{i})" for i in range(idle))
+    actions = "\n".join(f"(:action idle{i} :precondition (x{i}) :effect (not (x{i})))" for i in range(idle))
+    return domain.rstrip()[:-1].replace("(:predicates", f"(:predicates {atoms}", 1) + "\n" + actions + ")\n", problem, side
 
 
 TASKS = [
