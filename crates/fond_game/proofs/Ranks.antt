@@ -29,7 +29,7 @@ use Rattle.fond_game.specs.Certificates.{IsRightPolicy}
 use Rattle.fond_game.proofs.Lists.{Contains_numbered, number_of, same_numbered, found_by, found_at, something}
 use Rattle.fond_game.proofs.Reached.{reached_long, next_lies}
 
-yes_true : (state : List Bool) (cube : CubeView) (form : Form) → LiesIn state cube → value cube form ≡ Yes → is_true state form ≡ true
+pub yes_true : (state : List Bool) (cube : CubeView) (form : Form) → LiesIn state cube → value cube form ≡ Yes → is_true state form ≡ true
 yes_true state cube form lies is = let P : Kleene → Type 0 = λ a. Tells a (is_true state form) in subst P is (Tells-value state cube lies form)
 
 module _ (task : Task) (pairs : List Pair) (rules : List Rule) (sure : (number : ℕ) (rule : Rule) → slice_get rules number ≡ Some rule → IsSureRule task pairs rules number rule)
@@ -82,28 +82,33 @@ module _ (task : Task) (pairs : List Pair) (rules : List Rule) (sure : (number :
       let small : number ≤ n = omega (arith, lower) in
       not_met n (none_below n) number small state stays rule.cond lies sure_rule.act numbered_act (yes_true state rule.cond sure_rule.act.pre lies sure_rule.applicable) rule.targets sure_rule.met
 
--- ranks exclude traps
-pub ranks_exclude : (task : Task) (layers : List (List CubeView)) (pairs : List Pair) (rules : List Rule) (reach : ℕ) → IsRightPolicy task layers pairs rules reach → IsSolution task (selected rules)
-ranks_exclude task layers pairs rules reach right = record {
+-- sure rules are a solution if one holds in each reached state that is no goal
+pub solution_by : (task : Task) (pairs : List Pair) (rules : List Rule) → ((number : ℕ) (rule : Rule) → slice_get rules number ≡ Some rule → IsSureRule task pairs rules number rule) →
+    ((state : List Bool) → Reach task (selected rules) state → ¬ IsGoal task state → IsSome (selected rules state)) → IsSolution task (selected rules)
+solution_by task pairs rules sure ruled = record {
   acts = λ state reached open_.
       let found = found_rule state reached open_ in
       let at = found_at (λ rule. lies_in state rule.cond) rules found.0 found.1 in
-      let sure = right.rules_sure at.0 found.0 at.1 in
+      let one = sure at.0 found.0 at.1 in
       let lies = (lies_in-Decides state found.0.cond).0 at.2 in (
         found.0.act,
         ap (option_map (λ (rule : Rule). rule.act)) found.1,
-        record { act = sure.act; numbered = sure.has_act; holds = yes_true state found.0.cond sure.act.pre lies sure.applicable },
+        record { act = one.act; numbered = one.has_act; holds = yes_true state found.0.cond one.act.pre lies one.applicable },
       );
   free = λ trap is.
       let stays = is.each is.some.0 is.some.1 in
       let found = found_rule is.some.0 stays.reached stays.open_ in
       let at = found_at (λ rule. lies_in is.some.0 rule.cond) rules found.0 found.1 in
-      none_below task pairs rules right.rules_sure trap is (suc at.0) is.some.0 is.some.1 at.0 found.0 (omega arith) at.1 found.1;
+      none_below task pairs rules sure trap is (suc at.0) is.some.0 is.some.1 at.0 found.0 (omega arith) at.1 found.1;
 }
   where
     found_rule : (state : List Bool) → Reach task (selected rules) state → ¬ IsGoal task state → (rule : Rule) × (find (λ rule. lies_in state rule.cond) rules ≡ Some rule)
-    found_rule state reached open_ = something (find (λ rule. lies_in state rule.cond) rules) (is_some_from (find (λ rule. lies_in state rule.cond) rules) (right.ruled state reached open_))
+    found_rule state reached open_ = something (find (λ rule. lies_in state rule.cond) rules) (is_some_from (find (λ rule. lies_in state rule.cond) rules) (ruled state reached open_))
       where
         is_some_from : (o : Option Rule) → IsSome (option_map (λ (rule : Rule). rule.act) o) → IsSome o
         is_some_from None has = has
         is_some_from (Some rule) has = refl
+
+-- ranks exclude traps
+pub ranks_exclude : (task : Task) (layers : List (List CubeView)) (pairs : List Pair) (rules : List Rule) (reach : ℕ) → IsRightPolicy task layers pairs rules reach → IsSolution task (selected rules)
+ranks_exclude task layers pairs rules reach right = solution_by task pairs rules right.rules_sure right.ruled
