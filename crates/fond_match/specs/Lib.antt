@@ -3,3 +3,4 @@ pub mod Visits
 pub mod Runs
 pub mod Matchers
 pub mod Lying
+pub mod Besides

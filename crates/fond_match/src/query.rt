@@ -4,6 +4,7 @@ ghost use Rattle.std.specs.Prelude.{◌≡◌, length};
 
 use fond_state::cube::Cube;
 use fond_state::state::State;
+use std::marker::Model;
 
 /// What has a cube.
 pub trait HasCube {
@@ -99,5 +100,54 @@ impl Query for State {
 
     fn lies_in(&self, cube: &Cube) -> bool {
         cube.holds(self)
+    }
+}
+
+/// A cube, as what lies beside those cubes that it does not contradict.
+#[derive(Drop)]
+pub struct Beside<'a> {
+    cube: &'a Cube,
+}
+
+impl<'a> Model for Beside<'a> {
+    ghost use Rattle.std.specs.Prelude.{List, Bool, Option};
+
+    ghost Value = { List (Option Bool) };
+
+    ghost view = { λ b. b.cube.now };
+}
+
+impl<'a> Beside<'a> {
+    /// The cube as such a query.
+    pub fn new(cube: &'a Cube) -> Beside<'a>
+        ensures { result ≡ cube.now }
+    {
+        Beside { cube }
+    }
+}
+
+/// A cube lies beside those that have no literal of which it has the opposite.
+impl<'a> Query for Beside<'a> {
+    ghost use Rattle.std.specs.Prelude.{length, Some};
+    ghost use Rattle.fond_state.specs.Cubes.{literal_at};
+    ghost use Rattle.fond_match.specs.Besides.{permits, is_beside, beside_has_each};
+
+    ghost atoms = { length };
+
+    ghost has = { λ c atom sign. permits (literal_at c atom) (Some sign) };
+
+    ghost lies = { is_beside };
+
+    ghost has_each = { beside_has_each };
+
+    fn has(&self, atom: u32, sign: bool) -> bool {
+        match self.cube.literal(atom) {
+            Some(known) => known == sign,
+            None => true,
+        }
+    }
+
+    fn lies_in(&self, cube: &Cube) -> bool {
+        !self.cube.contradicts(cube)
     }
 }

@@ -2,11 +2,12 @@
 
 ghost use Rattle.fond_rules.specs.Belongs.{BelongTo};
 ghost use Rattle.fond_rules.specs.Select.{selected_rule, AreOver};
-ghost use Rattle.std.specs.Prelude.{◌≡◌, ◌<◌, ◌-◌, ◌^◌, List, [], ◌∷◌, ◌++◌, length, slice_get, Some, true, All, IfSome, OnOk, OnErr};
+ghost use Rattle.fond_match.specs.Besides.{is_beside};
+ghost use Rattle.std.specs.Prelude.{◌≡◌, ◌<◌, ◌-◌, ◌^◌, List, [], ◌∷◌, ◌++◌, length, position, slice_get, Some, true, All, IfSome, OnOk, OnErr};
 
 use fond_game::rule::Rule;
 use fond_match::matcher::Matcher;
-use fond_match::query::HasCube;
+use fond_match::query::{Beside, HasCube};
 use fond_state::cube::Cube;
 use fond_state::state::State;
 use fond_task::task::Task;
@@ -157,5 +158,14 @@ impl Rules {
         ensures { result ≡ selected_rule self.now s.now }
     {
         self.matcher.first(self.items.as_slice(), s)
+    }
+
+    /// The number of the first rule whose condition the cube does not contradict, if there is one. Takes time in the number of
+    /// branches of the index whose literals the cube does not oppose, and in that of the atoms for each condition there.
+    pub fn first_beside(&self, c: &Cube) -> Option<u32>
+        requires { AreOver (length c.now) self.now }
+        ensures { result ≡ position (λ rule. is_beside c.now rule.cond) self.now }
+    {
+        self.matcher.first(self.items.as_slice(), &Beside::new(c))
     }
 }
