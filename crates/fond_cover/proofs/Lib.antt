@@ -1,0 +1,5 @@
+pub mod Ruled
+pub mod Closed
+pub mod Placed
+pub mod Widened
+pub mod Beside

@@ -1,0 +1,4 @@
+pub mod Items
+pub mod Altered
+pub mod Wider
+pub mod Covers
