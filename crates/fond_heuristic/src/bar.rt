@@ -1,0 +1,187 @@
+//! What dead cubes say about actions: one that would surely lead into a dead cube, if it were not for a single literal,
+//! needs the opposite of that literal in the relaxation.
+
+use crate::applicable::sure_masks;
+use crate::condition::Mask;
+use crate::effect::Effect;
+use crate::index::{Literal, bit_of, size};
+use crate::moves::{Move, Moves};
+use crate::net::Net;
+use crate::step::PlanStep;
+use crate::together::Together;
+use fond_text::fault::NoMemory;
+use std::alloc::Global;
+
+/// The most literals of a cube times the steps that give one of them.
+const MOST: usize = 1_000_000;
+
+/// The steps that surely give each literal: two lists for each atom, the negative literal first.
+#[derive(Drop)]
+pub struct Givers {
+    steps: Vec<Vec<u32>>,
+    found: Vec<u32>,
+}
+
+/// What else is needed for an effect to lead into a cube.
+#[derive(Clone, Copy, PartialEq, Eq)]
+enum Gap {
+    /// It leads there in no state, or more than one literal is needed.
+    Wide,
+    /// It always leads there.
+    Nothing,
+    /// It leads there if this literal holds before.
+    One(Literal),
+}
+
+/// The literals of a mask that must hold before an effect for those of the mask to hold after it, if the precondition does
+/// not give them; or nothing if they cannot hold.
+fn needed(mask: &Mask, effect: &Effect, needs: &[Mask], together: &Together) -> Option<u64> {
+    let mut rest = effect.needed_before(mask)?;
+    for need in needs {
+        if need.word == mask.word {
+            if rest & need.care & (need.value ^ mask.value) != 0 {
+                return None;
+            }
+            rest &= !need.care;
+        }
+    }
+    for need in needs {
+        let excluded = excluded_by(need, mask.word, together);
+        if rest & excluded & mask.value != 0 {
+            return None;
+        }
+        rest &= !excluded;
+    }
+    Some(rest)
+}
+
+/// The atoms of a word that are false where the literals of a mask hold.
+fn excluded_by(need: &Mask, word: u32, together: &Together) -> u64 {
+    let mut excluded = 0;
+    let mut bits = need.value;
+    for _ in 0..64 {
+        if bits == 0 {
+            return excluded;
+        }
+        let bit = bits.trailing_zeros();
+        bits &= bits.wrapping_sub(1);
+        excluded |= together.excluded(need.word.saturating_mul(64).saturating_add(bit), word);
+    }
+    excluded
+}
+
+/// The gap that these bits of a mask make, besides another one.
+fn widen(gap: Gap, mask: &Mask, bits: u64) -> Gap {
+    if bits == 0 {
+        return gap;
+    }
+    if gap != Gap::Nothing || bits & bits.wrapping_sub(1) != 0 {
+        return Gap::Wide;
+    }
+    let bit = bits.trailing_zeros();
+    Gap::One(Literal {
+        atom: mask.word.saturating_mul(64).saturating_add(bit),
+        sign: mask.value & bit_of(bit) != 0,
+    })
+}
+
+/// The gap between an effect of an action and a cube.
+fn gap_of(one: &Move, effect: &Effect, cube: &[Mask], together: &Together) -> Gap {
+    let mut gap = Gap::Nothing;
+    for mask in cube {
+        match needed(mask, effect, sure_masks(&one.needs), together) {
+            Some(bits) => gap = widen(gap, mask, bits),
+            None => return Gap::Wide,
+        }
+        if gap == Gap::Wide {
+            return gap;
+        }
+    }
+    gap
+}
+
+impl Givers {
+    /// Adds a step to the lists of the literals that it gives.
+    fn add(&mut self, moves: &Moves, number: u32, step: PlanStep) -> Result<(), NoMemory> {
+        let Some(effect) = moves.effect(step) else {
+            return Ok(());
+        };
+        effect.list_gifts(number, &mut self.steps)
+    }
+
+    /// The lists of all steps.
+    pub fn new(alloc: Global, moves: &Moves) -> Result<Givers, NoMemory> {
+        let mut steps = Vec::new(alloc);
+        for _ in 0..moves.atoms.saturating_mul(2) {
+            steps.push(Vec::new(alloc))?;
+        }
+        let mut givers = Givers {
+            steps,
+            found: Vec::new(alloc),
+        };
+        for (number, step) in moves.steps.iter().enumerate() {
+            givers.add(moves, size(number), *step)?;
+        }
+        Ok(givers)
+    }
+
+    /// Adds the steps that give a literal of the mask to those found. Returns the number of literals.
+    fn find_mask(&mut self, mask: &Mask) -> Result<usize, NoMemory> {
+        let mut bits = mask.care;
+        for _ in 0..64 {
+            if bits == 0 {
+                break;
+            }
+            let bit = bits.trailing_zeros();
+            bits &= bits.wrapping_sub(1);
+            let atom = mask.word.saturating_mul(64).saturating_add(bit);
+            let sign = mask.value & bit_of(bit) != 0;
+            let place = atom.saturating_mul(2).saturating_add(sign as u32);
+            if let Some(steps) = self.steps.get(place as usize) {
+                self.found.extend_from_slice(steps)?;
+            }
+        }
+        Ok(mask.care.count_ones() as usize)
+    }
+
+    /// Finds the steps that give a literal of the cube, each once; none if they are too many.
+    fn find(&mut self, cube: &[Mask]) -> Result<(), NoMemory> {
+        self.found.clear();
+        let mut literals: usize = 0;
+        for mask in cube {
+            literals = literals.saturating_add(self.find_mask(mask)?);
+        }
+        if self.found.len().saturating_mul(literals) > MOST {
+            self.found.clear();
+        }
+        self.found.sort()?;
+        self.found.dedup();
+        Ok(())
+    }
+
+    /// Strengthens the actions of the net of which an outcome would lead into the cube but for one literal.
+    pub fn bar(
+        &mut self,
+        moves: &Moves,
+        together: &Together,
+        net: &mut Net,
+        cube: &[Mask],
+    ) -> Result<(), NoMemory> {
+        self.find(cube)?;
+        for number in &self.found {
+            let step = moves.step(*number);
+            let Some(one) = moves.acts.get(step.act as usize) else {
+                continue;
+            };
+            let Some(effect) = one.effects.get(step.outcome as usize) else {
+                continue;
+            };
+            match gap_of(one, effect, cube, together) {
+                Gap::Wide => {}
+                Gap::Nothing => net.close_act(step.act),
+                Gap::One(literal) => net.strengthen(step.act, literal)?,
+            }
+        }
+        Ok(())
+    }
+}

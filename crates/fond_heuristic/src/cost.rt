@@ -1,0 +1,197 @@
+//! The additive heuristic: the cost of each fact if each need is paid for by itself (Bonet and Geffner, *Planning as
+//! heuristic search*, 2001). Facts are settled in the order of their costs, which are kept in buckets.
+
+use crate::index::{NONE, fill, has, link_at, put, size};
+use crate::net::{Counter, Net, Operator};
+use fond_text::fault::NoMemory;
+use std::alloc::Global;
+
+/// The cost of a fact that is not reached.
+pub const FAR: u32 = u32::MAX;
+
+/// The greatest cost.
+const MOST: u32 = 20_000;
+
+/// How many facts and operators are cleared in the time of an update.
+const CLEARED: u64 = 8;
+
+/// A fact in a bucket, and the next one there.
+#[derive(Clone, Copy)]
+struct Waiting {
+    fact: u32,
+    next: u32,
+}
+
+/// The costs of the facts of a net from a state on.
+#[derive(Drop)]
+pub struct Costs {
+    costs: Vec<u32>,
+    by: Vec<u32>,
+    counters: Vec<Counter>,
+    buckets: Vec<u32>,
+    waiting: Vec<Waiting>,
+    pub work: u64,
+}
+
+impl Costs {
+    /// Costs for a net, not worked out yet.
+    pub fn new(alloc: Global, net: &Net) -> Result<Costs, NoMemory> {
+        let facts = net.users.len();
+        Ok(Costs {
+            costs: vec![in alloc; FAR; facts]?,
+            by: vec![in alloc; NONE; facts]?,
+            counters: vec![in alloc; Counter { left: 0, sum: 0 }; net.operators.len()]?,
+            buckets: Vec::new(alloc),
+            waiting: Vec::new(alloc),
+            work: 0,
+        })
+    }
+
+    /// The cost of the fact.
+    pub fn of(&self, fact: u32) -> u32 {
+        link_at(&self.costs, fact)
+    }
+
+    /// The gift by which the fact is reached most cheaply, or `NONE`.
+    pub fn best(&self, fact: u32) -> u32 {
+        link_at(&self.by, fact)
+    }
+
+    /// Puts a fact into the bucket of its cost.
+    fn wait(&mut self, fact: u32, cost: u32) -> Result<(), NoMemory> {
+        for _ in self.buckets.len()..(cost as usize).saturating_add(1) {
+            self.buckets.push(NONE)?;
+        }
+        let number = size(self.waiting.len());
+        let next = link_at(&self.buckets, cost);
+        self.waiting.push(Waiting { fact, next })?;
+        put(&mut self.buckets, cost, number);
+        Ok(())
+    }
+
+    /// The fact can be had at this cost, by the gift.
+    fn offer(&mut self, fact: u32, cost: u32, by: u32) -> Result<(), NoMemory> {
+        if cost >= self.of(fact) {
+            return Ok(());
+        }
+        put(&mut self.costs, fact, cost);
+        put(&mut self.by, fact, by);
+        self.wait(fact, cost)
+    }
+
+    /// All that the operator needs is reached, at this cost.
+    fn fire(&mut self, net: &Net, operator: &Operator, sum: u32) -> Result<(), NoMemory> {
+        let cost = sum.saturating_add(operator.price).min(MOST);
+        for number in operator.first_gift..operator.end_gift {
+            if let Some(gift) = net.gifts.get(number as usize) {
+                self.offer(gift.fact, cost, number)?;
+            }
+        }
+        Ok(())
+    }
+
+    /// Whether the operator waits for nothing.
+    fn is_ready(&self, operator: u32) -> bool {
+        match self.counters.get(operator as usize) {
+            Some(counter) => counter.left == 0,
+            None => false,
+        }
+    }
+
+    /// One more fact that the operator needs is reached, at this cost. Returns whether it was the last.
+    fn count(&mut self, operator: u32, cost: u32) -> Option<u32> {
+        let counter = self.counters.get_mut(operator as usize)?;
+        counter.left = counter.left.saturating_sub(1);
+        counter.sum = counter.sum.saturating_add(cost);
+        if counter.left == 0 {
+            Some(counter.sum)
+        } else {
+            None
+        }
+    }
+
+    /// The fact has its final cost.
+    fn settle(&mut self, net: &Net, fact: u32, cost: u32) -> Result<(), NoMemory> {
+        let Some(users) = net.users.get(fact as usize) else {
+            return Ok(());
+        };
+        self.work = self.work.saturating_add(users.len() as u64);
+        for number in users {
+            if let Some(sum) = self.count(*number, cost) {
+                if let Some(operator) = net.operators.get(*number as usize) {
+                    self.fire(net, operator, sum)?;
+                }
+            }
+        }
+        Ok(())
+    }
+
+    /// Nothing is reached yet but the facts of the state.
+    fn reset(&mut self, net: &Net, state: &[u64], hopeful: bool) {
+        let counters = if hopeful { &net.hoped } else { &net.sure };
+        for (counter, first) in self.counters.iter_mut().zip(counters.iter()) {
+            *counter = *first;
+        }
+        for (cost, literal) in self.costs.iter_mut().zip(net.literals.iter()) {
+            *cost = if has(state, literal.atom) == literal.sign {
+                0
+            } else {
+                FAR
+            };
+        }
+        put(&mut self.costs, net.goal(), FAR);
+        fill(&mut self.by, NONE);
+        self.buckets.clear();
+        self.waiting.clear();
+    }
+
+    /// Reaches what needs no more than the facts of the state.
+    fn begin(&mut self, net: &Net) -> Result<(), NoMemory> {
+        for number in &net.free {
+            if let Some(operator) = net.operators.get(*number as usize) {
+                if self.is_ready(*number) {
+                    self.fire(net, operator, 0)?;
+                }
+            }
+        }
+        for fact in 0..net.goal() {
+            if self.of(fact) == 0 {
+                self.settle(net, fact, 0)?;
+            }
+        }
+        Ok(())
+    }
+
+    /// Settles the facts of a bucket, those too that come into it meanwhile.
+    fn empty_bucket(&mut self, net: &Net, cost: u32) -> Result<(), NoMemory> {
+        for _ in 0..u32::MAX {
+            let first = link_at(&self.buckets, cost);
+            let Some(waiting) = self.waiting.get(first as usize) else {
+                return Ok(());
+            };
+            let fact = waiting.fact;
+            let next = waiting.next;
+            put(&mut self.buckets, cost, next);
+            if self.of(fact) == cost {
+                self.settle(net, fact, cost)?;
+            }
+        }
+        Ok(())
+    }
+
+    /// Works out the costs from a state on, until the goal has its cost. Returns that cost. What is only hoped for counts if
+    /// `hopeful`. Takes time in the number of facts and operators, and in the needs of operators that are met.
+    pub fn work_out(&mut self, net: &Net, state: &[u64], hopeful: bool) -> Result<u32, NoMemory> {
+        self.reset(net, state, hopeful);
+        let cleared = net.operators.len().saturating_add(net.users.len());
+        self.work = self.work.saturating_add(cleared as u64 / CLEARED);
+        self.begin(net)?;
+        for cost in 0..MOST + 1 {
+            if cost as usize >= self.buckets.len() || self.of(net.goal()) <= cost {
+                return Ok(self.of(net.goal()));
+            }
+            self.empty_bucket(net, cost)?;
+        }
+        Ok(self.of(net.goal()))
+    }
+}

@@ -1,0 +1,124 @@
+//! The actions of a task in plain vectors.
+
+use crate::condition::{Condition, condition_of};
+use crate::effect::{Effect, effect_of};
+use crate::index::size;
+use crate::step::PlanStep;
+use fond_task::task::{Act, Task};
+use fond_text::fault::NoMemory;
+use std::alloc::Global;
+
+/// An action. Its outcomes have consecutive step numbers, from `first` on.
+#[derive(Drop)]
+pub struct Move {
+    pub unfair: bool,
+    pub needs: Condition,
+    pub effects: Vec<Effect>,
+    pub first: u32,
+}
+
+/// The actions, the steps by their numbers, and the goal.
+#[derive(Drop)]
+pub struct Moves {
+    pub acts: Vec<Move>,
+    pub steps: Vec<PlanStep>,
+    pub goal: Condition,
+    pub atoms: u32,
+    pub width: u32,
+}
+
+impl Moves {
+    /// Adds an action.
+    fn add(&mut self, alloc: Global, act: &Act) -> Result<(), NoMemory> {
+        let number = size(self.acts.len());
+        let first = size(self.steps.len());
+        let mut effects = Vec::new(alloc);
+        for outcome in &act.outcomes {
+            let step = PlanStep {
+                act: number,
+                outcome: size(effects.len()),
+            };
+            self.steps.push(step)?;
+            effects.push(effect_of(alloc, outcome)?)?;
+        }
+        let unfair = act.unfair && effects.len() > 1;
+        self.acts.push(Move {
+            unfair,
+            needs: condition_of(alloc, &act.pre)?,
+            effects,
+            first,
+        })?;
+        Ok(())
+    }
+
+    /// The actions of a task.
+    pub fn new(alloc: Global, task: &Task) -> Result<Moves, NoMemory> {
+        let atoms = size(task.atoms.len());
+        let mut moves = Moves {
+            acts: Vec::new(alloc),
+            steps: Vec::new(alloc),
+            goal: condition_of(alloc, &task.goal)?,
+            atoms,
+            width: atoms.saturating_add(63) / 64,
+        };
+        for act in &task.acts {
+            moves.add(alloc, act)?;
+        }
+        Ok(moves)
+    }
+
+    /// The step of this number.
+    pub fn step(&self, number: u32) -> PlanStep {
+        match self.steps.get(number as usize) {
+            Some(step) => *step,
+            None => PlanStep { act: 0, outcome: 0 },
+        }
+    }
+
+    /// The effect of a step.
+    pub fn effect(&self, step: PlanStep) -> Option<&Effect> {
+        self.acts
+            .get(step.act as usize)?
+            .effects
+            .get(step.outcome as usize)
+    }
+
+    /// Makes `out` the state after a step.
+    pub fn apply(&self, step: PlanStep, state: &[u64], out: &mut [u64]) {
+        if let Some(effect) = self.effect(step) {
+            effect.apply(state, out);
+        }
+    }
+
+    /// How many outcomes the action has.
+    pub fn outcomes(&self, act: u32) -> u32 {
+        match self.acts.get(act as usize) {
+            Some(one) => size(one.effects.len()),
+            None => 0,
+        }
+    }
+
+    /// Whether an opponent picks the outcome of the action.
+    pub fn is_unfair(&self, act: u32) -> bool {
+        match self.acts.get(act as usize) {
+            Some(one) => one.unfair,
+            None => false,
+        }
+    }
+
+    /// The number of the action's first step.
+    pub fn first_step(&self, act: u32) -> u32 {
+        match self.acts.get(act as usize) {
+            Some(one) => one.first,
+            None => 0,
+        }
+    }
+
+    /// Whether the action applies in the state.
+    pub fn applies(&self, act: u32, state: &[u64]) -> bool {
+        match self.acts.get(act as usize) {
+            Some(one) => one.needs.holds(state),
+            None => false,
+        }
+    }
+}
