@@ -1,0 +1,213 @@
+//! What a search knows: the task, the rules and pairs of a policy, the cubes that are dead, and the responses of the
+//! opponent.
+
+use crate::cubes::{CubeSet, Masks};
+use crate::states::StateSet;
+use fond_heuristic::applicable::ActIndex;
+use fond_heuristic::bar::Givers;
+use fond_heuristic::condition::all_hold;
+use fond_heuristic::index::{NONE, copy_words, fill, link_at, put, size};
+use fond_heuristic::moves::Moves;
+use fond_heuristic::net::Net;
+use fond_heuristic::step::PlanStep;
+use fond_heuristic::together::Together;
+use fond_heuristic::weight::Weights;
+use fond_task::task::Task;
+use fond_text::fault::NoMemory;
+use std::alloc::Global;
+
+/// A cube in which an action is barred, and the next one of the action.
+#[derive(Drop)]
+struct Bar {
+    masks: Masks,
+    next: u32,
+}
+
+/// The cubes in which actions are barred, in a list for each action.
+#[derive(Drop)]
+struct Bars {
+    firsts: Vec<u32>,
+    bars: Vec<Bar>,
+}
+
+/// The outcomes that the opponent picks in some states, each by the state and the action after it.
+#[derive(Drop)]
+struct Responses {
+    places: StateSet,
+    outcomes: Vec<u32>,
+    key: Vec<u64>,
+}
+
+/// What a search knows.
+#[derive(Drop)]
+pub(crate) struct Known {
+    pub(crate) moves: Moves,
+    pub(crate) index: ActIndex,
+    pub(crate) net: Net,
+    pub(crate) weights: Weights,
+    together: Together,
+    givers: Givers,
+    pub(crate) rules: CubeSet,
+    pub(crate) dead: CubeSet,
+    bars: Bars,
+    responses: Responses,
+}
+
+impl Bars {
+    /// Drops all.
+    fn clear(&mut self) {
+        self.bars.clear();
+        fill(&mut self.firsts, NONE);
+    }
+
+    /// Whether the action is barred in the state.
+    fn holds(&self, act: u32, state: &[u64]) -> bool {
+        let mut number = link_at(&self.firsts, act);
+        for _ in 0..self.bars.len() {
+            let Some(bar) = self.bars.get(number as usize) else {
+                return false;
+            };
+            if all_hold(&bar.masks, state) {
+                return true;
+            }
+            number = bar.next;
+        }
+        false
+    }
+
+    /// Bars the action.
+    fn add(&mut self, act: u32, masks: Masks) -> Result<(), NoMemory> {
+        let number = size(self.bars.len());
+        let next = link_at(&self.firsts, act);
+        self.bars.push(Bar { masks, next })?;
+        put(&mut self.firsts, act, number);
+        Ok(())
+    }
+}
+
+impl Responses {
+    /// Makes the key of a state and an action.
+    fn set_key(&mut self, act: u32, state: &[u64]) {
+        copy_words(&mut self.key, state);
+        if let Some(word) = self.key.last_mut() {
+            *word = act as u64;
+        }
+    }
+
+    /// The outcome that is picked, or `NONE`.
+    fn get(&mut self, act: u32, state: &[u64]) -> u32 {
+        self.set_key(act, state);
+        match self.places.find(&self.key) {
+            Some(number) => link_at(&self.outcomes, number),
+            None => NONE,
+        }
+    }
+
+    /// Sets the outcome that is picked.
+    fn set(&mut self, act: u32, state: &[u64], outcome: u32) -> Result<(), NoMemory> {
+        self.set_key(act, state);
+        let (number, is_new) = self.places.add(&self.key)?;
+        if is_new {
+            self.outcomes.push(outcome)?;
+        }
+        put(&mut self.outcomes, number, outcome);
+        Ok(())
+    }
+}
+
+impl Known {
+    /// What is known of a task at first.
+    pub(crate) fn new(alloc: Global, task: &Task) -> Result<Known, NoMemory> {
+        let moves = Moves::new(alloc, task)?;
+        let index = ActIndex::new(alloc, &moves)?;
+        let net = Net::new(alloc, task, &moves)?;
+        let weights = Weights::new(alloc, task, moves.atoms)?;
+        let together = Together::new(alloc, task, &moves)?;
+        let givers = Givers::new(alloc, &moves)?;
+        let rules = CubeSet::new(alloc, moves.atoms, moves.width)?;
+        let dead = CubeSet::new(alloc, moves.atoms, moves.width)?;
+        let bars = Bars {
+            firsts: vec![in alloc; NONE; moves.acts.len()]?,
+            bars: Vec::new(alloc),
+        };
+        let key_width = moves.width.saturating_add(1);
+        let responses = Responses {
+            places: StateSet::new(alloc, key_width)?,
+            outcomes: Vec::new(alloc),
+            key: vec![in alloc; 0; key_width as usize]?,
+        };
+        Ok(Known {
+            moves,
+            index,
+            net,
+            weights,
+            together,
+            givers,
+            rules,
+            dead,
+            bars,
+            responses,
+        })
+    }
+
+    /// Drops the rules and pairs.
+    pub(crate) fn forget_rules(&mut self) {
+        self.rules.clear();
+        self.bars.clear();
+    }
+
+    /// The states of a cube are dead.
+    pub(crate) fn kill(&mut self, masks: Masks) -> Result<(), NoMemory> {
+        self.givers
+            .bar(&self.moves, &self.together, &mut self.net, &masks)?;
+        self.dead.add(masks)
+    }
+
+    /// Bars an action in the states of a cube.
+    pub(crate) fn bar(&mut self, act: u32, masks: Masks) -> Result<(), NoMemory> {
+        self.bars.add(act, masks)
+    }
+
+    /// Whether the action is barred in the state.
+    pub(crate) fn is_barred(&self, act: u32, state: &[u64]) -> bool {
+        self.bars.holds(act, state)
+    }
+
+    /// The outcome that the opponent picks in the state, or `NONE` if none was set.
+    pub(crate) fn response(&mut self, act: u32, state: &[u64]) -> u32 {
+        self.responses.get(act, state)
+    }
+
+    /// Sets the outcome that the opponent picks in the state.
+    pub(crate) fn respond(
+        &mut self,
+        act: u32,
+        state: &[u64],
+        outcome: u32,
+    ) -> Result<(), NoMemory> {
+        self.responses.set(act, state, outcome)
+    }
+
+    /// Whether a plan may end in the state.
+    pub(crate) fn is_settled(&self, state: &[u64]) -> bool {
+        self.moves.goal.holds(state) || self.rules.holds(state)
+    }
+
+    /// Whether the action is to be passed over in the state: it is barred, or some outcome of it leads into a dead cube.
+    /// `next` is overwritten.
+    pub(crate) fn is_excluded(&self, act: u32, state: &[u64], next: &mut [u64]) -> bool {
+        if self.is_barred(act, state) {
+            return true;
+        }
+        if self.dead.is_empty() {
+            return false;
+        }
+        for outcome in 0..self.moves.outcomes(act) {
+            self.moves.apply(PlanStep { act, outcome }, state, next);
+            if self.dead.holds(next) {
+                return true;
+            }
+        }
+        false
+    }
+}
