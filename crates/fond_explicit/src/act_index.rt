@@ -5,7 +5,7 @@ use fond_text::list::List;
 
 /// For each atom the actions that are filed under it, and those that need none.
 #[derive(Drop)]
-pub(crate) struct ActIndex {
+pub struct ActIndex {
     pub(crate) by_atom: Vec<List<u32>>,
     pub(crate) always: Vec<u32>,
 }

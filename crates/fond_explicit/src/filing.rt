@@ -140,7 +140,7 @@ fn no_lists(alloc: Global, atoms: usize) -> Result<Vec<List<u32>>, NoMemory>
 
 /// The index of the actions of a task. Takes time in the size of the preconditions, and memory in the number of atoms and
 /// actions.
-pub(crate) fn index_of(alloc: Global, t: &Task) -> Result<ActIndex, NoMemory>
+pub fn index_of(alloc: Global, t: &Task) -> Result<ActIndex, NoMemory>
     ensures { IfOk result (IsIndexOf t.now) }
 {
     let counts = conjunct_counts(alloc, t)?;
@@ -181,7 +181,7 @@ fn collect(index: &ActIndex, state: &State, out: &mut Vec<u32>) -> Result<(), No
 
 /// The actions that may be applicable in a state, in order: those filed under its true atoms, and those that are always
 /// tried. Takes time in the number of atoms and in that of the actions found, times its logarithm.
-pub(crate) fn candidates(
+pub fn candidates(
     index: &ActIndex,
     t: &Task,
     state: &State,

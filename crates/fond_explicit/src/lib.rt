@@ -7,11 +7,11 @@
 //! are won and in which rounds the others are lost.
 #![tactic(auto)]
 
-mod act_index;
+pub mod act_index;
 pub mod answer;
 mod choose;
 mod decide;
-mod filing;
+pub mod filing;
 mod opening;
 pub mod solve;
 mod space;
