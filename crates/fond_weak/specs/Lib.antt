@@ -1,0 +1,4 @@
+pub mod Barred
+pub mod Settings
+pub mod Trees
+pub mod Weak
