@@ -1,13 +1,17 @@
 -- Certificates that belong to a task.
-use Rattle.std.specs.Prelude.{◌<◌, ◌^◌, List, All, length}
+use Rattle.std.specs.Prelude.{◌<◌, ◌^◌, List, All, length, ⊤}
 use Rattle.fond_task.specs.declared.task.Task.{Task}
 use Rattle.fond_game.specs.declared.rule.Pair.{Pair}
 use Rattle.fond_game.specs.declared.rule.Rule.{Rule}
 use Rattle.fond_game.specs.Layers.{CubeView}
 use Rattle.fond_layers.specs.Over.{AreOver}
 use Rattle.fond_rules.specs.Belongs.{ArePairsOver, BelongTo, HaveTargets}
+use Rattle.fond_cover.specs.declared.item.Item.{Item}
+use Rattle.fond_cover.specs.declared.item.Way.{Way}
+use Rattle.fond_cover.specs.declared.item.Way.TheVariants.{Goal, Rule as ByRule}
+use Rattle.fond_cover.specs.Items.{AreItemsOver}
 use Rattle.fond_policy.specs.declared.cert.Cert.{Cert}
-use Rattle.fond_policy.specs.declared.cert.Cert.TheVariants.{Policy, Refusal}
+use Rattle.fond_policy.specs.declared.cert.Cert.TheVariants.{Policy, Refusal, Covered}
 
 -- layers belong to a task: there are fewer than 2^32, each has fewer than 2^32 cubes, and these are over its atoms
 pub record BelongAsLayers (task : Task) (layers : List (List CubeView)) : Type 0 where
@@ -27,7 +31,21 @@ pub record BelongAsRules (task : Task) (rules : List Rule) : Type 0 where
   pub belong : BelongTo task rules
   pub targeted : HaveTargets rules
 
+-- a way by a rule has an item number
+abbrev pub HasNumber : Way → Type 0
+HasNumber Goal = ⊤
+HasNumber (ByRule rule numbers) = 0 < length numbers
+
+-- items belong to a task: there are fewer than 2^32, their cubes are over its atoms, and each way by a rule has an item
+-- number
+pub record BelongAsItems (task : Task) (items : List Item) : Type 0 where
+  pub few : length items < 2 ^ 32
+  pub over : AreItemsOver (length task.atoms) items
+  pub numbered : All (λ item. HasNumber item.way) items
+
 -- a certificate belongs to a task if its parts do
 abbrev pub Belongs : Task → Cert → Type 0
 Belongs task (Policy layers pairs rules reach) = BelongAsLayers task layers × BelongAsPairs task pairs × BelongAsRules task rules
 Belongs task (Refusal layers) = BelongAsLayers task layers
+Belongs task (Covered layers pairs rules items start) =
+    BelongAsLayers task layers × BelongAsPairs task pairs × BelongAsRules task rules × BelongAsItems task items

@@ -3,3 +3,4 @@ pub mod Sizes
 pub mod Parts
 pub mod Counts
 pub mod Walks
+pub mod Laws

@@ -6,8 +6,11 @@ use Rattle.fond_game.specs.declared.rule.Rule.{Rule}
 use Rattle.fond_game.specs.Layers.{CubeView, AreSureLayers, IsSurePair}
 use Rattle.fond_game.specs.Rules.{IsSureRule, IsLeanRule, IsLeanPair}
 use Rattle.fond_game.specs.Certificates.{IsRightPolicy, IsRightRefusal}
+use Rattle.fond_cover.specs.declared.item.Item.{Item}
+use Rattle.fond_cover.specs.Covers.{IsIn}
+use Rattle.fond_cover.specs.Items.{firsts_of, AreSureItems, AreLeanItems}
 use Rattle.fond_policy.specs.declared.cert.Cert.{Cert}
-use Rattle.fond_policy.specs.declared.cert.Cert.TheVariants.{Policy, Refusal}
+use Rattle.fond_policy.specs.declared.cert.Cert.TheVariants.{Policy, Refusal, Covered}
 
 -- pairs are sure
 abbrev pub AreSurePairs : Task → List (List CubeView) → List Pair → Type 0
@@ -32,7 +35,20 @@ pub record AreLean (task : Task) (layers : List (List CubeView)) (pairs : List P
   pub pairs_lean : (pair : Pair) → Contains pairs pair → IsLeanPair task layers pair
   pub rules_lean : (number : ℕ) (rule : Rule) → slice_get rules number ≡ Some rule → IsLeanRule task pairs rules number rule
 
+-- all pairs, rules and items are lean
+pub record AreAllLean (task : Task) (layers : List (List CubeView)) (pairs : List Pair) (rules : List Rule) (items : List Item) : Type 0 where
+  pub lean : AreLean task layers pairs rules
+  pub items_lean : AreLeanItems task (firsts_of rules) items
+
+-- a policy certificate with a cover is correct if its layers, pairs, rules and items are sure, its start item exists, and
+-- the initial state lies in the cube of that item
+pub record IsRightCover (task : Task) (layers : List (List CubeView)) (pairs : List Pair) (rules : List Rule) (items : List Item) (start : ℕ) : Type 0 where
+  pub sure : ArePartsSure task layers pairs rules
+  pub items_sure : AreSureItems task (firsts_of rules) items
+  pub starts : IsIn items start task.init
+
 -- a certificate is correct
 abbrev pub IsRight : Task → Cert → Type 0
 IsRight task (Policy layers pairs rules reach) = IsRightPolicy task layers pairs rules reach
 IsRight task (Refusal layers) = IsRightRefusal task layers
+IsRight task (Covered layers pairs rules items start) = IsRightCover task layers pairs rules items start

@@ -1,5 +1,5 @@
 -- The breadth-first walk through the states that a policy reaches.
-use Rattle.std.specs.Prelude.{◌≡◌, ◌<◌, ◌≤◌, ℕ, List, ◌++◌, Bool, false, Option, Some, None, slice_get, Contains, IsSome, MatchBool, MatchOption}
+use Rattle.std.specs.Prelude.{◌≡◌, ◌<◌, ◌≤◌, ℕ, List, ◌++◌, Bool, true, false, Option, Some, None, slice_get, length, Contains, IsSome, MatchBool, MatchOption}
 use Rattle.fond_task.specs.declared.task.Task.{Task}
 use Rattle.fond_game.specs.declared.rule.Rule.{Rule}
 use Rattle.fond_game.specs.Policies.{IsGoal, IsNext, Reach, selected}
@@ -65,3 +65,12 @@ IsOpenOne task rules found = MatchOption found (HasAllRuled task rules) (IsUnrul
 abbrev pub IsWalked : Task → List Rule → ℕ → Walked → Type 0
 IsWalked task rules bound More = ReachesMore task (selected rules) bound
 IsWalked task rules bound (All count unruled) = ReachesCount task (selected rules) count × (count ≤ bound) × IsOpenOne task rules unruled
+
+-- whether a walk ended with all states that are reached
+abbrev pub is_all : Walked → Bool
+is_all More = false
+is_all (All count unruled) = true
+
+-- a walk that ended with all states has done each of its states
+abbrev pub IsWholeWalk : Task → List Rule → List (List Bool) → Walked → Type 0
+IsWholeWalk task rules states walked = is_all walked ≡ true → IsWalk task rules states (length states)

@@ -1,11 +1,13 @@
 //! Certificates.
 
+use fond_cover::items::Items;
 use fond_layers::layers::Layers;
 use fond_rules::pairs::Pairs;
 use fond_rules::rules::Rules;
 
-/// A policy as layers of losing cubes, forbidden pairs, ordered rules, and the number of states that the rules reach; or a
-/// refusal as layers of losing cubes. Whether a certificate is correct is left to the checker.
+/// A policy as layers of losing cubes, forbidden pairs and ordered rules, with the number of states that the rules reach, or
+/// with items that cover these states and the number of the item in which the initial state lies; or a refusal as layers of
+/// losing cubes. Whether a certificate is correct is left to the checker.
 #[derive(Drop)]
 pub enum Cert {
     Policy {
@@ -16,5 +18,12 @@ pub enum Cert {
     },
     Refusal {
         layers: Layers,
+    },
+    Covered {
+        layers: Layers,
+        pairs: Pairs,
+        rules: Rules,
+        items: Items,
+        start: u32,
     },
 }

@@ -1,7 +1,7 @@
 //! The breadth-first walk through the states that a policy reaches.
 
 ghost use Rattle.fond_policy.specs.Parts.{AreSureRules};
-ghost use Rattle.fond_policy.specs.Walks.{Grows, Visits, IsWalked, IsNumbered, first_open};
+ghost use Rattle.fond_policy.specs.Walks.{Grows, Visits, IsWalk, IsWalked, IsNumbered, IsWholeWalk, first_open, is_all};
 ghost use Rattle.fond_game.specs.Policies.{IsNext};
 ghost use Rattle.fond_rules.specs.Belongs.{BelongTo};
 ghost use Rattle.fond_task.specs.Truth.{is_true};
@@ -162,7 +162,8 @@ fn walk_on(
     requires long { length scratch.old.state ≡ length t.now.atoms }
     requires next_long { length scratch.old.next ≡ length t.now.atoms }
     requires first { states.old ≡ t.now.init ∷ [] }
-    ensures { IfOk result (IsWalked t.now rules.now bound) }
+    ensures walked { IfOk result (IsWalked t.now rules.now bound) }
+    ensures whole { IfOk result (IsWholeWalk t.now rules.now states.new) }
 {
     let mut unruled = None;
     let mut at = 0;
@@ -192,6 +193,16 @@ fn walk_on(
     })
 }
 
+/// Whether a walk came to its end.
+fn is_whole(walked: Walked) -> bool
+    ensures { result ≡ is_all walked }
+{
+    match walked {
+        Walked::All { .. } => true,
+        Walked::More => false,
+    }
+}
+
 /// Walks through the states that the rules reach, until they are more than the bound. Selects the rule of each state
 /// once. Takes memory for the states that are reached, at most 256 more than the bound.
 pub fn walk(
@@ -208,4 +219,20 @@ pub fn walk(
     let mut scratch = scratch_of(alloc, t)?;
     let mut states = one_state(alloc, &t.init)?;
     walk_on(alloc, t, pairs, rules, bound, &mut scratch, &mut states)
+}
+
+/// The states that the rules reach, in the order of a breadth-first walk from the initial state. Takes memory for them;
+/// memory is said to have run out after 2^32 - 1 states.
+pub fn walk_states(alloc: Global, t: &Task, pairs: &Pairs, rules: &Rules) -> Result<Store, NoMemory>
+    requires belong { BelongTo t.now rules.now }
+    requires sure { AreSureRules t.now pairs.now rules.now }
+    ensures { IfOk result (λ states. IsWalk t.now rules.now states (length states)) }
+{
+    let mut scratch = scratch_of(alloc, t)?;
+    let mut states = one_state(alloc, &t.init)?;
+    let walked = walk_on(alloc, t, pairs, rules, u64::MAX, &mut scratch, &mut states)?;
+    if !is_whole(walked) {
+        return Err(NoMemory);
+    }
+    Ok(states)
 }

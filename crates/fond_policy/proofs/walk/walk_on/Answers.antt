@@ -50,8 +50,8 @@ loop-at-preserved c =
       unruled = subst (IsOpenAmong task rules new (at + 1)) (sym c.first_of-unruled.ensures) (open_more task rules old new at state c.in_ok-ruled.ruled c.loop-at.unruled there visits walk c.loop-at.invariant.unruled);
     }
 
-pub returns : goal.returns
-returns c =
+pub returns-clause-walked : goal.returns-clause-walked
+returns-clause-walked c =
     let task = c.args.t.now in
     let rules = c.args.rules.now in
     let states = c.loop-at.states in
@@ -68,16 +68,16 @@ returns c =
       open_one task rules states c.loop-at.at c.loop-at.unruled c.in_ok-copy_numbered.field-0 end walk c.loop-at.invariant.unruled c.in_ok-copy_numbered.ensures,
     )
 
-pub returns-then-from-bound : goal.returns-then-from-bound
-returns-then-from-bound c = record {
+pub returns-then-from-bound-clause-walked : goal.returns-then-from-bound-clause-walked
+returns-then-from-bound-clause-walked c = record {
   states = c.loop-at.states;
   once = c.len.ensures.distinct;
   reached = c.loop-at.invariant.walk.reached;
   longer = omega (arith, c.if-from-bound.true, c.from.ensures, c.len-in-loop-at.ensures.counted);
 }
 
-pub returns-then-from-bound-2 : goal.returns-then-from-bound-2
-returns-then-from-bound-2 c = record {
+pub returns-then-from-bound-2-clause-walked : goal.returns-then-from-bound-2-clause-walked
+returns-then-from-bound-2-clause-walked c = record {
   states = c.loop-at.states;
   once = c.len.ensures.distinct;
   reached = c.loop-at.invariant.walk.reached;
