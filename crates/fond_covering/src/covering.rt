@@ -1,0 +1,10 @@
+//! What is found.
+
+use fond_cover::items::Items;
+
+/// Items that cover the states that rules reach, and the number of the one in which the initial state lies.
+#[derive(Drop)]
+pub struct Covering {
+    pub items: Items,
+    pub start: u32,
+}

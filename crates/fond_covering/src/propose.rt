@@ -1,0 +1,37 @@
+//! Proposals of covers.
+
+use crate::sketch::{Looked, Sketch};
+use fond_cover::items::Items;
+use fond_rules::rules::Rules;
+use fond_task::task::Task;
+use fond_text::fault::NoMemory;
+use std::alloc::Global;
+
+/// A sketch for these rules, which has not begun.
+fn sketch_of(alloc: Global, t: &Task, rules: &Rules) -> Result<Sketch, NoMemory> {
+    let mut sketch = Sketch::new(alloc, t)?;
+    for number in 0..rules.len() {
+        let rule = rules.get(number);
+        sketch.add_rule(alloc, &rule.cond, rule.act)?;
+    }
+    Ok(sketch)
+}
+
+/// Proposes items that cover what the rules reach, the first of which has the initial state, or gives up: if a state without a
+/// rule is met that is no goal, or if there is too much to do. Takes time and memory in the number of items times that of
+/// rules.
+pub(crate) fn propose(alloc: Global, t: &Task, rules: &Rules) -> Result<Option<Items>, NoMemory> {
+    let mut sketch = sketch_of(alloc, t, rules)?;
+    if !sketch.begin(t)? {
+        return Ok(None);
+    }
+    for _ in 0..u64::MAX {
+        let Some(edge) = sketch.next() else {
+            return sketch.items(alloc);
+        };
+        if !matches!(sketch.look(t, edge)?, Looked::Done) {
+            return Ok(None);
+        }
+    }
+    Ok(None)
+}
