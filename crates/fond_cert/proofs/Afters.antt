@@ -1,14 +1,13 @@
 -- Parts after words, and rests without them.
-use Rattle.std.proofs.Common.{◌≡◌, ℕ, ◌<◌, ◌-◌, ◌||◌, Bool, true, false, IsTrue, List, [], ◌∷◌, ◌++◌, All, length, take, drop, codes, refl, sym, ap, ◌∙◌, arith, append_assoc, length-append}
+use Rattle.std.proofs.Common.{◌≡◌, ℕ, ◌<◌, ◌-◌, ◌||◌, Bool, true, false, IsTrue, List, [], ◌∷◌, ◌++◌, length, take, drop, codes, refl, sym, ap, ◌∙◌, arith, append_assoc, length-append}
 use Rattle.std.specs.List.{list_all}
 use Rattle.std.specs.Str.{bytes_eq}
 use Rattle.std.proofs.lemmas.List.{append_cancel_left}
 use Rattle.std.proofs.lemmas.List.Elements.{All-head}
 use Rattle.std.proofs.Math.Seq.{take-append_seam, drop-append_seam}
 use Rattle.fond_cert.specs.Lines.{group_text, spaced, is_number, WrittenTarget, GoalWord, NumberWord, IsProperTarget}
-use Rattle.fond_cert.specs.Parts.{HasNoGroup, AreLiterals, is_in_word, is_target, AreTargets, EndsWord, HasNoTarget}
-use Rattle.fond_cert.specs.Checked.{AreTargetsText}
-use Rattle.fond_cert.specs.Cutting.{target_text, targets_text, HasNoAction, HasNoNumber, HasNoTargetAfter, HasNoTargets, HasNoLiterals}
+use Rattle.fond_cert.specs.Parts.{HasNoGroup, AreLiterals, is_in_word, is_target, AreWords, AreWordsText, EndsWord, HasNoWord}
+use Rattle.fond_cert.specs.Cutting.{target_text, HasNoAction, HasNoNumber, HasNoTargetAfter, HasNoWords, HasNoLiterals}
 use Rattle.fond_cert.proofs.Cubes.{spelled}
 use Rattle.fond_cert.proofs.Cuts.{same_word, number_no_space, target_no_space}
 
@@ -29,7 +28,7 @@ no_number rest word number next e whole ends wrong digits more h others f =
     let right : is_number number ≡ true = rw same.0 h in
     absurd (cc)
 
-number_is_target : (word : List ℕ) → is_number word ≡ true → (v : Bool) → (v || is_number word) ≡ true
+pub number_is_target : (word : List ℕ) → is_number word ≡ true → (v : Bool) → (v || is_number word) ≡ true
 number_is_target word e true = refl
 number_is_target word e false = e
 
@@ -43,39 +42,36 @@ no_target_after rest word found next e whole ends wrong target more h others f =
     let right : is_target found ≡ true = rw same.0 (target_right target h) in
     absurd (cc)
 
-pub ends_targets : (targets : List WrittenTarget) (more : List ℕ) → EndsWord more → EndsWord (targets_text targets ++ more)
-ends_targets [] more h = h
-ends_targets (target ∷ targets) more h = refl
+pub ends_words : (words : List (List ℕ)) (more : List ℕ) → EndsWord more → EndsWord (spaced words ++ more)
+ends_words [] more h = h
+ends_words (word ∷ words) more h = refl
 
-first_target : (target : WrittenTarget) (targets : List WrittenTarget) (more : List ℕ) →
-    targets_text (target ∷ targets) ++ more ≡ 32 ∷ (target_text target ++ (targets_text targets ++ more))
-first_target target targets more = ap (λ t. 32 ∷ t) (append_assoc (target_text target) (targets_text targets) more)
+module _ (test : List ℕ → Bool) where
+  begins_none : (next : List ℕ) → HasNoWord test next → (words : List (List ℕ)) (more : List ℕ) → 0 < length words → AreWords test words → EndsWord more → ¬ next ≡ spaced words ++ more
+  begins_none next none [] more some h ends e = absurd (omega arith)
+  begins_none next none (word ∷ words) more some h ends e =
+      none word (spaced words ++ more) (All-head (λ (word : List ℕ). IsTrue (test word)) word words h) (ends_words words more ends)
+      (e ∙ ap (λ t. 32 ∷ t) (append_assoc word (spaced words) more))
 
-pub begins_none : (next : List ℕ) → HasNoTarget next → (targets : List WrittenTarget) (more : List ℕ) → 0 < length targets → All IsProperTarget targets → EndsWord more → ¬ next ≡ targets_text targets ++ more
-begins_none next none [] more some h ends e = absurd (omega arith)
-begins_none next none (target ∷ targets) more some h ends e =
-    none (target_text target) (targets_text targets ++ more) (target_right target (All-head IsProperTarget target targets h)) (ends_targets targets more ends)
-    (e ∙ first_target target targets more)
+  nothing_cut : (words : List (List ℕ)) (next tail : List ℕ) → next ≡ spaced words ++ tail → length tail ≡ length next → next ≡ tail
+  nothing_cut [] next tail e h = e
+  nothing_cut (word ∷ words) next tail e h = absurd (omega (arith, ap length e, h, length-append (spaced (word ∷ words)) tail))
 
-no_words : (words : List (List ℕ)) (next tail : List ℕ) → next ≡ spaced words ++ tail → length tail ≡ length next → next ≡ tail
-no_words [] next tail e h = e
-no_words (word ∷ words) next tail e h = absurd (omega (arith, ap length e, h, length-append (spaced (word ∷ words)) tail))
+  pub no_words : (rest start next tail : List ℕ) (words : List (List ℕ)) → rest ≡ start ++ next → next ≡ spaced words ++ tail → HasNoWord test tail → length tail ≡ length next → HasNoWords test rest start
+  no_words rest start next tail words e f none same others more some h g =
+      let is = nothing_cut words next tail f same in
+      begins_none next (rw is none) others (codes " :" ++ more) some h refl (cancel rest start next (spaced others ++ (codes " :" ++ more)) e g)
 
-pub no_targets : (rest word next tail : List ℕ) (words : List (List ℕ)) → rest ≡ word ++ next → next ≡ spaced words ++ tail → HasNoTarget tail → length tail ≡ length next → HasNoTargets rest word
-no_targets rest word next tail words e f none same targets more some h g =
-    let is = no_words words next tail f same in
-    begins_none next (rw is none) targets (codes " :" ++ more) some h refl (cancel rest word next (targets_text targets ++ (codes " :" ++ more)) e g)
+  ends_next : (words : List (List ℕ)) (next tail : List ℕ) → next ≡ spaced words ++ tail → ¬ length tail ≡ length next → EndsWord next × (0 < length (spaced words))
+  ends_next [] next tail e h = absurd (h (ap length (sym e)))
+  ends_next (word ∷ words) next tail e h = (rw e refl, omega arith)
 
-ends_next : (words : List (List ℕ)) (next tail : List ℕ) → next ≡ spaced words ++ tail → ¬ length tail ≡ length next → EndsWord next × (0 < length (spaced words))
-ends_next [] next tail e h = absurd (h (ap length (sym e)))
-ends_next (word ∷ words) next tail e h = (rw e refl, omega arith)
-
-pub targets_found : (next tail first rest : List ℕ) (n : ℕ) → ((words : List (List ℕ)) × AreTargets words × (next ≡ spaced words ++ tail)) → HasNoTarget tail → (EndsWord next → EndsWord tail) →
-    ¬ length tail ≡ length next → n ≡ length next - length tail → first ≡ take n next → rest ≡ drop n next →
-    AreTargetsText first × (0 < length first) × HasNoTarget rest × EndsWord rest × (next ≡ first ++ rest)
-targets_found next tail first rest n cut none ends differ long f g =
-    let count : n ≡ length (spaced cut.0) = omega (arith, long, ap length cut.2, length-append (spaced cut.0) tail) in
-    let first_is : first ≡ spaced cut.0 = rw (f, count, cut.2) (take-append_seam (spaced cut.0) tail) in
-    let rest_is : rest ≡ tail = rw (g, count, cut.2) (drop-append_seam (spaced cut.0) tail) in
-    let some = ends_next cut.0 next tail cut.2 differ in
-    ((cut.0, cut.1, first_is), rw first_is some.1, rw rest_is none, rw rest_is (ends some.0), rw (first_is, rest_is) cut.2)
+  pub words_found : (next tail first rest : List ℕ) (n : ℕ) → ((words : List (List ℕ)) × AreWords test words × (next ≡ spaced words ++ tail)) → HasNoWord test tail → (EndsWord next → EndsWord tail) →
+      ¬ length tail ≡ length next → n ≡ length next - length tail → first ≡ take n next → rest ≡ drop n next →
+      AreWordsText test first × (0 < length first) × HasNoWord test rest × EndsWord rest × (next ≡ first ++ rest)
+  words_found next tail first rest n cut none ends differ long f g =
+      let count : n ≡ length (spaced cut.0) = omega (arith, long, ap length cut.2, length-append (spaced cut.0) tail) in
+      let first_is : first ≡ spaced cut.0 = rw (f, count, cut.2) (take-append_seam (spaced cut.0) tail) in
+      let rest_is : rest ≡ tail = rw (g, count, cut.2) (drop-append_seam (spaced cut.0) tail) in
+      let some = ends_next cut.0 next tail cut.2 differ in
+      ((cut.0, cut.1, first_is), rw first_is some.1, rw rest_is none, rw rest_is (ends some.0), rw (first_is, rest_is) cut.2)

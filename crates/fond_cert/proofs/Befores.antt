@@ -1,12 +1,12 @@
 -- Drafts before a line that is allowed.
-use Rattle.std.proofs.Common.{◌≡◌, ◌⊎◌, inl, inr, ℕ, ◌+◌, ◌<◌, ◌^◌, nat_lt, Bool, true, false, List, [], ◌∷◌, ◌++◌, Option, Some, None, length, if◌then◌else◌, refl, sym, ap, ◌∙◌, arith, length-append}
+use Rattle.std.proofs.Common.{◌≡◌, ℕ, ◌+◌, ◌<◌, ◌^◌, nat_lt, Bool, true, false, List, [], ◌∷◌, ◌++◌, Option, Some, None, length, if◌then◌else◌, refl, sym, ap, ◌∙◌, arith, length-append}
 use Rattle.std.proofs.lemmas.Bool.Decides.{nat_tests}
 use Rattle.fond_task.specs.declared.task.Task.{Task}
 use Rattle.fond_game.specs.Layers.{CubeView}
 use Rattle.fond_cert.specs.declared.draft.Draft.{Draft}
-use Rattle.fond_cert.specs.Drafts.{opened, all_layers, draft_lines, IsEmpty, header, HasLayersAlone, FitsDue}
-use Rattle.fond_cert.specs.Faults.{Kind, OfPolicy, OfRefusal, Due, HeaderDue, LayersDue, CubesDue, PairsDue, RulesDue, EndDue, NothingDue, due_after, if_few}
-use Rattle.fond_cert.specs.Lines.{GoalWord, WrittenLine, PolicyHeader, RefusalHeader, LayerLine, CubeLine, PairLine, FairRule, ReachLine, EndLine}
+use Rattle.fond_cert.specs.Drafts.{opened, all_layers, draft_lines, IsEmpty, header, HasNoLast, HasNoEvidence, HasLayersAlone, IsWholeOf, FitsDue}
+use Rattle.fond_cert.specs.Faults.{Evidence, ByReach, ByCover, Kind, OfPolicy, OfRefusal, Due, HeaderDue, LayersDue, CubesDue, PairsDue, RulesDue, ItemsDue, EndDue, NothingDue, due_after, if_few}
+use Rattle.fond_cert.specs.Lines.{GoalWord, WrittenLine, PolicyHeader, RefusalHeader, CoverHeader, LayerLine, CubeLine, PairLine, FairRule, ReachLine, GoalItem, StartLine, EndLine}
 
 abbrev due_in : Due → Option Due → Due
 due_in none None = none
@@ -23,7 +23,11 @@ few_is : (count : ℕ) (due next : Due) → if_few count due ≡ Some next → (
 few_is count due next e = few_by (nat_lt count (2 ^ 32)) count due next refl e
 
 empty_alone : (draft : Draft) → IsEmpty draft → HasLayersAlone draft
-empty_alone draft h = (ap (λ (d : Draft). d.pairs) h, ap (λ (d : Draft). d.rules) h, ap (λ (d : Draft). d.reach) h)
+empty_alone draft h = (
+  ap (λ (d : Draft). d.pairs) h,
+  ap (λ (d : Draft). d.rules) h,
+  (ap (λ (d : Draft). d.items) h, (ap (λ (d : Draft). d.reach) h, ap (λ (d : Draft). d.start) h)),
+)
 
 empty_lines : (task : Task) (draft : Draft) (lines : List WrittenLine) (first : WrittenLine) → IsEmpty draft → lines ≡ first ∷ [] → lines ≡ first ∷ draft_lines task draft
 empty_lines task draft lines first h e = e ∙ ap (λ d. first ∷ draft_lines task d) (sym h)
@@ -34,122 +38,165 @@ empty_closed draft h = ap (λ (d : Draft). d.current) h
 all_of_open : (draft : Draft) (current : List CubeView) → draft.current ≡ Some current → length (all_layers draft) ≡ length draft.layers + 1
 all_of_open draft current e = ap (λ o. length (draft.layers ++ opened o)) e ∙ length-append draft.layers (current ∷ [])
 
--- a draft before a pair has no rules and no reach number
+-- a draft before a pair has no rules and nothing after them
 abbrev pub IsBeforePair : Task → Due → Draft → List WrittenLine → Type 0
-IsBeforePair task next draft lines = (draft.rules ≡ []) × (draft.reach ≡ None) × (lines ≡ PolicyHeader ∷ draft_lines task draft) × (next ≡ PairsDue)
+IsBeforePair task next draft lines =
+    (evidence : Evidence) × (draft.rules ≡ []) × HasNoEvidence draft × (lines ≡ header (OfPolicy evidence) ∷ draft_lines task draft) × (next ≡ PairsDue evidence)
 
 pub before_pair : (task : Task) (due next : Due) (draft : Draft) (lines : List WrittenLine) → FitsDue task due draft lines → due_after due (PairLine [] [] [] [] []) ≡ Some next → IsBeforePair task next draft lines
-before_pair task HeaderDue next draft lines h e = absurd (cc)
-before_pair task (LayersDue OfPolicy) next draft lines h e = let alone = empty_alone draft h.0 in (alone.1, alone.2, empty_lines task draft lines PolicyHeader h.0 h.1, some_is PairsDue next e)
-before_pair task (LayersDue OfRefusal) next draft lines h e = absurd (cc)
-before_pair task (CubesDue OfPolicy layers cubes) next draft lines h e = (h.4.1, h.4.2, h.5, some_is PairsDue next e)
-before_pair task (CubesDue OfRefusal layers cubes) next draft lines h e = absurd (cc)
-before_pair task PairsDue next draft lines h e = (h.1, h.2, h.3, some_is PairsDue next e)
-before_pair task (RulesDue rules) next draft lines h e = absurd (cc)
-before_pair task EndDue next draft lines h e = absurd (cc)
-before_pair task NothingDue next draft lines h e = absurd (cc)
+before_pair task (LayersDue (OfPolicy evidence)) next draft lines h e =
+    let alone = empty_alone draft h.0 in
+    (evidence, alone.1, alone.2, empty_lines task draft lines (header (OfPolicy evidence)) h.0 h.1, some_is (PairsDue evidence) next e)
+before_pair task (CubesDue (OfPolicy evidence) layers cubes) next draft lines h e = (evidence, h.4.1, h.4.2, h.5, some_is (PairsDue evidence) next e)
+before_pair task (PairsDue evidence) next draft lines h e = (evidence, h.1, h.2, h.3, some_is (PairsDue evidence) next e)
+before_pair task (RulesDue ByReach rules) next draft lines h e = absurd (cc)
+before_pair task due next draft lines h e = absurd (cc)
 
--- a draft before a rule has no reach number, and room for the rule
+-- a draft before a rule has nothing after its rules, and room for the rule
 abbrev pub IsBeforeRule : Task → Due → Draft → List WrittenLine → Type 0
-IsBeforeRule task next draft lines = (draft.reach ≡ None) × (lines ≡ PolicyHeader ∷ draft_lines task draft) × (length draft.rules + 1 < 2 ^ 32) × (next ≡ RulesDue (length draft.rules + 1))
+IsBeforeRule task next draft lines =
+    (evidence : Evidence) × HasNoEvidence draft × (lines ≡ header (OfPolicy evidence) ∷ draft_lines task draft) × (length draft.rules + 1 < 2 ^ 32) × (next ≡ RulesDue evidence (length draft.rules + 1))
+
+first_rule : (task : Task) (next : Due) (draft : Draft) (lines : List WrittenLine) (evidence : Evidence) → draft.rules ≡ [] → HasNoEvidence draft → lines ≡ header (OfPolicy evidence) ∷ draft_lines task draft →
+    Some (RulesDue evidence 1) ≡ Some next → IsBeforeRule task next draft lines
+first_rule task next draft lines evidence rules alone is e =
+    let none : length draft.rules ≡ 0 = ap length rules in
+    (evidence, alone, is, omega (arith, none), some_is (RulesDue evidence 1) next e ∙ ap (λ n. RulesDue evidence (n + 1)) (sym none))
 
 pub before_rule : (task : Task) (due next : Due) (draft : Draft) (lines : List WrittenLine) → FitsDue task due draft lines → due_after due (FairRule [] [] GoalWord []) ≡ Some next → IsBeforeRule task next draft lines
-before_rule task HeaderDue next draft lines h e = absurd (cc)
-before_rule task (LayersDue OfPolicy) next draft lines h e = let alone = empty_alone draft h.0 in let none : length draft.rules ≡ 0 = ap length alone.1 in (alone.2, empty_lines task draft lines PolicyHeader h.0 h.1, omega (arith, none), some_is (RulesDue 1) next e ∙ ap (λ n. RulesDue (n + 1)) (sym none))
-before_rule task (LayersDue OfRefusal) next draft lines h e = absurd (cc)
-before_rule task (CubesDue OfPolicy layers cubes) next draft lines h e = let none : length draft.rules ≡ 0 = ap length h.4.1 in (h.4.2, h.5, omega (arith, none), some_is (RulesDue 1) next e ∙ ap (λ n. RulesDue (n + 1)) (sym none))
-before_rule task (CubesDue OfRefusal layers cubes) next draft lines h e = absurd (cc)
-before_rule task PairsDue next draft lines h e = let none : length draft.rules ≡ 0 = ap length h.1 in (h.2, h.3, omega (arith, none), some_is (RulesDue 1) next e ∙ ap (λ n. RulesDue (n + 1)) (sym none))
-before_rule task (RulesDue rules) next draft lines h e = let few = few_is (rules + 1) (RulesDue (rules + 1)) next e in (h.2, h.3, omega (arith, few.0, h.1), few.1 ∙ ap (λ n. RulesDue (n + 1)) (sym h.1))
-before_rule task EndDue next draft lines h e = absurd (cc)
-before_rule task NothingDue next draft lines h e = absurd (cc)
+before_rule task (LayersDue (OfPolicy evidence)) next draft lines h e =
+    let alone = empty_alone draft h.0 in
+    first_rule task next draft lines evidence alone.1 alone.2 (empty_lines task draft lines (header (OfPolicy evidence)) h.0 h.1) e
+before_rule task (CubesDue (OfPolicy evidence) layers cubes) next draft lines h e = first_rule task next draft lines evidence h.4.1 h.4.2 h.5 e
+before_rule task (PairsDue evidence) next draft lines h e = first_rule task next draft lines evidence h.1 h.2 h.3 e
+before_rule task (RulesDue evidence rules) next draft lines h e =
+    let few = few_is (rules + 1) (RulesDue evidence (rules + 1)) next e in
+    (evidence, h.2, h.3, omega (arith, few.0, h.1), few.1 ∙ ap (λ n. RulesDue evidence (n + 1)) (sym h.1))
+before_rule task due next draft lines h e = absurd (cc)
 
--- a draft before the reach line has no reach number
+-- a draft before an item has neither a reach number nor a start number, and room for the item
+abbrev pub IsBeforeItem : Task → Due → Draft → List WrittenLine → Type 0
+IsBeforeItem task next draft lines =
+    HasNoLast draft × (lines ≡ CoverHeader ∷ draft_lines task draft) × (length draft.items + 1 < 2 ^ 32) × (next ≡ ItemsDue (length draft.items + 1))
+
+first_item : (task : Task) (next : Due) (draft : Draft) (lines : List WrittenLine) → HasNoEvidence draft → lines ≡ CoverHeader ∷ draft_lines task draft → Some (ItemsDue 1) ≡ Some next → IsBeforeItem task next draft lines
+first_item task next draft lines alone is e =
+    let none : length draft.items ≡ 0 = ap length alone.0 in
+    (alone.1, is, omega (arith, none), some_is (ItemsDue 1) next e ∙ ap (λ n. ItemsDue (n + 1)) (sym none))
+
+pub before_item : (task : Task) (due next : Due) (draft : Draft) (lines : List WrittenLine) → FitsDue task due draft lines → due_after due (GoalItem []) ≡ Some next → IsBeforeItem task next draft lines
+before_item task (LayersDue (OfPolicy ByCover)) next draft lines h e = first_item task next draft lines (empty_alone draft h.0).2 (empty_lines task draft lines CoverHeader h.0 h.1) e
+before_item task (CubesDue (OfPolicy ByCover) layers cubes) next draft lines h e = first_item task next draft lines h.4.2 h.5 e
+before_item task (PairsDue ByCover) next draft lines h e = first_item task next draft lines h.2 h.3 e
+before_item task (RulesDue ByCover rules) next draft lines h e = first_item task next draft lines h.2 h.3 e
+before_item task (ItemsDue items) next draft lines h e =
+    let few = few_is (items + 1) (ItemsDue (items + 1)) next e in
+    (h.2, h.3, omega (arith, few.0, h.1), few.1 ∙ ap (λ n. ItemsDue (n + 1)) (sym h.1))
+before_item task due next draft lines h e = absurd (cc)
+
+-- a draft before the reach line has nothing after its rules
 abbrev pub IsBeforeReach : Task → Due → Draft → List WrittenLine → Type 0
-IsBeforeReach task next draft lines = (draft.reach ≡ None) × (lines ≡ PolicyHeader ∷ draft_lines task draft) × (next ≡ EndDue)
+IsBeforeReach task next draft lines = HasNoEvidence draft × (lines ≡ PolicyHeader ∷ draft_lines task draft) × (next ≡ EndDue)
 
 pub before_reach : (task : Task) (due next : Due) (draft : Draft) (lines : List WrittenLine) → FitsDue task due draft lines → due_after due (ReachLine []) ≡ Some next → IsBeforeReach task next draft lines
-before_reach task HeaderDue next draft lines h e = absurd (cc)
-before_reach task (LayersDue OfPolicy) next draft lines h e = let alone = empty_alone draft h.0 in (alone.2, empty_lines task draft lines PolicyHeader h.0 h.1, some_is EndDue next e)
-before_reach task (LayersDue OfRefusal) next draft lines h e = absurd (cc)
-before_reach task (CubesDue OfPolicy layers cubes) next draft lines h e = (h.4.2, h.5, some_is EndDue next e)
-before_reach task (CubesDue OfRefusal layers cubes) next draft lines h e = absurd (cc)
-before_reach task PairsDue next draft lines h e = (h.2, h.3, some_is EndDue next e)
-before_reach task (RulesDue rules) next draft lines h e = (h.2, h.3, some_is EndDue next e)
-before_reach task EndDue next draft lines h e = absurd (cc)
-before_reach task NothingDue next draft lines h e = absurd (cc)
+before_reach task (LayersDue (OfPolicy ByReach)) next draft lines h e = ((empty_alone draft h.0).2, empty_lines task draft lines PolicyHeader h.0 h.1, some_is EndDue next e)
+before_reach task (CubesDue (OfPolicy ByReach) layers cubes) next draft lines h e = (h.4.2, h.5, some_is EndDue next e)
+before_reach task (PairsDue ByReach) next draft lines h e = (h.2, h.3, some_is EndDue next e)
+before_reach task (RulesDue ByReach rules) next draft lines h e = (h.2, h.3, some_is EndDue next e)
+before_reach task due next draft lines h e = absurd (cc)
 
--- a draft before a layer has nothing but layers, and room for the layer
+-- a draft before the start line has neither a reach number nor a start number
+abbrev pub IsBeforeStart : Task → Due → Draft → List WrittenLine → Type 0
+IsBeforeStart task next draft lines = HasNoLast draft × (lines ≡ CoverHeader ∷ draft_lines task draft) × (next ≡ EndDue)
+
+pub before_start : (task : Task) (due next : Due) (draft : Draft) (lines : List WrittenLine) → FitsDue task due draft lines → due_after due (StartLine []) ≡ Some next → IsBeforeStart task next draft lines
+before_start task (LayersDue (OfPolicy ByCover)) next draft lines h e = ((empty_alone draft h.0).2.1, empty_lines task draft lines CoverHeader h.0 h.1, some_is EndDue next e)
+before_start task (CubesDue (OfPolicy ByCover) layers cubes) next draft lines h e = (h.4.2.1, h.5, some_is EndDue next e)
+before_start task (PairsDue ByCover) next draft lines h e = (h.2.1, h.3, some_is EndDue next e)
+before_start task (RulesDue ByCover rules) next draft lines h e = (h.2.1, h.3, some_is EndDue next e)
+before_start task (ItemsDue items) next draft lines h e = (h.2, h.3, some_is EndDue next e)
+before_start task due next draft lines h e = absurd (cc)
+
+-- a draft before a layer has nothing but layers, and room for one more
 abbrev pub IsBeforeLayer : Task → Due → Draft → List WrittenLine → Type 0
-IsBeforeLayer task next draft lines = (kind : Kind) × HasLayersAlone draft × (lines ≡ header kind ∷ draft_lines task draft) × ((length (all_layers draft) + 1 < 2 ^ 32) × (next ≡ CubesDue kind (length (all_layers draft) + 1) 0))
+IsBeforeLayer task next draft lines =
+    (kind : Kind) × HasLayersAlone draft × (lines ≡ header kind ∷ draft_lines task draft) × ((length (all_layers draft) + 1 < 2 ^ 32) × (next ≡ CubesDue kind (length (all_layers draft) + 1) 0))
 
-pub before_layer : (task : Task) (due next : Due) (draft : Draft) (lines : List WrittenLine) → FitsDue task due draft lines → due_after due (LayerLine) ≡ Some next → IsBeforeLayer task next draft lines
-before_layer task HeaderDue next draft lines h e = absurd (cc)
-before_layer task (LayersDue OfPolicy) next draft lines h e = (OfPolicy, empty_alone draft h.0, empty_lines task draft lines (header OfPolicy) h.0 h.1, let none : length (all_layers draft) ≡ 0 = ap (λ d. length (all_layers d)) h.0 in (omega (arith, none), some_is (CubesDue OfPolicy 1 0) next e ∙ ap (λ n. CubesDue OfPolicy (n + 1) 0) (sym none)))
-before_layer task (LayersDue OfRefusal) next draft lines h e = (OfRefusal, empty_alone draft h.0, empty_lines task draft lines (header OfRefusal) h.0 h.1, let none : length (all_layers draft) ≡ 0 = ap (λ d. length (all_layers d)) h.0 in (omega (arith, none), some_is (CubesDue OfRefusal 1 0) next e ∙ ap (λ n. CubesDue OfRefusal (n + 1) 0) (sym none)))
-before_layer task (CubesDue OfPolicy layers cubes) next draft lines h e = let few = few_is (layers + 1) (CubesDue OfPolicy (layers + 1) 0) next e in let count = all_of_open draft h.0 h.1 in (OfPolicy, h.4, h.5, (omega (arith, few.0, count, h.3), few.1 ∙ ap (λ n. CubesDue OfPolicy (n + 1) 0) (sym (count ∙ h.3))))
-before_layer task (CubesDue OfRefusal layers cubes) next draft lines h e = let few = few_is (layers + 1) (CubesDue OfRefusal (layers + 1) 0) next e in let count = all_of_open draft h.0 h.1 in (OfRefusal, h.4, h.5, (omega (arith, few.0, count, h.3), few.1 ∙ ap (λ n. CubesDue OfRefusal (n + 1) 0) (sym (count ∙ h.3))))
-before_layer task PairsDue next draft lines h e = absurd (cc)
-before_layer task (RulesDue rules) next draft lines h e = absurd (cc)
-before_layer task EndDue next draft lines h e = absurd (cc)
-before_layer task NothingDue next draft lines h e = absurd (cc)
+pub before_layer : (task : Task) (due next : Due) (draft : Draft) (lines : List WrittenLine) → FitsDue task due draft lines → due_after due LayerLine ≡ Some next → IsBeforeLayer task next draft lines
+before_layer task (LayersDue kind) next draft lines h e =
+    let none : length (all_layers draft) ≡ 0 = ap (λ d. length (all_layers d)) h.0 in (
+      kind,
+      empty_alone draft h.0,
+      empty_lines task draft lines (header kind) h.0 h.1,
+      (omega (arith, none), some_is (CubesDue kind 1 0) next e ∙ ap (λ n. CubesDue kind (n + 1) 0) (sym none)),
+    )
+before_layer task (CubesDue kind layers cubes) next draft lines h e =
+    let few = few_is (layers + 1) (CubesDue kind (layers + 1) 0) next e in
+    let count = all_of_open draft h.0 h.1 in
+    (kind, h.4, h.5, (omega (arith, few.0, count, h.3), few.1 ∙ ap (λ n. CubesDue kind (n + 1) 0) (sym (count ∙ h.3))))
+before_layer task (PairsDue ByReach) next draft lines h e = absurd (cc)
+before_layer task (RulesDue ByReach rules) next draft lines h e = absurd (cc)
+before_layer task due next draft lines h e = absurd (cc)
 
 -- a draft before a cube has nothing but layers, the last of which is being read and has room for the cube
 abbrev pub IsBeforeCube : Task → Due → Draft → List WrittenLine → Type 0
-IsBeforeCube task next draft lines = (kind : Kind) × (current : List CubeView) × (draft.current ≡ Some current) × HasLayersAlone draft × (lines ≡ header kind ∷ draft_lines task draft) × ((length current + 1 < 2 ^ 32) × (next ≡ CubesDue kind (length draft.layers + 1) (length current + 1)))
+IsBeforeCube task next draft lines =
+    (kind : Kind) × (current : List CubeView) × (draft.current ≡ Some current) × HasLayersAlone draft × (lines ≡ header kind ∷ draft_lines task draft)
+    × ((length current + 1 < 2 ^ 32) × (next ≡ CubesDue kind (length draft.layers + 1) (length current + 1)))
 
 pub before_cube : (task : Task) (due next : Due) (draft : Draft) (lines : List WrittenLine) → FitsDue task due draft lines → due_after due (CubeLine []) ≡ Some next → IsBeforeCube task next draft lines
-before_cube task HeaderDue next draft lines h e = absurd (cc)
-before_cube task (LayersDue OfPolicy) next draft lines h e = absurd (cc)
-before_cube task (LayersDue OfRefusal) next draft lines h e = absurd (cc)
-before_cube task (CubesDue OfPolicy layers cubes) next draft lines h e = let few = few_is (cubes + 1) (CubesDue OfPolicy layers (cubes + 1)) next e in (OfPolicy, h.0, h.1, h.4, h.5, (omega (arith, few.0, h.2), few.1 ∙ ap (λ n. CubesDue OfPolicy n (cubes + 1)) (sym h.3) ∙ ap (λ n. CubesDue OfPolicy (length draft.layers + 1) (n + 1)) (sym h.2)))
-before_cube task (CubesDue OfRefusal layers cubes) next draft lines h e = let few = few_is (cubes + 1) (CubesDue OfRefusal layers (cubes + 1)) next e in (OfRefusal, h.0, h.1, h.4, h.5, (omega (arith, few.0, h.2), few.1 ∙ ap (λ n. CubesDue OfRefusal n (cubes + 1)) (sym h.3) ∙ ap (λ n. CubesDue OfRefusal (length draft.layers + 1) (n + 1)) (sym h.2)))
-before_cube task PairsDue next draft lines h e = absurd (cc)
-before_cube task (RulesDue rules) next draft lines h e = absurd (cc)
-before_cube task EndDue next draft lines h e = absurd (cc)
-before_cube task NothingDue next draft lines h e = absurd (cc)
+before_cube task (CubesDue kind layers cubes) next draft lines h e =
+    let few = few_is (cubes + 1) (CubesDue kind layers (cubes + 1)) next e in (
+      kind,
+      h.0,
+      h.1,
+      h.4,
+      h.5,
+      (omega (arith, few.0, h.2), few.1 ∙ ap (λ n. CubesDue kind n (cubes + 1)) (sym h.3) ∙ ap (λ n. CubesDue kind (length draft.layers + 1) (n + 1)) (sym h.2)),
+    )
+before_cube task (LayersDue (OfPolicy ByReach)) next draft lines h e = absurd (cc)
+before_cube task (PairsDue ByReach) next draft lines h e = absurd (cc)
+before_cube task (RulesDue ByReach rules) next draft lines h e = absurd (cc)
+before_cube task due next draft lines h e = absurd (cc)
 
--- a draft before the end line is a whole policy or a whole refusal
+-- a draft before the end line is whole
 abbrev pub IsBeforeEnd : Task → Due → Draft → List WrittenLine → Type 0
-IsBeforeEnd task next draft lines = (next ≡ NothingDue) × ((((reach : ℕ) × (draft.reach ≡ Some reach)) × (lines ≡ PolicyHeader ∷ draft_lines task draft)) ⊎ (HasLayersAlone draft × (lines ≡ RefusalHeader ∷ draft_lines task draft)))
+IsBeforeEnd task next draft lines = (kind : Kind) × IsWholeOf kind draft × (lines ≡ header kind ∷ draft_lines task draft) × (next ≡ NothingDue)
 
-pub before_end : (task : Task) (due next : Due) (draft : Draft) (lines : List WrittenLine) → FitsDue task due draft lines → due_after due (EndLine) ≡ Some next → IsBeforeEnd task next draft lines
-before_end task HeaderDue next draft lines h e = absurd (cc)
-before_end task (LayersDue OfPolicy) next draft lines h e = absurd (cc)
-before_end task (LayersDue OfRefusal) next draft lines h e = (some_is NothingDue next e, inr (empty_alone draft h.0, empty_lines task draft lines RefusalHeader h.0 h.1))
-before_end task (CubesDue OfPolicy layers cubes) next draft lines h e = absurd (cc)
-before_end task (CubesDue OfRefusal layers cubes) next draft lines h e = (some_is NothingDue next e, inr (h.4, h.5))
-before_end task PairsDue next draft lines h e = absurd (cc)
-before_end task (RulesDue rules) next draft lines h e = absurd (cc)
-before_end task EndDue next draft lines h e = (some_is NothingDue next e, inl (h.1, h.2))
-before_end task NothingDue next draft lines h e = absurd (cc)
-
--- a draft before the header is empty
-abbrev pub IsBeforePolicy : Task → Due → Draft → List WrittenLine → Type 0
-IsBeforePolicy task next draft lines = IsEmpty draft × (lines ≡ []) × (next ≡ LayersDue OfPolicy)
-
-pub before_policy : (task : Task) (due next : Due) (draft : Draft) (lines : List WrittenLine) → FitsDue task due draft lines → due_after due (PolicyHeader) ≡ Some next → IsBeforePolicy task next draft lines
-before_policy task HeaderDue next draft lines h e = (h.0, h.1, some_is (LayersDue OfPolicy) next e)
-before_policy task (LayersDue OfPolicy) next draft lines h e = absurd (cc)
-before_policy task (LayersDue OfRefusal) next draft lines h e = absurd (cc)
-before_policy task (CubesDue OfPolicy layers cubes) next draft lines h e = absurd (cc)
-before_policy task (CubesDue OfRefusal layers cubes) next draft lines h e = absurd (cc)
-before_policy task PairsDue next draft lines h e = absurd (cc)
-before_policy task (RulesDue rules) next draft lines h e = absurd (cc)
-before_policy task EndDue next draft lines h e = absurd (cc)
-before_policy task NothingDue next draft lines h e = absurd (cc)
+pub before_end : (task : Task) (due next : Due) (draft : Draft) (lines : List WrittenLine) → FitsDue task due draft lines → due_after due EndLine ≡ Some next → IsBeforeEnd task next draft lines
+before_end task (LayersDue OfRefusal) next draft lines h e = (OfRefusal, empty_alone draft h.0, empty_lines task draft lines RefusalHeader h.0 h.1, some_is NothingDue next e)
+before_end task (CubesDue OfRefusal layers cubes) next draft lines h e = (OfRefusal, h.4, h.5, some_is NothingDue next e)
+before_end task EndDue next draft lines h e = (OfPolicy h.1.0, h.1.1, h.1.2, some_is NothingDue next e)
+before_end task (LayersDue (OfPolicy ByReach)) next draft lines h e = absurd (cc)
+before_end task (CubesDue (OfPolicy ByReach) layers cubes) next draft lines h e = absurd (cc)
+before_end task (PairsDue ByReach) next draft lines h e = absurd (cc)
+before_end task (RulesDue ByReach rules) next draft lines h e = absurd (cc)
+before_end task due next draft lines h e = absurd (cc)
 
 -- a draft before the header is empty
-abbrev pub IsBeforeRefusal : Task → Due → Draft → List WrittenLine → Type 0
-IsBeforeRefusal task next draft lines = IsEmpty draft × (lines ≡ []) × (next ≡ LayersDue OfRefusal)
+abbrev pub IsBeforeHeader : Kind → Due → Draft → List WrittenLine → Type 0
+IsBeforeHeader kind next draft lines = IsEmpty draft × (lines ≡ []) × (next ≡ LayersDue kind)
 
-pub before_refusal : (task : Task) (due next : Due) (draft : Draft) (lines : List WrittenLine) → FitsDue task due draft lines → due_after due (RefusalHeader) ≡ Some next → IsBeforeRefusal task next draft lines
+pub before_policy : (task : Task) (due next : Due) (draft : Draft) (lines : List WrittenLine) → FitsDue task due draft lines → due_after due PolicyHeader ≡ Some next → IsBeforeHeader (OfPolicy ByReach) next draft lines
+before_policy task HeaderDue next draft lines h e = (h.0, h.1, some_is (LayersDue (OfPolicy ByReach)) next e)
+before_policy task (LayersDue (OfPolicy ByReach)) next draft lines h e = absurd (cc)
+before_policy task (CubesDue (OfPolicy ByReach) layers cubes) next draft lines h e = absurd (cc)
+before_policy task (PairsDue ByReach) next draft lines h e = absurd (cc)
+before_policy task (RulesDue ByReach rules) next draft lines h e = absurd (cc)
+before_policy task due next draft lines h e = absurd (cc)
+
+pub before_cover : (task : Task) (due next : Due) (draft : Draft) (lines : List WrittenLine) → FitsDue task due draft lines → due_after due CoverHeader ≡ Some next → IsBeforeHeader (OfPolicy ByCover) next draft lines
+before_cover task HeaderDue next draft lines h e = (h.0, h.1, some_is (LayersDue (OfPolicy ByCover)) next e)
+before_cover task (LayersDue (OfPolicy ByReach)) next draft lines h e = absurd (cc)
+before_cover task (CubesDue (OfPolicy ByReach) layers cubes) next draft lines h e = absurd (cc)
+before_cover task (PairsDue ByReach) next draft lines h e = absurd (cc)
+before_cover task (RulesDue ByReach rules) next draft lines h e = absurd (cc)
+before_cover task due next draft lines h e = absurd (cc)
+
+pub before_refusal : (task : Task) (due next : Due) (draft : Draft) (lines : List WrittenLine) → FitsDue task due draft lines → due_after due RefusalHeader ≡ Some next → IsBeforeHeader OfRefusal next draft lines
 before_refusal task HeaderDue next draft lines h e = (h.0, h.1, some_is (LayersDue OfRefusal) next e)
-before_refusal task (LayersDue OfPolicy) next draft lines h e = absurd (cc)
-before_refusal task (LayersDue OfRefusal) next draft lines h e = absurd (cc)
-before_refusal task (CubesDue OfPolicy layers cubes) next draft lines h e = absurd (cc)
-before_refusal task (CubesDue OfRefusal layers cubes) next draft lines h e = absurd (cc)
-before_refusal task PairsDue next draft lines h e = absurd (cc)
-before_refusal task (RulesDue rules) next draft lines h e = absurd (cc)
-before_refusal task EndDue next draft lines h e = absurd (cc)
-before_refusal task NothingDue next draft lines h e = absurd (cc)
+before_refusal task (LayersDue (OfPolicy ByReach)) next draft lines h e = absurd (cc)
+before_refusal task (CubesDue (OfPolicy ByReach) layers cubes) next draft lines h e = absurd (cc)
+before_refusal task (PairsDue ByReach) next draft lines h e = absurd (cc)
+before_refusal task (RulesDue ByReach rules) next draft lines h e = absurd (cc)
+before_refusal task due next draft lines h e = absurd (cc)

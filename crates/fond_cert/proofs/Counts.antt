@@ -1,16 +1,16 @@
--- What the lines of cubes and the reach line make.
+-- What the lines of cubes, the reach line and the start line make.
 use Rattle.std.proofs.Common.{◌≡◌, ℕ, ◌≤◌, ◌<◌, ◌^◌, IsTrue, List, [], ◌++◌, Option, Some, Bool, length, codes, refl, sym, ap, ◌∙◌, subst}
 use Rattle.std.specs.Fmt.{decimal}
 use Rattle.std.specs.Str.Parse.{digits_value}
 use Rattle.fond_task.specs.declared.task.Task.{Task}
 use Rattle.fond_cert.specs.declared.error.LineError.{LineError}
 use Rattle.fond_cert.specs.declared.error.LineError.TheVariants.{Refused as RefusedLine, NoMemory}
-use Rattle.fond_cert.specs.declared.line.Line.TheVariants.{Cube as CubeParts, Reach as ReachParts}
+use Rattle.fond_cert.specs.declared.line.Line.TheVariants.{Cube as CubeParts, Reach as ReachParts, Start as StartParts}
 use Rattle.fond_cert.specs.declared.part.Part.{Part}
-use Rattle.fond_cert.specs.Lines.{is_number, WrittenLiteral, CubeLine, ReachLine, IsProper}
+use Rattle.fond_cert.specs.Lines.{is_number, WrittenLiteral, CubeLine, ReachLine, StartLine, IsProper}
 use Rattle.fond_cert.specs.Parts.{AreLiterals}
 use Rattle.fond_cert.specs.Words.{line_refusal}
-use Rattle.fond_cert.specs.Checked.{ReadsCube, IsCubeRefused, cube_refusal}
+use Rattle.fond_cert.specs.Checked.{ReadsNumber, IsNumberRefused, ReadsCube, IsCubeRefused, cube_refusal}
 use Rattle.fond_cert.specs.Cutting.{IsRightCut, IsMade, IsRefusedBy}
 use Rattle.fond_cert.specs.Refusals.{LineRefuses}
 use Rattle.fond_cert.specs.Spellings.{written_cube}
@@ -71,4 +71,30 @@ module _ (count : Part) (h : IsRightCut (ReachParts count)) where
         proper = reach_proper;
         cut = (refl, h.2.1);
         wrong = rw (below_wrong task (2 ^ 64) count.text.now large) (ap (λ p. Some (record { code = 4; at = p })) (sym h.2.1));
+      })
+
+module _ (item : Part) (h : IsRightCut (StartParts item)) where
+  start_proper : IsProper (StartLine item.text.now)
+  start_proper = subst IsProper h.2.0 h.1
+
+  pub start_number : IsTrue (is_number item.text.now)
+  start_number = start_proper
+
+  pub start_made : (task : Task) (start : ℕ) → ReadsNumber item.text.now start → IsMade task (StartParts item) (StartLine (decimal start))
+  start_made task start read = record {
+    written = StartLine item.text.now;
+    proper = start_proper;
+    cut = (refl, h.2.1);
+    right = rw (below_right task (2 ^ 32) item.text.now read.0) refl;
+    same = ap (λ t. codes "start " ++ (t ++ [])) read.1;
+  }
+
+  pub start_error : (task : Task) (error : LineError) → IsNumberRefused item error → LineRefuses (IsRefusedBy task (StartParts item)) error
+  start_error task error large =
+      rw large.1
+      (record {
+        written = StartLine item.text.now;
+        proper = start_proper;
+        cut = (refl, h.2.1);
+        wrong = rw (below_wrong task (2 ^ 32) item.text.now large.0) (ap (λ p. Some (record { code = 4; at = p })) (sym h.2.1));
       })

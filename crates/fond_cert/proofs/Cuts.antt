@@ -1,4 +1,4 @@
--- Words up to the first space, and targets.
+-- Words up to the first space, and words that pass a test.
 use Rattle.std.proofs.lemmas.Bool.{and_parts}
 use Rattle.std.proofs.Common.{◌≡◌, ◌≢◌, ℕ, ◌+◌, ◌==◌, ◌&&◌, ◌||◌, not, cond, Bool, true, false, IsTrue, suc, List, [], ◌∷◌, ◌++◌, length, take, drop, codes, refl, sym, ap, ◌∙◌, arith, append_assoc}
 use Rattle.std.specs.Char.{is_ascii_digit}
@@ -9,8 +9,11 @@ use Rattle.std.proofs.lemmas.Slice.Eq.{bytes_eq-Decides}
 use Rattle.std.proofs.lemmas.List.Elements.{All-cons, All-nil, All-append}
 use borrow.Author.Tests.{eqb-true}
 use Rattle.fond_cert.specs.Lines.{spaced}
-use Rattle.fond_cert.specs.Parts.{is_in_word, EndsWord, IsCut, is_target, AreTargets, HasNoTarget}
+use Rattle.fond_cert.specs.Parts.{is_in_word, EndsWord, IsCut, is_target, AreWords, HasNoWord}
 use Rattle.fond_cert.specs.Lines.{is_number}
+use Rattle.fond_cert.specs.Stages.{test_of}
+use Rattle.fond_cert.specs.declared.word.WordKind.{WordKind}
+use Rattle.fond_cert.specs.declared.word.WordKind.TheVariants.{Target, Number}
 use Rattle.fond_cert.proofs.Literals.{same_head, same_tail}
 
 is_the_space : (v : Bool) (b : ℕ) → (b == 32) ≡ v → not v ≡ false → b ≡ 32
@@ -83,26 +86,35 @@ target_no_space word e =
     (λ h. rw ((bytes_eq-Decides word (codes "goal")).0 h) refl)
     (λ h. number_no_space word h)
 
--- a word that is no target, after a space, begins no text of a target
-pub no_target : (text inner word rest : List ℕ) → text ≡ 32 ∷ inner → IsCut inner word rest → is_target word ≡ false → HasNoTarget text
-no_target text inner word rest e cut none other further target ends f =
-    let same = same_word word other rest further cut.1 (target_no_space other target) cut.2 ends (sym cut.0 ∙ same_tail 32 32 _ _ (sym e ∙ f)) in
-    cc
+-- words that pass a test have no space
+abbrev pub HasNoSpaces : (List ℕ → Bool) → Type 0
+HasNoSpaces test = (word : List ℕ) → test word ≡ true → list_all is_in_word word ≡ true
 
-pub no_space_no_target : (text : List ℕ) → ((rest : List ℕ) → text ≢ 32 ∷ rest) → HasNoTarget text
-no_space_no_target text h word rest target ends e = h (word ++ rest) e
+pub kind_no_space : (kind : WordKind) → HasNoSpaces (test_of kind)
+kind_no_space Target = target_no_space
+kind_no_space Number = number_no_space
+
+-- a word that does not pass a test, after a space, begins no text of one that does
+pub no_word : (kind : WordKind) (text inner word rest : List ℕ) → text ≡ 32 ∷ inner → IsCut inner word rest → test_of kind word ≡ false → HasNoWord (test_of kind) text
+no_word kind text inner word rest e cut none other further passes ends f =
+    let same = same_word word other rest further cut.1 (kind_no_space kind other passes) cut.2 ends (sym cut.0 ∙ same_tail 32 32 _ _ (sym e ∙ f)) in
+    let right : test_of kind word ≡ true = ap (test_of kind) same.0 ∙ passes in
+    absurd (cc)
+
+pub no_space_no_word : (test : List ℕ → Bool) (text : List ℕ) → ((rest : List ℕ) → text ≢ 32 ∷ rest) → HasNoWord test text
+no_space_no_word test text h word rest passes ends e = h (word ++ rest) e
 
 spaced_more : (words : List (List ℕ)) (word rest : List ℕ) → spaced (words ++ (word ∷ [])) ++ rest ≡ spaced words ++ (32 ∷ (word ++ rest))
 spaced_more [] word rest = ap (λ t. 32 ∷ t) (append_assoc word [] rest)
 spaced_more (first ∷ words) word rest =
     ap (λ t. 32 ∷ t) (append_assoc first (spaced (words ++ (word ∷ []))) rest ∙ ap (λ t. first ++ t) (spaced_more words word rest) ∙ sym (append_assoc first (spaced words) (32 ∷ (word ++ rest))))
 
--- targets, with one more
-pub targets_more : (text rest further : List ℕ) → ((words : List (List ℕ)) × AreTargets words × (text ≡ spaced words ++ rest)) →
-    ((word : List ℕ) × IsTrue (is_target word) × EndsWord further × (rest ≡ 32 ∷ (word ++ further))) →
-    (words : List (List ℕ)) × AreTargets words × (text ≡ spaced words ++ further)
-targets_more text rest further h one =
-    let P = λ (word : List ℕ). IsTrue (is_target word) in (
+-- words that pass a test, with one more
+pub words_more : (test : List ℕ → Bool) (text rest further : List ℕ) → ((words : List (List ℕ)) × AreWords test words × (text ≡ spaced words ++ rest)) →
+    ((word : List ℕ) × IsTrue (test word) × EndsWord further × (rest ≡ 32 ∷ (word ++ further))) →
+    (words : List (List ℕ)) × AreWords test words × (text ≡ spaced words ++ further)
+words_more test text rest further h one =
+    let P = λ (word : List ℕ). IsTrue (test word) in (
       h.0 ++ (one.0 ∷ []),
       All-append P h.0 (one.0 ∷ []) h.1 (All-cons P one.0 [] one.1 (All-nil P)),
       h.2 ∙ ap (λ t. spaced h.0 ++ t) one.3 ∙ sym (spaced_more h.0 one.0 further),

@@ -1,96 +1,72 @@
 -- What is due after lines depends on their kinds alone.
 use Rattle.std.proofs.Common.{◌≡◌, ℕ, ◌==◌, List, [], Some, None, get_or, if◌then◌else◌, refl, sym, ap, ◌∙◌}
 use Rattle.fond_cert.specs.declared.line.Line.{Line}
-use Rattle.fond_cert.specs.declared.line.Line.TheVariants.{PolicyHeader as CutPolicy, RefusalHeader as CutRefusal, Layer, Cube, Pair, FairRule as CutFair, UnfairRule as CutUnfair, Reach, End}
-use Rattle.fond_cert.specs.Lines.{GoalWord, WrittenLine, PolicyHeader, RefusalHeader, LayerLine, CubeLine, PairLine, FairRule, UnfairRule, ReachLine, EndLine, line_text}
+use Rattle.fond_cert.specs.declared.line.Line.TheVariants.{PolicyHeader as CutPolicy, RefusalHeader as CutRefusal, CoverHeader as CutCover, Layer, Cube, Pair, FairRule as CutFair, UnfairRule as CutUnfair, Reach, GoalItem as CutGoal, RuleItem as CutItem, Start, End}
+use Rattle.fond_cert.specs.Lines.{GoalWord, WrittenLine, PolicyHeader, RefusalHeader, CoverHeader, LayerLine, CubeLine, PairLine, FairRule, UnfairRule, ReachLine, GoalItem, RuleItem, StartLine, EndLine, line_text}
 use Rattle.fond_cert.specs.Cutting.{IsLineOf, IsCutOf}
-use Rattle.fond_cert.specs.Faults.{OfPolicy, OfRefusal, Due, HeaderDue, LayersDue, CubesDue, PairsDue, RulesDue, EndDue, NothingDue, due_after, HasNoForm}
+use Rattle.fond_cert.specs.Faults.{ByReach, ByCover, OfPolicy, OfRefusal, Due, HeaderDue, LayersDue, CubesDue, PairsDue, RulesDue, ItemsDue, EndDue, NothingDue, due_after, HasNoForm}
 use Rattle.fond_cert.specs.Kinds.{HasNoLineOf, IsAny}
 use Rattle.fond_cert.specs.Stages.{like}
 
 -- a line of the same kind without parts
-abbrev alike : WrittenLine → WrittenLine
+abbrev pub alike : WrittenLine → WrittenLine
 alike PolicyHeader = PolicyHeader
 alike RefusalHeader = RefusalHeader
+alike CoverHeader = CoverHeader
 alike LayerLine = LayerLine
 alike (CubeLine l) = CubeLine []
 alike (PairLine a o n c l) = PairLine [] [] [] [] []
 alike (FairRule a o t l) = FairRule [] [] GoalWord []
 alike (UnfairRule a t l) = FairRule [] [] GoalWord []
 alike (ReachLine n) = ReachLine []
+alike (GoalItem l) = GoalItem []
+alike (RuleItem r n l) = GoalItem []
+alike (StartLine n) = StartLine []
 alike EndLine = EndLine
 
-alike_due : (due : Due) (line : WrittenLine) → due_after due line ≡ due_after due (alike line)
-alike_due due PolicyHeader = refl
-alike_due due RefusalHeader = refl
-alike_due due LayerLine = refl
-alike_due HeaderDue (CubeLine l) = refl
-alike_due (LayersDue OfPolicy) (CubeLine l) = refl
-alike_due (LayersDue OfRefusal) (CubeLine l) = refl
-alike_due (CubesDue OfPolicy layers cubes) (CubeLine l) = refl
-alike_due (CubesDue OfRefusal layers cubes) (CubeLine l) = refl
-alike_due PairsDue (CubeLine l) = refl
-alike_due (RulesDue rules) (CubeLine l) = refl
-alike_due EndDue (CubeLine l) = refl
-alike_due NothingDue (CubeLine l) = refl
-alike_due HeaderDue (PairLine a o n c l) = refl
-alike_due (LayersDue OfPolicy) (PairLine a o n c l) = refl
-alike_due (LayersDue OfRefusal) (PairLine a o n c l) = refl
-alike_due (CubesDue OfPolicy layers cubes) (PairLine a o n c l) = refl
-alike_due (CubesDue OfRefusal layers cubes) (PairLine a o n c l) = refl
-alike_due PairsDue (PairLine a o n c l) = refl
-alike_due (RulesDue rules) (PairLine a o n c l) = refl
-alike_due EndDue (PairLine a o n c l) = refl
-alike_due NothingDue (PairLine a o n c l) = refl
-alike_due HeaderDue (FairRule a o t l) = refl
-alike_due (LayersDue OfPolicy) (FairRule a o t l) = refl
-alike_due (LayersDue OfRefusal) (FairRule a o t l) = refl
-alike_due (CubesDue OfPolicy layers cubes) (FairRule a o t l) = refl
-alike_due (CubesDue OfRefusal layers cubes) (FairRule a o t l) = refl
-alike_due PairsDue (FairRule a o t l) = refl
-alike_due (RulesDue rules) (FairRule a o t l) = refl
-alike_due EndDue (FairRule a o t l) = refl
-alike_due NothingDue (FairRule a o t l) = refl
-alike_due HeaderDue (UnfairRule a t l) = refl
-alike_due (LayersDue OfPolicy) (UnfairRule a t l) = refl
-alike_due (LayersDue OfRefusal) (UnfairRule a t l) = refl
-alike_due (CubesDue OfPolicy layers cubes) (UnfairRule a t l) = refl
-alike_due (CubesDue OfRefusal layers cubes) (UnfairRule a t l) = refl
-alike_due PairsDue (UnfairRule a t l) = refl
-alike_due (RulesDue rules) (UnfairRule a t l) = refl
-alike_due EndDue (UnfairRule a t l) = refl
-alike_due NothingDue (UnfairRule a t l) = refl
-alike_due HeaderDue (ReachLine n) = refl
-alike_due (LayersDue OfPolicy) (ReachLine n) = refl
-alike_due (LayersDue OfRefusal) (ReachLine n) = refl
-alike_due (CubesDue OfPolicy layers cubes) (ReachLine n) = refl
-alike_due (CubesDue OfRefusal layers cubes) (ReachLine n) = refl
-alike_due PairsDue (ReachLine n) = refl
-alike_due (RulesDue rules) (ReachLine n) = refl
-alike_due EndDue (ReachLine n) = refl
-alike_due NothingDue (ReachLine n) = refl
-alike_due due EndLine = refl
+pub alike_due : (due : Due) (line : WrittenLine) → due_after due line ≡ due_after due (alike line)
+alike_due HeaderDue PolicyHeader = refl
+alike_due (LayersDue (OfPolicy ByReach)) PolicyHeader = refl
+alike_due (LayersDue (OfPolicy ByCover)) PolicyHeader = refl
+alike_due (LayersDue OfRefusal) PolicyHeader = refl
+alike_due (CubesDue (OfPolicy ByReach) layers cubes) PolicyHeader = refl
+alike_due (CubesDue (OfPolicy ByCover) layers cubes) PolicyHeader = refl
+alike_due (CubesDue OfRefusal layers cubes) PolicyHeader = refl
+alike_due (PairsDue ByReach) PolicyHeader = refl
+alike_due (PairsDue ByCover) PolicyHeader = refl
+alike_due (RulesDue ByReach rules) PolicyHeader = refl
+alike_due (RulesDue ByCover rules) PolicyHeader = refl
+alike_due (ItemsDue items) PolicyHeader = refl
+alike_due EndDue PolicyHeader = refl
+alike_due NothingDue PolicyHeader = refl
+alike_due due line = refl
 
 -- the kind of line that begins with these bytes
 abbrev by_first : List ℕ → ℕ → WrittenLine
 by_first text b =
-    if b == 100 then (if get_or text 11 0 == 112 then PolicyHeader else RefusalHeader)
+    if b == 100 then (if get_or text 9 0 == 50 then CoverHeader else if get_or text 11 0 == 112 then PolicyHeader else RefusalHeader)
     else if b == 108 then LayerLine
     else if b == 99 then CubeLine []
     else if b == 112 then PairLine [] [] [] [] []
     else if b == 101 then EndLine
+    else if b == 105 then GoalItem []
+    else if b == 115 then StartLine []
     else if get_or text 1 0 == 117 then FairRule [] [] GoalWord []
     else ReachLine []
 
 by_text : (line : WrittenLine) → by_first (line_text line) (get_or (line_text line) 0 0) ≡ alike line
 by_text PolicyHeader = refl
 by_text RefusalHeader = refl
+by_text CoverHeader = refl
 by_text LayerLine = refl
 by_text (CubeLine l) = refl
 by_text (PairLine a o n c l) = refl
 by_text (FairRule a o t l) = refl
 by_text (UnfairRule a t l) = refl
 by_text (ReachLine n) = refl
+by_text (GoalItem l) = refl
+by_text (RuleItem r n l) = refl
+by_text (StartLine n) = refl
 by_text EndLine = refl
 
 -- lines of one text are of one kind
@@ -101,12 +77,16 @@ same_due due line other e =
 like_alike : (line : Line) (written : WrittenLine) → IsLineOf line written → alike written ≡ alike (like line)
 like_alike CutPolicy written h = ap alike h
 like_alike CutRefusal written h = ap alike h
+like_alike CutCover written h = ap alike h
 like_alike Layer written h = ap alike h
 like_alike (Cube literals) written h = ap alike h.1
 like_alike (Pair action outcome layer cube literals) written h = ap alike h.2
 like_alike (CutFair action outcome target literals) written h = ap alike h.3
 like_alike (CutUnfair action targets literals) written h = ap alike h.3
 like_alike (Reach count) written h = ap alike h.0
+like_alike (CutGoal literals) written h = ap alike h.1
+like_alike (CutItem rule items literals) written h = ap alike h.2
+like_alike (Start item) written h = ap alike h.0
 like_alike End written h = ap alike h
 
 pub like_due : (due : Due) (line : Line) (written : WrittenLine) → IsLineOf line written → due_after due written ≡ due_after due (like line)
@@ -123,3 +103,7 @@ not_allowed due piece line cut none other next proper allowed e =
 -- rules of fair and unfair actions are allowed at the same places
 pub unfair_due : (due : Due) → due_after due (FairRule [] [] GoalWord []) ≡ due_after due (UnfairRule [] [] [])
 unfair_due due = sym (alike_due due (UnfairRule [] [] []))
+
+-- items of goals and of rules are allowed at the same places
+pub item_due : (due : Due) → due_after due (GoalItem []) ≡ due_after due (RuleItem [] [] [])
+item_due due = sym (alike_due due (RuleItem [] [] []))

@@ -8,7 +8,7 @@ use Rattle.std.proofs.lemmas.Bool.Decides.{nat_tests}
 use Rattle.std.proofs.lemmas.List.Elements.{All-head, All-tail}
 use Rattle.std.proofs.lemmas.List.Folds.{list_all-append}
 use Rattle.fond_cert.specs.Feeds.{is_in_line, HasNoFeed}
-use Rattle.fond_cert.specs.Lines.{is_plain_byte, IsPlainLeaf, IsGroup, spaced, group_text, is_number, WrittenTarget, GoalWord, NumberWord, IsProperTarget, WrittenLiteral, AreProper, sign_text, WrittenLine, PolicyHeader, RefusalHeader, LayerLine, CubeLine, PairLine, FairRule, UnfairRule, ReachLine, EndLine, Piece, Fixed, piece_text, target_piece, target_pieces, literal_pieces, line_pieces, line_text, IsProper}
+use Rattle.fond_cert.specs.Lines.{is_plain_byte, IsPlainLeaf, IsGroup, spaced, group_text, is_number, WrittenTarget, GoalWord, NumberWord, IsProperTarget, WrittenLiteral, AreProper, sign_text, WrittenLine, PolicyHeader, RefusalHeader, CoverHeader, LayerLine, CubeLine, PairLine, FairRule, UnfairRule, ReachLine, GoalItem, RuleItem, StartLine, EndLine, Piece, Fixed, piece_text, target_piece, target_pieces, number_pieces, literal_pieces, line_pieces, line_text, IsProper}
 use Rattle.fond_cert.proofs.Literals.{same_head, same_tail}
 use Rattle.fond_cert.proofs.Numbers.{number_digits}
 
@@ -75,15 +75,25 @@ targets_clean : (targets : List WrittenTarget) (more : List Piece) → All IsPro
 targets_clean [] more h k = k
 targets_clean (target ∷ targets) more h k = (refl, (target_clean target (All-head IsProperTarget target targets h), targets_clean targets more (All-tail IsProperTarget target targets h) k))
 
+numbers_clean : (numbers : List (List ℕ)) (more : List Piece) → All (λ digits. IsTrue (is_number digits)) numbers → AreClean more → AreClean (number_pieces numbers ++ more)
+numbers_clean [] more h k = k
+numbers_clean (digits ∷ numbers) more h k =
+    let P = λ (digits : List ℕ). IsTrue (is_number digits) in
+    (refl, (number_no_feed digits (All-head P digits numbers h), numbers_clean numbers more (All-tail P digits numbers h) k))
+
 line_clean : (line : WrittenLine) → IsProper line → AreClean (line_pieces line)
 line_clean PolicyHeader h = (refl, tt)
 line_clean RefusalHeader h = (refl, tt)
+line_clean CoverHeader h = (refl, tt)
 line_clean LayerLine h = (refl, tt)
 line_clean (CubeLine l) h = (refl, literals_clean l h)
 line_clean (PairLine a o n c l) h = (refl, (group_no_feed a h.0, (refl, (number_no_feed o h.1, (refl, (number_no_feed n h.2, (refl, (number_no_feed c h.3, (refl, literals_clean l h.4)))))))))
 line_clean (FairRule a o t l) h = (refl, (group_no_feed a h.0, (refl, (number_no_feed o h.1, (refl, (target_clean t h.2, (refl, literals_clean l h.3)))))))
 line_clean (UnfairRule a t l) h = (refl, (group_no_feed a h.0, (refl, targets_clean t (Fixed (codes " :") ∷ literal_pieces l) h.2 (refl, literals_clean l h.3))))
 line_clean (ReachLine n) h = (refl, (number_no_feed n h, tt))
+line_clean (GoalItem l) h = (refl, literals_clean l h)
+line_clean (RuleItem r n l) h = (refl, (number_no_feed r h.0, numbers_clean n (Fixed (codes " :") ∷ literal_pieces l) h.2 (refl, literals_clean l h.3)))
+line_clean (StartLine n) h = (refl, (number_no_feed n h, tt))
 line_clean EndLine h = (refl, tt)
 
 -- a proper line has no line feed

@@ -9,11 +9,14 @@ pub mod Refusals
 pub mod Afters
 pub mod Longest
 pub mod Shapes
+pub mod ItemShapes
 pub mod CubeTexts
 pub mod Acts
 pub mod Pairs
 pub mod FairRules
 pub mod UnfairRules
+pub mod ItemNumbers
+pub mod ItemLines
 pub mod Dues
 pub mod Befores
 pub mod Steps

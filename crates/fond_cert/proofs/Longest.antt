@@ -1,37 +1,34 @@
--- Targets before a rest that begins with none.
-use Rattle.std.proofs.Common.{◌≡◌, ℕ, true, IsTrue, List, [], ◌∷◌, ◌++◌, All, map, codes, refl, sym, ap, ◌∙◌, arith, append_assoc}
+-- Words that pass a test, before a rest that begins with none.
+use Rattle.std.proofs.Common.{◌≡◌, ℕ, Bool, true, IsTrue, List, [], ◌∷◌, ◌++◌, All, map, codes, refl, sym, ap, ◌∙◌, arith, append_assoc}
 use Rattle.std.proofs.lemmas.Bool.Decides.{nat_tests}
 use Rattle.std.specs.Char.{is_ascii_digit}
 use Rattle.std.specs.Str.{bytes_eq}
 use Rattle.std.proofs.lemmas.Slice.Eq.{bytes_eq-Decides}
 use Rattle.std.proofs.lemmas.List.Elements.{All-head, All-tail, All-cons, All-nil}
 use Rattle.fond_cert.specs.Lines.{spaced, is_number, WrittenTarget, IsProperTarget}
-use Rattle.fond_cert.specs.Parts.{is_target, AreTargets, EndsWord, HasNoTarget}
+use Rattle.fond_cert.specs.Parts.{is_target, AreWords, EndsWord, HasNoWord}
 use Rattle.fond_cert.specs.Cutting.{target_text, targets_text}
 use Rattle.fond_cert.proofs.Literals.{same_head, same_tail}
-use Rattle.fond_cert.proofs.Cuts.{same_word, target_no_space, number_first, either}
-use Rattle.fond_cert.proofs.Afters.{target_right}
+use Rattle.fond_cert.proofs.Cuts.{same_word, HasNoSpaces, number_first, either}
+use Rattle.fond_cert.proofs.Afters.{number_is_target, target_right, ends_words}
 
-ends_spaced : (words : List (List ℕ)) (rest : List ℕ) → EndsWord rest → EndsWord (spaced words ++ rest)
-ends_spaced [] rest h = h
-ends_spaced (word ∷ words) rest h = refl
+module _ (test : List ℕ → Bool) (no_space : HasNoSpaces test) where
+  abbrev Passes : List ℕ → Type 0
+  Passes word = IsTrue (test word)
 
-pub longest : (a b : List (List ℕ)) (s t : List ℕ) → AreTargets a → AreTargets b → HasNoTarget s → HasNoTarget t → EndsWord s → EndsWord t →
-    spaced a ++ s ≡ spaced b ++ t → (a ≡ b) × (s ≡ t)
-longest [] [] s t h k n m i j e = (refl, e)
-longest [] (y ∷ b) s t h k n m i j e =
-    let P = λ (word : List ℕ). IsTrue (is_target word) in
-    absurd (n y (spaced b ++ t) (All-head P y b k) (ends_spaced b t j) (e ∙ ap (λ u. 32 ∷ u) (append_assoc y (spaced b) t)))
-longest (x ∷ a) [] s t h k n m i j e =
-    let P = λ (word : List ℕ). IsTrue (is_target word) in
-    absurd (m x (spaced a ++ s) (All-head P x a h) (ends_spaced a s i) (sym e ∙ ap (λ u. 32 ∷ u) (append_assoc x (spaced a) s)))
-longest (x ∷ a) (y ∷ b) s t h k n m i j e =
-    let P = λ (word : List ℕ). IsTrue (is_target word) in
-    let tail = same_tail 32 32 _ _ e in
-    let first = same_word x y (spaced a ++ s) (spaced b ++ t) (target_no_space x (All-head P x a h)) (target_no_space y (All-head P y b k)) (ends_spaced a s i) (ends_spaced b t j)
-    (sym (append_assoc x (spaced a) s) ∙ tail ∙ append_assoc y (spaced b) t) in
-    let more = longest a b s t (All-tail P x a h) (All-tail P y b k) n m i j first.1 in
-    (cc, more.1)
+  pub longest : (a b : List (List ℕ)) (s t : List ℕ) → AreWords test a → AreWords test b → HasNoWord test s → HasNoWord test t → EndsWord s → EndsWord t →
+      spaced a ++ s ≡ spaced b ++ t → (a ≡ b) × (s ≡ t)
+  longest [] [] s t h k n m i j e = (refl, e)
+  longest [] (y ∷ b) s t h k n m i j e =
+      absurd (n y (spaced b ++ t) (All-head Passes y b k) (ends_words b t j) (e ∙ ap (λ u. 32 ∷ u) (append_assoc y (spaced b) t)))
+  longest (x ∷ a) [] s t h k n m i j e =
+      absurd (m x (spaced a ++ s) (All-head Passes x a h) (ends_words a s i) (sym e ∙ ap (λ u. 32 ∷ u) (append_assoc x (spaced a) s)))
+  longest (x ∷ a) (y ∷ b) s t h k n m i j e =
+      let tail = same_tail 32 32 _ _ e in
+      let first = same_word x y (spaced a ++ s) (spaced b ++ t) (no_space x (All-head Passes x a h)) (no_space y (All-head Passes y b k)) (ends_words a s i) (ends_words b t j)
+      (sym (append_assoc x (spaced a) s) ∙ tail ∙ append_assoc y (spaced b) t) in
+      let more = longest a b s t (All-tail Passes x a h) (All-tail Passes y b k) n m i j first.1 in
+      (cc, more.1)
 
 not_a_digit : (b : ℕ) → b ≡ 58 → ¬ is_ascii_digit b ≡ true
 not_a_digit b e f = grind (arith, nat_tests)
@@ -45,13 +42,17 @@ no_colon (b ∷ word) rest l h e =
     (λ g. not_a_digit b (sym first) (number_first b word g).0)
 
 -- a colon begins no target
-pub colon_no_target : (l : List ℕ) → HasNoTarget (codes " :" ++ l)
+pub colon_no_target : (l : List ℕ) → HasNoWord is_target (codes " :" ++ l)
 colon_no_target l word rest h ends e = no_colon word rest l h (same_tail 32 32 _ _ e)
+
+-- a colon begins no number
+pub colon_no_number : (l : List ℕ) → HasNoWord is_number (codes " :" ++ l)
+colon_no_number l word rest h ends e = colon_no_target l word rest (number_is_target word h (bytes_eq word (codes "goal"))) ends e
 
 abbrev pub words_of : List WrittenTarget → List (List ℕ)
 words_of targets = map (λ target. target_text target) targets
 
-pub words_right : (targets : List WrittenTarget) → All IsProperTarget targets → AreTargets (words_of targets)
+pub words_right : (targets : List WrittenTarget) → All IsProperTarget targets → AreWords is_target (words_of targets)
 words_right [] h = All-nil (λ (word : List ℕ). IsTrue (is_target word))
 words_right (target ∷ targets) h =
     All-cons (λ (word : List ℕ). IsTrue (is_target word)) (target_text target) (words_of targets)

@@ -16,19 +16,22 @@ use Rattle.fond_game.specs.declared.rule.Target.TheVariants.{Goal, Rule as ToRul
 use Rattle.fond_game.specs.declared.rule.Targets.{Targets}
 use Rattle.fond_game.specs.declared.rule.Targets.TheVariants.{One, All}
 use Rattle.fond_layers.specs.Over.{IsOver, AreOver}
+use Rattle.fond_cover.specs.declared.item.Item.{Item}
+use Rattle.fond_cover.specs.declared.item.Way.{Way}
+use Rattle.fond_cover.specs.declared.item.Way.TheVariants.{Goal as ToGoal, Rule as ByRule}
 use Rattle.fond_policy.specs.declared.cert.Cert.{Cert}
-use Rattle.fond_policy.specs.declared.cert.Cert.TheVariants.{Policy, Refusal}
-use Rattle.fond_policy.specs.Belongs.{Belongs}
+use Rattle.fond_policy.specs.declared.cert.Cert.TheVariants.{Policy, Refusal, Covered}
+use Rattle.fond_policy.specs.Belongs.{Belongs, BelongAsPairs, BelongAsRules}
 use Rattle.fond_cert.specs.Faults.{Due, HeaderDue, NothingDue, Lead}
-use Rattle.fond_cert.specs.Items.{IsPairOf, IsRuleOf}
-use Rattle.fond_cert.specs.Lines.{group_text, WrittenLiteral, WrittenLine, CubeLine, ReachLine, EndLine, line_text}
-use Rattle.fond_policy.specs.Sizes.{IsSmallPair, IsSmallTarget, AreSmallTargets, HasSmallNumbers}
-use Rattle.fond_cert.specs.Spellings.{act_leaves, written_literal, written_cube, written_target, layer_lines, pair_line, targets_line, rule_line, cert_lines, lines_text, spelling}
+use Rattle.fond_cert.specs.Items.{IsPairOf, IsRuleOf, IsItemOf}
+use Rattle.fond_cert.specs.Lines.{group_text, WrittenLiteral, WrittenLine, CubeLine, ReachLine, StartLine, EndLine, line_text}
+use Rattle.fond_policy.specs.Sizes.{IsSmallPair, IsSmallTarget, AreSmallTargets, IsSmallWay, HasSmallNumbers}
+use Rattle.fond_cert.specs.Spellings.{act_leaves, written_literal, written_cube, written_target, layer_lines, pair_line, targets_line, rule_line, way_line, item_line, cert_lines, lines_text, spelling}
 use Rattle.fond_cert.specs.Words.{atom_numbers}
 use Rattle.fond_cert.proofs.CubeTexts.{zipped, cube_zipped}
 use Rattle.fond_cert.proofs.OneFault.{same_first}
 use Rattle.fond_cert.proofs.OwnLines.{AreFoundFrom, all_found, later_found, indices, numbers_are, cert_leads}
-use Rattle.fond_cert.proofs.Printed.{pairs_of, rules_of}
+use Rattle.fond_cert.proofs.Printed.{pairs_of, rules_of, items_of}
 use Rattle.fond_cert.proofs.SameLines.{kind_number}
 use Rattle.fond_cert.proofs.TaskNames.{act_found}
 
@@ -158,9 +161,43 @@ module _ (task : Task) where
       let cond = same_cube rule.cond other.cond good.0.0 other_good.0.0 same.2 in
       λ i. record { cond = cond i; act = act i; targets = same.1 i }
 
+  same_numbers : (numbers others : List ℕ) → Each (λ number. number < 2 ^ 32) numbers → Each (λ number. number < 2 ^ 32) others → map decimal numbers ≡ map decimal others → numbers ≡ others
+  same_numbers [] [] small other_small e = refl
+  same_numbers [] (other ∷ others) small other_small e = absurd (cc)
+  same_numbers (number ∷ numbers) [] small other_small e = absurd (cc)
+  same_numbers (number ∷ numbers) (other ∷ others) small other_small e =
+      let Small = λ (number : ℕ). number < 2 ^ 32 in
+      let digits : decimal number ≡ decimal other = cc in
+      let rest : map decimal numbers ≡ map decimal others = cc in
+      let first = same_number number other (All-head Small number numbers small) (All-head Small other others other_small) digits in
+      let more = same_numbers numbers others (All-tail Small number numbers small) (All-tail Small other others other_small) rest in
+      λ i. first i ∷ more i
+
+  same_way : (way other : Way) (l m : List WrittenLiteral) → IsSmallWay way → IsSmallWay other → way_line way l ≡ way_line other m → (way ≡ other) × (l ≡ m)
+  same_way ToGoal ToGoal l m small other_small e = let literals : l ≡ m = cc in (refl, literals)
+  same_way ToGoal (ByRule other others) l m small other_small e = absurd (cc)
+  same_way (ByRule rule numbers) ToGoal l m small other_small e = absurd (cc)
+  same_way (ByRule rule numbers) (ByRule other others) l m small other_small e =
+      let digits : decimal rule ≡ decimal other = cc in
+      let words : map decimal numbers ≡ map decimal others = cc in
+      let literals : l ≡ m = cc in
+      let number = same_number rule other small.0 other_small.0 digits in
+      let rest = same_numbers numbers others small.1 other_small.1 words in
+      ((λ i. ByRule (number i) (rest i)), literals)
+
+  -- an item belongs to the task, and its numbers are small
+  abbrev IsGoodItem : Item → Type 0
+  IsGoodItem item = IsItemOf task item × IsSmallWay item.way
+
+  same_item : (item other : Item) → IsGoodItem item → IsGoodItem other → item_line task item ≡ item_line task other → item ≡ other
+  same_item item other good other_good e =
+      let same = same_way item.way other.way (written_cube task item.cube) (written_cube task other.cube) good.1 other_good.1 e in
+      let cube = same_cube item.cube other.cube good.0.0 other_good.0.0 same.1 in
+      λ i. record { cube = cube i; way = same.0 i }
+
 -- the number of the kind of the first line
 abbrev first_kind : List WrittenLine → ℕ
-first_kind [] = 8
+first_kind [] = 11
 first_kind (line ∷ lines) = kind_number line
 
 abbrev rest_of : List WrittenLine → List WrittenLine
@@ -187,71 +224,116 @@ module _ (task : Task) where
   abbrev cube_line : CubeView → WrittenLine
   cube_line cube = CubeLine (written_cube task cube)
 
-  no_cube_first : (layers : List (List CubeView)) (s : List WrittenLine) → 3 < first_kind s → first_kind (layers_lines layers ++ s) ≢ 3
+  no_cube_first : (layers : List (List CubeView)) (s : List WrittenLine) → 4 < first_kind s → first_kind (layers_lines layers ++ s) ≢ 4
   no_cube_first [] s after e = omega (arith, after, e)
   no_cube_first (layer ∷ layers) s after e = omega (arith, e)
 
   layer_apart : (layer : List CubeView) (layers : List (List CubeView)) (s : List WrittenLine) → rest_of (layers_lines (layer ∷ layers) ++ s) ≡ map cube_line layer ++ (layers_lines layers ++ s)
   layer_apart layer layers s = append_assoc (map cube_line layer) (layers_lines layers) s
 
-  same_layers : (layers others : List (List CubeView)) (s t : List WrittenLine) → AreOver (length task.atoms) layers → AreOver (length task.atoms) others → 3 < first_kind s → 3 < first_kind t →
+  same_layers : (layers others : List (List CubeView)) (s t : List WrittenLine) → AreOver (length task.atoms) layers → AreOver (length task.atoms) others → 4 < first_kind s → 4 < first_kind t →
       layers_lines layers ++ s ≡ layers_lines others ++ t → (layers ≡ others) × (s ≡ t)
   same_layers [] [] s t over other_over after other_after e = (refl, e)
-  same_layers [] (other ∷ others) s t over other_over after other_after e = let kind : first_kind s ≡ 2 = ap first_kind e in absurd (omega (arith, after, kind))
-  same_layers (layer ∷ layers) [] s t over other_over after other_after e = let kind : first_kind t ≡ 2 = ap first_kind (sym e) in absurd (omega (arith, other_after, kind))
+  same_layers [] (other ∷ others) s t over other_over after other_after e = let kind : first_kind s ≡ 3 = ap first_kind e in absurd (omega (arith, after, kind))
+  same_layers (layer ∷ layers) [] s t over other_over after other_after e = let kind : first_kind t ≡ 3 = ap first_kind (sym e) in absurd (omega (arith, other_after, kind))
   same_layers (layer ∷ layers) (other ∷ others) s t over other_over after other_after e =
       let Long = IsOver (length task.atoms) in
-      let first = same_items cube_line 3 (λ (cube : CubeView). length cube ≡ length task.atoms) (λ cube. refl)
+      let first = same_items cube_line 4 (λ (cube : CubeView). length cube ≡ length task.atoms) (λ cube. refl)
       (λ cube other_cube long other_long line. let literals : written_cube task cube ≡ written_cube task other_cube = cc in same_cube task cube other_cube long other_long literals)
       layer other (layers_lines layers ++ s) (layers_lines others ++ t) (All-head Long layer layers over) (All-head Long other others other_over)
       (no_cube_first layers s after) (no_cube_first others t other_after) (sym (layer_apart layer layers s) ∙ ap rest_of e ∙ layer_apart other others t) in
       let more = same_layers layers others s t (All-tail Long layer layers over) (All-tail Long other others other_over) after other_after first.1 in
       ((λ i. first.0 i ∷ more.0 i), more.1)
 
-  choice_kind : (a : List (List ℕ)) (targets : Targets) (l : List WrittenLiteral) → kind_number (targets_line a targets l) ≡ 5
+  choice_kind : (a : List (List ℕ)) (targets : Targets) (l : List WrittenLiteral) → kind_number (targets_line a targets l) ≡ 6
   choice_kind a (One outcome target) l = refl
   choice_kind a (All targets) l = refl
 
-  rule_kind : (rule : Rule) → kind_number (rule_line task rule) ≡ 5
+  rule_kind : (rule : Rule) → kind_number (rule_line task rule) ≡ 6
   rule_kind rule = choice_kind (act_leaves task rule.act) rule.targets (written_cube task rule.cond)
 
-  after_rules : (rules : List Rule) (s : List WrittenLine) → 4 < first_kind s → 4 < first_kind (map (rule_line task) rules ++ s)
+  after_rules : (rules : List Rule) (s : List WrittenLine) → 5 < first_kind s → 5 < first_kind (map (rule_line task) rules ++ s)
   after_rules [] s after = after
   after_rules (rule ∷ rules) s after = let kind = rule_kind rule in omega (arith, kind)
 
-  after_pairs : (pairs : List Pair) (s : List WrittenLine) → 4 < first_kind s → 3 < first_kind (map (pair_line task) pairs ++ s)
+  after_pairs : (pairs : List Pair) (s : List WrittenLine) → 5 < first_kind s → 4 < first_kind (map (pair_line task) pairs ++ s)
   after_pairs [] s after = omega (arith, after)
   after_pairs (pair ∷ pairs) s after = omega arith
 
-  abbrev last_lines : ℕ → List WrittenLine
-  last_lines reach = ReachLine (decimal reach) ∷ EndLine ∷ []
+  way_kind : (way : Way) (l : List WrittenLiteral) → kind_number (way_line way l) ≡ 7
+  way_kind ToGoal l = refl
+  way_kind (ByRule rule numbers) l = refl
 
-  abbrev plan_lines : List Rule → ℕ → List WrittenLine
-  plan_lines rules reach = map (rule_line task) rules ++ last_lines reach
+  item_kind : (item : Item) → kind_number (item_line task item) ≡ 7
+  item_kind item = way_kind item.way (written_cube task item.cube)
+
+  after_items : (items : List Item) (s : List WrittenLine) → 6 < first_kind s → 6 < first_kind (map (item_line task) items ++ s)
+  after_items [] s after = after
+  after_items (item ∷ items) s after = let kind = item_kind item in omega (arith, kind)
+
+  -- lines of layers, pairs and rules, with others after them
+  abbrev plan_lines : List (List CubeView) → List Pair → List Rule → List WrittenLine → List WrittenLine
+  plan_lines layers pairs rules s = layers_lines layers ++ (map (pair_line task) pairs ++ (map (rule_line task) rules ++ s))
+
+  -- two lists of layers, of pairs and of rules are the same, and so are the lines after them
+  record SamePlan (layers others : List (List CubeView)) (pairs other_pairs : List Pair) (rules other_rules : List Rule) (s t : List WrittenLine) : Type 0 where
+    pub layers_same : layers ≡ others
+    pub pairs_same : pairs ≡ other_pairs
+    pub rules_same : rules ≡ other_rules
+    pub rest_same : s ≡ t
+
+  same_plan : (layers others : List (List CubeView)) (pairs other_pairs : List Pair) (rules other_rules : List Rule) (s t : List WrittenLine) → AreOver (length task.atoms) layers → AreOver (length task.atoms) others →
+      Each (IsGoodPair task) pairs → Each (IsGoodPair task) other_pairs → Each (IsGoodRule task) rules → Each (IsGoodRule task) other_rules → 6 < first_kind s → 6 < first_kind t →
+      plan_lines layers pairs rules s ≡ plan_lines others other_pairs other_rules t → SamePlan layers others pairs other_pairs rules other_rules s t
+  same_plan layers others pairs other_pairs rules other_rules s t over other_over good_pairs other_good_pairs good_rules other_good_rules after other_after e =
+      let rl = map (rule_line task) rules ++ s in
+      let other_rl = map (rule_line task) other_rules ++ t in
+      let ends = after_rules rules s (omega (arith, after)) in
+      let other_ends = after_rules other_rules t (omega (arith, other_after)) in
+      let one = same_layers layers others (map (pair_line task) pairs ++ rl) (map (pair_line task) other_pairs ++ other_rl) over other_over (after_pairs pairs rl ends) (after_pairs other_pairs other_rl other_ends) e in
+      let two = same_items (pair_line task) 5 (IsGoodPair task) (λ pair. refl) (same_pair task) pairs other_pairs rl other_rl good_pairs other_good_pairs (λ same. omega (arith, ends, same)) (λ same. omega (arith, other_ends, same)) one.1 in
+      let three = same_items (rule_line task) 6 (IsGoodRule task) rule_kind (same_rule task) rules other_rules s t good_rules other_good_rules (λ same. omega (arith, after, same)) (λ same. omega (arith, other_after, same)) two.1 in
+      record { layers_same = one.0; pairs_same = two.0; rules_same = three.0; rest_same = three.1 }
+
+  good_pairs : (pairs : List Pair) → BelongAsPairs task pairs → Each IsSmallPair pairs → Each (IsGoodPair task) pairs
+  good_pairs pairs h small k d lt = (pairs_of task pairs h k d lt, small k d lt)
+
+  good_rules : (rules : List Rule) → BelongAsRules task rules → Each (λ (rule : Rule). AreSmallTargets rule.targets) rules → Each (IsGoodRule task) rules
+  good_rules rules h small k d lt = (rules_of task rules h k d lt, small k d lt)
+
+  abbrev reach_lines : ℕ → List WrittenLine
+  reach_lines reach = ReachLine (decimal reach) ∷ EndLine ∷ []
+
+  abbrev start_lines : ℕ → List WrittenLine
+  start_lines start = StartLine (decimal start) ∷ EndLine ∷ []
+
+  abbrev cover_lines : List Item → ℕ → List WrittenLine
+  cover_lines items start = map (item_line task) items ++ start_lines start
 
   same_certs : (cert other : Cert) → Belongs task cert → Belongs task other → HasSmallNumbers cert → HasSmallNumbers other → cert_lines task cert ≡ cert_lines task other → cert ≡ other
   same_certs (Policy layers pairs rules reach) (Policy other_layers other_pairs other_rules other_reach) h other_h small other_small e =
-      let ends = after_rules rules (last_lines reach) (omega arith) in
-      let other_ends = after_rules other_rules (last_lines other_reach) (omega arith) in
-      let one = same_layers layers other_layers (map (pair_line task) pairs ++ plan_lines rules reach) (map (pair_line task) other_pairs ++ plan_lines other_rules other_reach) h.0.over other_h.0.over
-      (after_pairs pairs (plan_lines rules reach) ends) (after_pairs other_pairs (plan_lines other_rules other_reach) other_ends) (ap rest_of e) in
-      let of = pairs_of task pairs h.1 in
-      let other_of = pairs_of task other_pairs other_h.1 in
-      let two = same_items (pair_line task) 4 (IsGoodPair task) (λ pair. refl) (same_pair task) pairs other_pairs (plan_lines rules reach) (plan_lines other_rules other_reach)
-      (λ k d lt. (of k d lt, small.0 k d lt)) (λ k d lt. (other_of k d lt, other_small.0 k d lt)) (λ same. omega (arith, ends, same)) (λ same. omega (arith, other_ends, same)) one.1 in
-      let rules_in = rules_of task rules h.2 in
-      let other_rules_in = rules_of task other_rules other_h.2 in
-      let three = same_items (rule_line task) 5 (IsGoodRule task) rule_kind (same_rule task) rules other_rules (last_lines reach) (last_lines other_reach)
-      (λ k d lt. (rules_in k d lt, small.1 k d lt)) (λ k d lt. (other_rules_in k d lt, other_small.1 k d lt)) (λ same. omega (arith, same)) (λ same. omega (arith, same)) two.1 in
-      let last : last_lines reach ≡ last_lines other_reach = three.1 in
+      let same = same_plan layers other_layers pairs other_pairs rules other_rules (reach_lines reach) (reach_lines other_reach) h.0.over other_h.0.over (good_pairs pairs h.1 small.0) (good_pairs other_pairs other_h.1 other_small.0)
+      (good_rules rules h.2 small.1) (good_rules other_rules other_h.2 other_small.1) (omega arith) (omega arith) (ap rest_of e) in
+      let last : reach_lines reach ≡ reach_lines other_reach = same.rest_same in
       let digits : decimal reach ≡ decimal other_reach = cc in
       let number = decimal_injective reach other_reach small.2 other_small.2 digits in
-      λ i. Policy (one.0 i) (two.0 i) (three.0 i) (number i)
-  same_certs (Policy layers pairs rules reach) (Refusal other_layers) h other_h small other_small e = let kinds : 0 ≡ 1 = ap first_kind e in absurd (omega (arith, kinds))
-  same_certs (Refusal layers) (Policy other_layers other_pairs other_rules other_reach) h other_h small other_small e = let kinds : 1 ≡ 0 = ap first_kind e in absurd (omega (arith, kinds))
+      λ i. Policy (same.layers_same i) (same.pairs_same i) (same.rules_same i) (number i)
+  same_certs (Covered layers pairs rules items start) (Covered other_layers other_pairs other_rules other_items other_start) h other_h small other_small e =
+      let same = same_plan layers other_layers pairs other_pairs rules other_rules (cover_lines items start) (cover_lines other_items other_start) h.0.over other_h.0.over
+      (good_pairs pairs h.1 small.0) (good_pairs other_pairs other_h.1 other_small.0) (good_rules rules h.2 small.1) (good_rules other_rules other_h.2 other_small.1)
+      (after_items items (start_lines start) (omega arith)) (after_items other_items (start_lines other_start) (omega arith)) (ap rest_of e) in
+      let of = items_of task items h.3 in
+      let other_of = items_of task other_items other_h.3 in
+      let four = same_items (item_line task) 7 (IsGoodItem task) item_kind (same_item task) items other_items (start_lines start) (start_lines other_start)
+      (λ k d lt. (of k d lt, small.2 k d lt)) (λ k d lt. (other_of k d lt, other_small.2 k d lt)) (λ same. omega (arith, same)) (λ same. omega (arith, same)) same.rest_same in
+      let last : start_lines start ≡ start_lines other_start = four.1 in
+      let digits : decimal start ≡ decimal other_start = cc in
+      let number = same_number task start other_start small.3 other_small.3 digits in
+      λ i. Covered (same.layers_same i) (same.pairs_same i) (same.rules_same i) (four.0 i) (number i)
   same_certs (Refusal layers) (Refusal other_layers) h other_h small other_small e =
       let one = same_layers layers other_layers (EndLine ∷ []) (EndLine ∷ []) h.over other_h.over (omega arith) (omega arith) (ap rest_of e) in
       ap Refusal one.0
+  same_certs cert other h other_h small other_small e = let kinds = ap first_kind e in absurd (omega (arith, kinds))
 
 -- certificates of a task with one spelling are the same
 pub one_cert : (task : Task) (cert other : Cert) → Belongs task cert → Belongs task other → HasSmallNumbers cert → HasSmallNumbers other → spelling task cert ≡ spelling task other → cert ≡ other

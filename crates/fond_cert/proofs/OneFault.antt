@@ -2,7 +2,7 @@
 use Rattle.std.proofs.Common.{◌≡◌, inl, inr, ℕ, ◌+◌, List, [], ◌∷◌, ◌++◌, Option, Some, None, length, codes, sym, ap, subst, ◌∙◌, arith, append_assoc, length-append}
 use Rattle.std.proofs.lemmas.List.{append-nil}
 use Rattle.fond_task.specs.declared.task.Task.{Task}
-use Rattle.fond_cert.specs.Faults.{Due, HeaderDue, LayersDue, CubesDue, PairsDue, RulesDue, EndDue, NothingDue, due_after, Lead, IsRefusedLine, IsRefusedRest, IsRefusedAt, IsCertFault}
+use Rattle.fond_cert.specs.Faults.{Due, HeaderDue, NothingDue, due_after, Lead, IsRefusedLine, IsRefusedRest, IsRefusedAt, IsCertFault}
 use Rattle.fond_cert.specs.Feeds.{HasNoFeed}
 use Rattle.fond_cert.specs.Lines.{WrittenLine, line_text, IsProper}
 use Rattle.fond_cert.specs.Spellings.{lines_text}
@@ -21,13 +21,8 @@ at_of (Some refused) = refused.at
 
 -- a text is refused by its rest if some line is allowed
 refused_rest : (task : Task) (due next : Due) (line : WrittenLine) (rest : List ℕ) (code at : ℕ) → due_after due line ≡ Some next → IsRefusedAt task due rest code at → IsRefusedRest task due rest code at
-refused_rest task HeaderDue next line rest code at allowed h = h
-refused_rest task (LayersDue kind) next line rest code at allowed h = h
-refused_rest task (CubesDue kind layers cubes) next line rest code at allowed h = h
-refused_rest task PairsDue next line rest code at allowed h = h
-refused_rest task (RulesDue rules) next line rest code at allowed h = h
-refused_rest task EndDue next line rest code at allowed h = h
 refused_rest task NothingDue next line rest code at allowed h = absurd (nothing_allowed line next allowed)
+refused_rest task due next line rest code at allowed h = h
 
 -- a line that is allowed and has no refusal is not refused
 line_stands : (task : Task) (due next : Due) (line : WrittenLine) (piece : List ℕ) (code at : ℕ) → IsProper line → line_refusal task line ≡ None → due_after due line ≡ Some next → piece ≡ line_text line →
@@ -95,13 +90,8 @@ one_rest task due rest code at other other_at (inr h) (inr k) =
     one_line task due k.0 code at other other_at (subst (λ piece. IsRefusedLine task due piece code at) piece h.4) k.4
 
 one_refusal : (task : Task) (due : Due) (rest : List ℕ) (code at other other_at : ℕ) → IsRefusedAt task due rest code at → IsRefusedAt task due rest other other_at → (code ≡ other) × (at ≡ other_at)
-one_refusal task HeaderDue rest code at other other_at h k = one_rest task HeaderDue rest code at other other_at h k
-one_refusal task (LayersDue kind) rest code at other other_at h k = one_rest task (LayersDue kind) rest code at other other_at h k
-one_refusal task (CubesDue kind layers cubes) rest code at other other_at h k = one_rest task (CubesDue kind layers cubes) rest code at other other_at h k
-one_refusal task PairsDue rest code at other other_at h k = one_rest task PairsDue rest code at other other_at h k
-one_refusal task (RulesDue rules) rest code at other other_at h k = one_rest task (RulesDue rules) rest code at other other_at h k
-one_refusal task EndDue rest code at other other_at h k = one_rest task EndDue rest code at other other_at h k
 one_refusal task NothingDue rest code at other other_at h k = (h.1 ∙ sym k.1, h.2 ∙ sym k.2)
+one_refusal task due rest code at other other_at h k = one_rest task due rest code at other other_at h k
 
 one_fault_by : (task : Task) (due end other_end : Due) (lines others : List WrittenLine) (rest other_rest : List ℕ) (code at other other_at : ℕ) → Lead task due lines end → Lead task due others other_end →
     lines_text lines ++ rest ≡ lines_text others ++ other_rest → IsRefusedAt task end rest code at → IsRefusedAt task other_end other_rest other other_at →

@@ -1,5 +1,5 @@
 -- The lines of a certificate that belongs to a task lead from the header to the end, and none is refused.
-use Rattle.std.proofs.Common.{◌≡◌, ℕ, zero, suc, ◌+◌, ◌<◌, ◌^◌, ◌==◌, ◌||◌, not, ◌∙◌, nat_lt, Bool, true, false, List, [], ◌∷◌, ◌++◌, Option, Some, None, All as Each, length, map, get_or, codes, refl, sym, ap, arith}
+use Rattle.std.proofs.Common.{◌≡◌, ℕ, zero, suc, ◌+◌, ◌<◌, ◌^◌, ◌==◌, ◌||◌, not, ◌∙◌, nat_lt, Bool, true, false, IsTrue, List, [], ◌∷◌, ◌++◌, Option, Some, None, All as Each, length, map, get_or, codes, refl, sym, ap, arith}
 use Rattle.std.specs.Prelude.{⊤}
 use Rattle.std.specs.Char.{is_ascii_digit}
 use Rattle.std.specs.Fmt.{decimal}
@@ -19,18 +19,22 @@ use Rattle.fond_game.specs.declared.rule.Target.TheVariants.{Goal, Rule as ToRul
 use Rattle.fond_game.specs.declared.rule.Targets.{Targets}
 use Rattle.fond_game.specs.declared.rule.Targets.TheVariants.{One, All}
 use Rattle.fond_rules.specs.Belongs.{HasTarget}
+use Rattle.fond_cover.specs.declared.item.Item.{Item}
+use Rattle.fond_cover.specs.declared.item.Way.{Way}
+use Rattle.fond_cover.specs.declared.item.Way.TheVariants.{Goal as ToGoal, Rule as ByRule}
 use Rattle.fond_policy.specs.declared.cert.Cert.{Cert}
-use Rattle.fond_policy.specs.declared.cert.Cert.TheVariants.{Policy, Refusal}
-use Rattle.fond_policy.specs.Belongs.{Belongs, BelongAsLayers}
+use Rattle.fond_policy.specs.declared.cert.Cert.TheVariants.{Policy, Refusal, Covered}
+use Rattle.fond_policy.specs.Belongs.{Belongs, BelongAsLayers, BelongAsPairs, BelongAsRules, BelongAsItems, HasNumber}
 use Rattle.fond_cert.specs.Checked.{rises}
-use Rattle.fond_cert.specs.Faults.{Kind, OfPolicy, OfRefusal, Due, HeaderDue, LayersDue, CubesDue, PairsDue, RulesDue, EndDue, NothingDue, if_few, due_after, Lead}
+use Rattle.fond_cert.specs.Faults.{Evidence, ByReach, ByCover, Kind, OfPolicy, OfRefusal, Due, HeaderDue, LayersDue, CubesDue, PairsDue, RulesDue, ItemsDue, EndDue, NothingDue, if_few, due_after, after_layers, after_rules, Lead}
 use Rattle.fond_cert.specs.Items.{IsPairOf, IsRuleOf}
-use Rattle.fond_cert.specs.Lines.{IsGroup, group_text, is_number, IsProperTarget, WrittenLiteral, AreProper, WrittenLine, LayerLine, CubeLine, FairRule, UnfairRule, ReachLine, EndLine, Piece, Fixed, Below, piece_text, target_piece, target_pieces, literal_pieces, line_pieces, IsProper}
-use Rattle.fond_policy.specs.Sizes.{IsSmallPair, IsSmallTarget, AreSmallTargets, HasSmallNumbers}
-use Rattle.fond_cert.specs.Spellings.{atom_leaves, act_leaves, written_literal, written_cube, written_target, layer_lines, pair_line, targets_line, rule_line, cert_lines}
+use Rattle.fond_cert.specs.Lines.{IsGroup, group_text, is_number, GoalWord, IsProperTarget, WrittenLiteral, AreProper, WrittenLine, LayerLine, CubeLine, FairRule, UnfairRule, ReachLine, GoalItem, RuleItem, StartLine, EndLine, Piece, Fixed, Below, piece_text, target_piece, target_pieces, number_pieces, literal_pieces, line_pieces, IsProper}
+use Rattle.fond_policy.specs.Sizes.{IsSmallPair, IsSmallTarget, AreSmallTargets, IsSmallWay, HasSmallNumbers}
+use Rattle.fond_cert.specs.Spellings.{atom_leaves, act_leaves, written_literal, written_cube, written_target, layer_lines, pair_line, targets_line, rule_line, way_line, item_line, cert_lines}
 use Rattle.fond_cert.specs.Words.{piece_code, unknown, refused_or, first_refused, atom_numbers, is_increasing, refusal_or_order, is_ordered, line_refusal}
 use Rattle.fond_cert.proofs.CubeTexts.{no_atom, zipped, cube_zipped}
 use Rattle.fond_cert.proofs.Cubes.{rises_from, rises_at_first}
+use Rattle.fond_cert.proofs.Dues.{alike_due}
 use Rattle.fond_cert.proofs.Numbers.{model, value_is}
 use Rattle.fond_cert.proofs.Printed.{pairs_of, rules_of}
 use Rattle.fond_cert.proofs.Refusals.{below_right}
@@ -144,6 +148,10 @@ indices_rise last from (atom ∷ atoms) [] h = indices_rise last (from + 1) atom
 indices_rise last from (atom ∷ atoms) (None ∷ cube) h = indices_rise last (from + 1) atoms cube (above_later last from h)
 indices_rise last from (atom ∷ atoms) (Some sign ∷ cube) h = rw (above_rises last from h) (indices_rise (Some from) (from + 1) atoms cube (omega arith))
 
+-- a number is below 2^32
+abbrev IsSmallNumber : ℕ → Type 0
+IsSmallNumber number = number < 2 ^ 32
+
 module _ (task : Task) where
   cube_right : (cube : CubeView) → AreRight task (literal_pieces (written_cube task cube))
   cube_right cube = rw (cube_zipped task cube) (literals_right task 0 task.atoms cube (all_found task))
@@ -212,6 +220,33 @@ module _ (task : Task) where
       let value = value_is (decimal reach) reach small refl in
       (decimal_number reach small, line_right task (ReachLine (decimal reach)) (refl, (below_right task (2 ^ 64) (decimal reach) (omega (arith, small, value)), tt)) refl)
 
+  numbers_right : (numbers : List ℕ) (more : List Piece) → Each IsSmallNumber numbers → AreRight task more → AreRight task (number_pieces (map decimal numbers) ++ more)
+  numbers_right [] more small right = right
+  numbers_right (number ∷ numbers) more small right =
+      (refl, (decimal_below task number (All-head IsSmallNumber number numbers small), numbers_right numbers more (All-tail IsSmallNumber number numbers small) right))
+
+  numbers_proper : (numbers : List ℕ) → Each IsSmallNumber numbers → Each (λ digits. IsTrue (is_number digits)) (map decimal numbers)
+  numbers_proper [] small = All-nil (λ (digits : List ℕ). IsTrue (is_number digits))
+  numbers_proper (number ∷ numbers) small =
+      All-cons (λ (digits : List ℕ). IsTrue (is_number digits)) (decimal number) (map decimal numbers) (small_number number (All-head IsSmallNumber number numbers small))
+      (numbers_proper numbers (All-tail IsSmallNumber number numbers small))
+
+  some_numbers : (numbers : List ℕ) → 0 < length numbers → 0 < length (map decimal numbers)
+  some_numbers [] some = absurd (omega (arith, some))
+  some_numbers (number ∷ numbers) some = omega arith
+
+  way_good : (way : Way) (cube : CubeView) → HasNumber way → IsSmallWay way → IsGood (way_line way (written_cube task cube))
+  way_good ToGoal cube some small = (cube_proper cube, line_right task (GoalItem (written_cube task cube)) (refl, cube_right cube) (cube_ordered cube))
+  way_good (ByRule rule numbers) cube some small = (
+    (small_number rule small.0, some_numbers numbers some, numbers_proper numbers small.1, cube_proper cube),
+    line_right task (RuleItem (decimal rule) (map decimal numbers) (written_cube task cube))
+        (refl, (decimal_below task rule small.0, numbers_right numbers (Fixed (codes " :") ∷ literal_pieces (written_cube task cube)) small.1 (refl, cube_right cube)))
+        (cube_ordered cube),
+  )
+
+  start_good : (start : ℕ) → start < 2 ^ 32 → IsGood (StartLine (decimal start))
+  start_good start small = (small_number start small, line_right task (StartLine (decimal start)) (refl, (decimal_below task start small, tt)) refl)
+
   few : (count : ℕ) (due : Due) → count < 2 ^ 32 → if_few count due ≡ Some due
   few count due below = let test : nat_lt count (2 ^ 32) ≡ true = grind (arith, nat_tests, below) in rw test refl
 
@@ -249,18 +284,6 @@ module _ (task : Task) where
       layer_lead kind (CubesDue kind count cubes) (count + 1) layer layers (few (count + 1) (CubesDue kind (count + 1) 0) (omega (arith, room))) (All-head Fits layer layers sizes)
       (more_layers kind (count + 1) (0 + length layer) layers (omega (arith, room)) (All-tail Fits layer layers sizes))
 
-  -- what is due after this many rules, none of which may come before the layers of a policy are read
-  abbrev IsAfterRules : ℕ → Due → Type 0
-  IsAfterRules count HeaderDue = ⊥
-  IsAfterRules count (LayersDue OfPolicy) = count ≡ 0
-  IsAfterRules count (LayersDue OfRefusal) = ⊥
-  IsAfterRules count (CubesDue OfPolicy layers cubes) = count ≡ 0
-  IsAfterRules count (CubesDue OfRefusal layers cubes) = ⊥
-  IsAfterRules count PairsDue = count ≡ 0
-  IsAfterRules count (RulesDue rules) = rules ≡ count
-  IsAfterRules count EndDue = ⊥
-  IsAfterRules count NothingDue = ⊥
-
   -- what is due after the layers of a certificate
   abbrev IsAfterLayers : Kind → Due → Type 0
   IsAfterLayers kind (LayersDue other) = other ≡ kind
@@ -275,135 +298,186 @@ module _ (task : Task) where
       let lead = layer_lead kind (LayersDue kind) 1 layer layers refl (All-head Fits layer layers h.few_cubes) (more_layers kind 1 (0 + length layer) layers (omega (arith, size)) (All-tail Fits layer layers h.few_cubes)) in
       (CubesDue kind lead.0 lead.1, refl, lead.2)
 
-  -- what is due when no rule was read yet
-  abbrev TakesPairs : Due → Type 0
-  TakesPairs (LayersDue OfPolicy) = ⊤
-  TakesPairs (CubesDue OfPolicy layers cubes) = ⊤
-  TakesPairs PairsDue = ⊤
-  TakesPairs due = ⊥
+  -- what is due in a policy when no rule was read yet
+  abbrev TakesPairs : Evidence → Due → Type 0
+  TakesPairs evidence (LayersDue kind) = kind ≡ OfPolicy evidence
+  TakesPairs evidence (CubesDue kind layers cubes) = kind ≡ OfPolicy evidence
+  TakesPairs evidence (PairsDue other) = other ≡ evidence
+  TakesPairs evidence due = ⊥
 
-  layers_take_pairs : (due : Due) → IsAfterLayers OfPolicy due → TakesPairs due
-  layers_take_pairs (LayersDue OfPolicy) h = tt
-  layers_take_pairs (LayersDue OfRefusal) h = absurd (cc)
-  layers_take_pairs (CubesDue OfPolicy layers cubes) h = tt
-  layers_take_pairs (CubesDue OfRefusal layers cubes) h = absurd (cc)
-  layers_take_pairs HeaderDue h = absurd h
-  layers_take_pairs PairsDue h = absurd h
-  layers_take_pairs (RulesDue rules) h = absurd h
-  layers_take_pairs EndDue h = absurd h
-  layers_take_pairs NothingDue h = absurd h
+  layers_take_pairs : (evidence : Evidence) (due : Due) → IsAfterLayers (OfPolicy evidence) due → TakesPairs evidence due
+  layers_take_pairs evidence (LayersDue kind) h = h
+  layers_take_pairs evidence (CubesDue kind layers cubes) h = h
+  layers_take_pairs evidence due h = absurd h
 
-  pair_allowed : (due : Due) (pair : Pair) → TakesPairs due → due_after due (pair_line task pair) ≡ Some PairsDue
-  pair_allowed (LayersDue OfPolicy) pair h = refl
-  pair_allowed (LayersDue OfRefusal) pair h = absurd h
-  pair_allowed (CubesDue OfPolicy layers cubes) pair h = refl
-  pair_allowed (CubesDue OfRefusal layers cubes) pair h = absurd h
-  pair_allowed PairsDue pair h = refl
-  pair_allowed HeaderDue pair h = absurd h
-  pair_allowed (RulesDue rules) pair h = absurd h
-  pair_allowed EndDue pair h = absurd h
-  pair_allowed NothingDue pair h = absurd h
+  pair_allowed : (evidence : Evidence) (due : Due) (pair : Pair) → TakesPairs evidence due → due_after due (pair_line task pair) ≡ Some (PairsDue evidence)
+  pair_allowed evidence (LayersDue kind) pair h = ap (λ kind. after_layers kind (pair_line task pair)) h
+  pair_allowed evidence (CubesDue kind layers cubes) pair h = ap (λ kind. after_layers kind (pair_line task pair)) h
+  pair_allowed evidence (PairsDue other) pair h = ap (λ evidence. Some (PairsDue evidence)) h
+  pair_allowed evidence due pair h = absurd h
 
-  pairs_lead : (due : Due) (pairs : List Pair) → TakesPairs due → Each (IsPairOf task) pairs → Each IsSmallPair pairs → (end : Due) × TakesPairs end × Lead task due (map (pair_line task) pairs) end
-  pairs_lead due [] takes of small = (due, takes, refl)
-  pairs_lead due (pair ∷ pairs) takes of small =
-      let more = pairs_lead PairsDue pairs tt (All-tail (IsPairOf task) pair pairs of) (All-tail IsSmallPair pair pairs small) in
+  pairs_lead : (evidence : Evidence) (due : Due) (pairs : List Pair) → TakesPairs evidence due → Each (IsPairOf task) pairs → Each IsSmallPair pairs →
+      (end : Due) × TakesPairs evidence end × Lead task due (map (pair_line task) pairs) end
+  pairs_lead evidence due [] takes of small = (due, takes, refl)
+  pairs_lead evidence due (pair ∷ pairs) takes of small =
+      let more = pairs_lead evidence (PairsDue evidence) pairs refl (All-tail (IsPairOf task) pair pairs of) (All-tail IsSmallPair pair pairs small) in
       let good = pair_good pair (All-head (IsPairOf task) pair pairs of) (All-head IsSmallPair pair pairs small) in
-      (more.0, more.1, good_lead due PairsDue more.0 (pair_line task pair) (map (pair_line task) pairs) good (pair_allowed due pair takes) more.2)
+      (more.0, more.1, good_lead due (PairsDue evidence) more.0 (pair_line task pair) (map (pair_line task) pairs) good (pair_allowed evidence due pair takes) more.2)
 
-  pairs_before_rules : (due : Due) → TakesPairs due → IsAfterRules 0 due
-  pairs_before_rules (LayersDue OfPolicy) h = refl
-  pairs_before_rules (LayersDue OfRefusal) h = h
-  pairs_before_rules (CubesDue OfPolicy layers cubes) h = refl
-  pairs_before_rules (CubesDue OfRefusal layers cubes) h = h
-  pairs_before_rules PairsDue h = refl
-  pairs_before_rules HeaderDue h = h
-  pairs_before_rules (RulesDue rules) h = absurd h
-  pairs_before_rules EndDue h = h
-  pairs_before_rules NothingDue h = h
+  -- what is due in a policy after this many rules
+  abbrev IsAfterRules : Evidence → ℕ → Due → Type 0
+  IsAfterRules evidence count (LayersDue kind) = (kind ≡ OfPolicy evidence) × (count ≡ 0)
+  IsAfterRules evidence count (CubesDue kind layers cubes) = (kind ≡ OfPolicy evidence) × (count ≡ 0)
+  IsAfterRules evidence count (PairsDue other) = (other ≡ evidence) × (count ≡ 0)
+  IsAfterRules evidence count (RulesDue other rules) = (other ≡ evidence) × (rules ≡ count)
+  IsAfterRules evidence count due = ⊥
 
-  one_rule : (count : ℕ) → count ≡ 0 → Some (RulesDue 1) ≡ Some (RulesDue (count + 1))
-  one_rule count none = ap (λ n. Some (RulesDue n)) (omega (arith, none))
+  pairs_before_rules : (evidence : Evidence) (due : Due) → TakesPairs evidence due → IsAfterRules evidence 0 due
+  pairs_before_rules evidence (LayersDue kind) h = (h, refl)
+  pairs_before_rules evidence (CubesDue kind layers cubes) h = (h, refl)
+  pairs_before_rules evidence (PairsDue other) h = (h, refl)
+  pairs_before_rules evidence due h = absurd h
 
-  next_rule : (rules count : ℕ) → rules ≡ count → count + 1 < 2 ^ 32 → if_few (rules + 1) (RulesDue (rules + 1)) ≡ Some (RulesDue (count + 1))
-  next_rule rules count same room = few (rules + 1) (RulesDue (rules + 1)) (omega (arith, same, room)) ∙ ap (λ n. Some (RulesDue (n + 1))) same
+  one_rule : (evidence : Evidence) (count : ℕ) → count ≡ 0 → Some (RulesDue evidence 1) ≡ Some (RulesDue evidence (count + 1))
+  one_rule evidence count none = ap (λ n. Some (RulesDue evidence n)) (omega (arith, none))
 
-  rule_allowed : (due : Due) (count : ℕ) (leaves : List (List ℕ)) (targets : Targets) (literals : List WrittenLiteral) → IsAfterRules count due → count + 1 < 2 ^ 32 →
-      due_after due (targets_line leaves targets literals) ≡ Some (RulesDue (count + 1))
-  rule_allowed (LayersDue OfPolicy) count leaves (One outcome target) literals h room = one_rule count h
-  rule_allowed (LayersDue OfPolicy) count leaves (All targets) literals h room = one_rule count h
-  rule_allowed (CubesDue OfPolicy layers cubes) count leaves (One outcome target) literals h room = one_rule count h
-  rule_allowed (CubesDue OfPolicy layers cubes) count leaves (All targets) literals h room = one_rule count h
-  rule_allowed PairsDue count leaves (One outcome target) literals h room = one_rule count h
-  rule_allowed PairsDue count leaves (All targets) literals h room = one_rule count h
-  rule_allowed (RulesDue rules) count leaves (One outcome target) literals h room = next_rule rules count h room
-  rule_allowed (RulesDue rules) count leaves (All targets) literals h room = next_rule rules count h room
-  rule_allowed (LayersDue OfRefusal) count leaves targets literals h room = absurd h
-  rule_allowed (CubesDue OfRefusal layers cubes) count leaves targets literals h room = absurd h
-  rule_allowed HeaderDue count leaves targets literals h room = absurd h
-  rule_allowed EndDue count leaves targets literals h room = absurd h
-  rule_allowed NothingDue count leaves targets literals h room = absurd h
+  next_rule : (evidence : Evidence) (rules count : ℕ) → rules ≡ count → count + 1 < 2 ^ 32 → if_few (rules + 1) (RulesDue evidence (rules + 1)) ≡ Some (RulesDue evidence (count + 1))
+  next_rule evidence rules count same room = few (rules + 1) (RulesDue evidence (rules + 1)) (omega (arith, same, room)) ∙ ap (λ n. Some (RulesDue evidence (n + 1))) same
+
+  choice_allowed : (evidence : Evidence) (due : Due) (count : ℕ) → IsAfterRules evidence count due → count + 1 < 2 ^ 32 → due_after due (FairRule [] [] GoalWord []) ≡ Some (RulesDue evidence (count + 1))
+  choice_allowed evidence (LayersDue kind) count h room = ap (λ kind. after_layers kind (FairRule [] [] GoalWord [])) h.0 ∙ one_rule evidence count h.1
+  choice_allowed evidence (CubesDue kind layers cubes) count h room = ap (λ kind. after_layers kind (FairRule [] [] GoalWord [])) h.0 ∙ one_rule evidence count h.1
+  choice_allowed evidence (PairsDue other) count h room = ap (λ evidence. Some (RulesDue evidence 1)) h.0 ∙ one_rule evidence count h.1
+  choice_allowed evidence (RulesDue other rules) count h room =
+      next_rule other rules count h.1 room ∙ ap (λ evidence. Some (RulesDue evidence (count + 1))) h.0
+  choice_allowed evidence due count h room = absurd h
+
+  rule_allowed : (evidence : Evidence) (due : Due) (count : ℕ) (leaves : List (List ℕ)) (targets : Targets) (literals : List WrittenLiteral) → IsAfterRules evidence count due → count + 1 < 2 ^ 32 →
+      due_after due (targets_line leaves targets literals) ≡ Some (RulesDue evidence (count + 1))
+  rule_allowed evidence due count leaves (One outcome target) literals h room = alike_due due (targets_line leaves (One outcome target) literals) ∙ choice_allowed evidence due count h room
+  rule_allowed evidence due count leaves (All targets) literals h room = alike_due due (targets_line leaves (All targets) literals) ∙ choice_allowed evidence due count h room
 
   abbrev IsSmallRule : Rule → Type 0
   IsSmallRule rule = AreSmallTargets rule.targets
 
-  rules_lead : (due : Due) (count : ℕ) (rules : List Rule) → IsAfterRules count due → count + length rules < 2 ^ 32 → Each (IsRuleOf task) rules → Each IsSmallRule rules →
-      (end : Due) × (total : ℕ) × IsAfterRules total end × Lead task due (map (rule_line task) rules) end
-  rules_lead due count [] after room of small = (due, count, after, refl)
-  rules_lead due count (rule ∷ rules) after room of small =
-      let more = rules_lead (RulesDue (count + 1)) (count + 1) rules refl (omega (arith, room)) (All-tail (IsRuleOf task) rule rules of) (All-tail IsSmallRule rule rules small) in
+  rules_lead : (evidence : Evidence) (due : Due) (count : ℕ) (rules : List Rule) → IsAfterRules evidence count due → count + length rules < 2 ^ 32 → Each (IsRuleOf task) rules → Each IsSmallRule rules →
+      (end : Due) × (total : ℕ) × IsAfterRules evidence total end × Lead task due (map (rule_line task) rules) end
+  rules_lead evidence due count [] after room of small = (due, count, after, refl)
+  rules_lead evidence due count (rule ∷ rules) after room of small =
+      let more = rules_lead evidence (RulesDue evidence (count + 1)) (count + 1) rules (refl, refl) (omega (arith, room)) (All-tail (IsRuleOf task) rule rules of) (All-tail IsSmallRule rule rules small) in
       let own = All-head (IsRuleOf task) rule rules of in
       let good = targets_good rule.act rule.targets rule.cond own.1 own.2 (All-head IsSmallRule rule rules small) in (
         more.0,
         more.1,
         more.2,
-        good_lead due (RulesDue (count + 1)) more.0 (rule_line task rule) (map (rule_line task) rules) good
-            (rule_allowed due count (act_leaves task rule.act) rule.targets (written_cube task rule.cond) after (omega (arith, room))) more.3,
+        good_lead due (RulesDue evidence (count + 1)) more.0 (rule_line task rule) (map (rule_line task) rules) good
+            (rule_allowed evidence due count (act_leaves task rule.act) rule.targets (written_cube task rule.cond) after (omega (arith, room))) more.3,
       )
 
-  reach_allowed : (due : Due) (count : ℕ) (digits : List ℕ) → IsAfterRules count due → due_after due (ReachLine digits) ≡ Some EndDue
-  reach_allowed (LayersDue OfPolicy) count digits h = refl
-  reach_allowed (CubesDue OfPolicy layers cubes) count digits h = refl
-  reach_allowed PairsDue count digits h = refl
-  reach_allowed (RulesDue rules) count digits h = refl
-  reach_allowed (LayersDue OfRefusal) count digits h = absurd h
-  reach_allowed (CubesDue OfRefusal layers cubes) count digits h = absurd h
-  reach_allowed HeaderDue count digits h = absurd h
-  reach_allowed EndDue count digits h = absurd h
-  reach_allowed NothingDue count digits h = absurd h
+  reach_allowed : (due : Due) (count : ℕ) → IsAfterRules ByReach count due → due_after due (ReachLine []) ≡ Some EndDue
+  reach_allowed (LayersDue kind) count h = ap (λ kind. after_layers kind (ReachLine [])) h.0
+  reach_allowed (CubesDue kind layers cubes) count h = ap (λ kind. after_layers kind (ReachLine [])) h.0
+  reach_allowed (PairsDue other) count h = ap (λ evidence. after_rules evidence (ReachLine [])) h.0
+  reach_allowed (RulesDue other rules) count h = ap (λ evidence. after_rules evidence (ReachLine [])) h.0
+  reach_allowed due count h = absurd h
+
+  -- what is due in a policy with a cover after this many items
+  abbrev IsAfterItems : ℕ → Due → Type 0
+  IsAfterItems count (LayersDue kind) = (kind ≡ OfPolicy ByCover) × (count ≡ 0)
+  IsAfterItems count (CubesDue kind layers cubes) = (kind ≡ OfPolicy ByCover) × (count ≡ 0)
+  IsAfterItems count (PairsDue other) = (other ≡ ByCover) × (count ≡ 0)
+  IsAfterItems count (RulesDue other rules) = (other ≡ ByCover) × (count ≡ 0)
+  IsAfterItems count (ItemsDue items) = items ≡ count
+  IsAfterItems count due = ⊥
+
+  rules_before_items : (due : Due) (count : ℕ) → IsAfterRules ByCover count due → IsAfterItems 0 due
+  rules_before_items (LayersDue kind) count h = (h.0, refl)
+  rules_before_items (CubesDue kind layers cubes) count h = (h.0, refl)
+  rules_before_items (PairsDue other) count h = (h.0, refl)
+  rules_before_items (RulesDue other rules) count h = (h.0, refl)
+  rules_before_items due count h = absurd h
+
+  one_item : (count : ℕ) → count ≡ 0 → Some (ItemsDue 1) ≡ Some (ItemsDue (count + 1))
+  one_item count none = ap (λ n. Some (ItemsDue n)) (omega (arith, none))
+
+  goal_allowed : (due : Due) (count : ℕ) → IsAfterItems count due → count + 1 < 2 ^ 32 → due_after due (GoalItem []) ≡ Some (ItemsDue (count + 1))
+  goal_allowed (LayersDue kind) count h room = ap (λ kind. after_layers kind (GoalItem [])) h.0 ∙ one_item count h.1
+  goal_allowed (CubesDue kind layers cubes) count h room = ap (λ kind. after_layers kind (GoalItem [])) h.0 ∙ one_item count h.1
+  goal_allowed (PairsDue other) count h room = ap (λ evidence. after_rules evidence (GoalItem [])) h.0 ∙ one_item count h.1
+  goal_allowed (RulesDue other rules) count h room = ap (λ evidence. after_rules evidence (GoalItem [])) h.0 ∙ one_item count h.1
+  goal_allowed (ItemsDue items) count h room = few (items + 1) (ItemsDue (items + 1)) (omega (arith, h, room)) ∙ ap (λ n. Some (ItemsDue (n + 1))) h
+  goal_allowed due count h room = absurd h
+
+  way_allowed : (due : Due) (count : ℕ) (way : Way) (literals : List WrittenLiteral) → IsAfterItems count due → count + 1 < 2 ^ 32 → due_after due (way_line way literals) ≡ Some (ItemsDue (count + 1))
+  way_allowed due count ToGoal literals h room = alike_due due (way_line ToGoal literals) ∙ goal_allowed due count h room
+  way_allowed due count (ByRule rule numbers) literals h room = alike_due due (way_line (ByRule rule numbers) literals) ∙ goal_allowed due count h room
+
+  start_allowed : (due : Due) (count : ℕ) → IsAfterItems count due → due_after due (StartLine []) ≡ Some EndDue
+  start_allowed (LayersDue kind) count h = ap (λ kind. after_layers kind (StartLine [])) h.0
+  start_allowed (CubesDue kind layers cubes) count h = ap (λ kind. after_layers kind (StartLine [])) h.0
+  start_allowed (PairsDue other) count h = ap (λ evidence. after_rules evidence (StartLine [])) h.0
+  start_allowed (RulesDue other rules) count h = ap (λ evidence. after_rules evidence (StartLine [])) h.0
+  start_allowed (ItemsDue items) count h = refl
+  start_allowed due count h = absurd h
+
+  -- an item belongs to the task, and its numbers are small
+  abbrev IsGoodItem : Item → Type 0
+  IsGoodItem item = HasNumber item.way × IsSmallWay item.way
+
+  items_lead : (due : Due) (count : ℕ) (items : List Item) → IsAfterItems count due → count + length items < 2 ^ 32 → Each IsGoodItem items →
+      (end : Due) × (total : ℕ) × IsAfterItems total end × Lead task due (map (item_line task) items) end
+  items_lead due count [] after room good = (due, count, after, refl)
+  items_lead due count (item ∷ items) after room good =
+      let more = items_lead (ItemsDue (count + 1)) (count + 1) items refl (omega (arith, room)) (All-tail IsGoodItem item items good) in
+      let own = All-head IsGoodItem item items good in (
+        more.0,
+        more.1,
+        more.2,
+        good_lead due (ItemsDue (count + 1)) more.0 (item_line task item) (map (item_line task) items) (way_good item.way item.cube own.0 own.1)
+            (way_allowed due count item.way (written_cube task item.cube) after (omega (arith, room))) more.3,
+      )
 
   refusal_ends : (due : Due) → IsAfterLayers OfRefusal due → due_after due EndLine ≡ Some NothingDue
-  refusal_ends (LayersDue OfRefusal) h = refl
-  refusal_ends (LayersDue OfPolicy) h = absurd (cc)
-  refusal_ends (CubesDue OfRefusal layers cubes) h = refl
-  refusal_ends (CubesDue OfPolicy layers cubes) h = absurd (cc)
-  refusal_ends HeaderDue h = absurd h
-  refusal_ends PairsDue h = absurd h
-  refusal_ends (RulesDue rules) h = absurd h
-  refusal_ends EndDue h = absurd h
-  refusal_ends NothingDue h = absurd h
+  refusal_ends (LayersDue kind) h = ap (λ kind. after_layers kind EndLine) h
+  refusal_ends (CubesDue kind layers cubes) h = ap (λ kind. after_layers kind EndLine) h
+  refusal_ends due h = absurd h
 
   end_lead : (due : Due) → due_after due EndLine ≡ Some NothingDue → Lead task due (EndLine ∷ []) NothingDue
   end_lead due allowed = (tt, refl, (NothingDue, allowed, refl))
 
+  -- the lines of layers, pairs and rules lead from the header to the end, if others do that may follow the rules
+  plan_lead : (evidence : Evidence) (layers : List (List CubeView)) (pairs : List Pair) (rules : List Rule) (last : List WrittenLine) → BelongAsLayers task layers → BelongAsPairs task pairs → BelongAsRules task rules →
+      Each IsSmallPair pairs → Each IsSmallRule rules → ((due : Due) (count : ℕ) → IsAfterRules evidence count due → Lead task due last NothingDue) →
+      Lead task (LayersDue (OfPolicy evidence)) (flat_map (layer_lines task) layers ++ (map (pair_line task) pairs ++ (map (rule_line task) rules ++ last))) NothingDue
+  plan_lead evidence layers pairs rules last in_layers in_pairs in_rules small_pairs small_rules ends =
+      let of_layers = layers_lead (OfPolicy evidence) layers in_layers in
+      let of_pairs = pairs_lead evidence of_layers.0 pairs (layers_take_pairs evidence of_layers.0 of_layers.1) (pairs_of task pairs in_pairs) small_pairs in
+      let size = in_rules.few in
+      let of_rules = rules_lead evidence of_pairs.0 0 rules (pairs_before_rules evidence of_pairs.0 of_pairs.1) (omega (arith, size)) (rules_of task rules in_rules) small_rules in
+      let plan = lead_more task (map (rule_line task) rules) last of_pairs.0 of_rules.0 NothingDue of_rules.3 (ends of_rules.0 of_rules.1 of_rules.2) in
+      let rest = lead_more task (map (pair_line task) pairs) (map (rule_line task) rules ++ last) of_layers.0 of_pairs.0 NothingDue of_pairs.2 plan in
+      lead_more task (flat_map (layer_lines task) layers) (map (pair_line task) pairs ++ (map (rule_line task) rules ++ last)) (LayersDue (OfPolicy evidence)) of_layers.0 NothingDue of_layers.2 rest
+
+  reach_leads : (reach : ℕ) → reach < 2 ^ 64 → (due : Due) (count : ℕ) → IsAfterRules ByReach count due → Lead task due (ReachLine (decimal reach) ∷ EndLine ∷ []) NothingDue
+  reach_leads reach small due count after =
+      good_lead due EndDue NothingDue (ReachLine (decimal reach)) (EndLine ∷ []) (reach_good reach small) (alike_due due (ReachLine (decimal reach)) ∙ reach_allowed due count after) (end_lead EndDue refl)
+
+  cover_leads : (items : List Item) (start : ℕ) → BelongAsItems task items → Each (λ item. IsSmallWay item.way) items → start < 2 ^ 32 → (due : Due) (count : ℕ) → IsAfterRules ByCover count due →
+      Lead task due (map (item_line task) items ++ (StartLine (decimal start) ∷ EndLine ∷ [])) NothingDue
+  cover_leads items start in_items small small_start due count after =
+      let size = in_items.few in
+      let of_items = items_lead due 0 items (rules_before_items due count after) (omega (arith, size)) (λ k d lt. (in_items.numbered k d lt, small k d lt)) in
+      let last = good_lead of_items.0 EndDue NothingDue (StartLine (decimal start)) (EndLine ∷ []) (start_good start small_start)
+      (alike_due of_items.0 (StartLine (decimal start)) ∙ start_allowed of_items.0 of_items.1 of_items.2) (end_lead EndDue refl) in
+      lead_more task (map (item_line task) items) (StartLine (decimal start) ∷ EndLine ∷ []) due of_items.0 NothingDue of_items.3 last
+
   -- the lines of a certificate lead from the header to the end
   pub cert_leads : (cert : Cert) → Belongs task cert → HasSmallNumbers cert → Lead task HeaderDue (cert_lines task cert) NothingDue
-  cert_leads (Policy layers pairs rules reach) h small =
-      let of_layers = layers_lead OfPolicy layers h.0 in
-      let of_pairs = pairs_lead of_layers.0 pairs (layers_take_pairs of_layers.0 of_layers.1) (pairs_of task pairs h.1) small.0 in
-      let size = h.2.few in
-      let of_rules = rules_lead of_pairs.0 0 rules (pairs_before_rules of_pairs.0 of_pairs.1) (omega (arith, size)) (rules_of task rules h.2) small.1 in
-      let last = good_lead of_rules.0 EndDue NothingDue (ReachLine (decimal reach)) (EndLine ∷ []) (reach_good reach small.2) (reach_allowed of_rules.0 of_rules.1 (decimal reach) of_rules.2) (end_lead EndDue refl) in
-      let plan = lead_more task (map (rule_line task) rules) (ReachLine (decimal reach) ∷ EndLine ∷ []) of_pairs.0 of_rules.0 NothingDue of_rules.3 last in
-      let rest = lead_more task (map (pair_line task) pairs) (map (rule_line task) rules ++ (ReachLine (decimal reach) ∷ EndLine ∷ [])) of_layers.0 of_pairs.0 NothingDue of_pairs.2 plan in (
-        tt,
-        refl,
-        (
-          LayersDue OfPolicy,
-          refl,
-          lead_more task (flat_map (layer_lines task) layers) (map (pair_line task) pairs ++ (map (rule_line task) rules ++ (ReachLine (decimal reach) ∷ EndLine ∷ []))) (LayersDue OfPolicy) of_layers.0 NothingDue of_layers.2 rest,
-        ),
-      )
+  cert_leads (Policy layers pairs rules reach) h small = (
+    tt,
+    refl,
+    (LayersDue (OfPolicy ByReach), refl, plan_lead ByReach layers pairs rules (ReachLine (decimal reach) ∷ EndLine ∷ []) h.0 h.1 h.2 small.0 small.1 (reach_leads reach small.2)),
+  )
   cert_leads (Refusal layers) h small =
       let of_layers = layers_lead OfRefusal layers h in (
         tt,
@@ -414,3 +488,12 @@ module _ (task : Task) where
           lead_more task (flat_map (layer_lines task) layers) (EndLine ∷ []) (LayersDue OfRefusal) of_layers.0 NothingDue of_layers.2 (end_lead of_layers.0 (refusal_ends of_layers.0 of_layers.1)),
         ),
       )
+  cert_leads (Covered layers pairs rules items start) h small = (
+    tt,
+    refl,
+    (
+      LayersDue (OfPolicy ByCover),
+      refl,
+      plan_lead ByCover layers pairs rules (map (item_line task) items ++ (StartLine (decimal start) ∷ EndLine ∷ [])) h.0 h.1 h.2 small.0 small.1 (cover_leads items start h.3 small.2 small.3),
+    ),
+  )

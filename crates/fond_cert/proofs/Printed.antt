@@ -1,10 +1,11 @@
 -- What is printed is how certificates are written.
-use Rattle.std.proofs.Common.{◌≡◌, ℕ, ◌+◌, zero, suc, Bool, List, [], ◌∷◌, ◌++◌, Option, Some, None, map, codes, refl, sym, ap, ◌∙◌, arith, append_assoc, drop, All as Each}
+use Rattle.std.proofs.Common.{◌≡◌, ℕ, ◌+◌, zero, suc, Bool, List, [], ◌∷◌, ◌++◌, Option, Some, None, map, codes, refl, sym, ap, ◌∙◌, arith, append_assoc, drop, get_or, All as Each}
 use Rattle.std.specs.Prelude.{slice_get}
 use Rattle.std.specs.Fmt.{decimal}
 use Rattle.std.specs.List.{filter_map, flat_map, enumerate_from, cons_option}
 use Rattle.std.specs.Option.{option_map, option_map_or}
 use Rattle.std.proofs.lemmas.Grind.{flat_map-append}
+use Rattle.std.proofs.lemmas.Option.{slice_get-get_or}
 use Rattle.fond_text.specs.declared.atom.Atom.{Atom}
 use Rattle.fond_task.specs.declared.task.Act.{Act}
 use Rattle.fond_task.specs.declared.task.Labels.{Labels}
@@ -16,35 +17,39 @@ use Rattle.fond_game.specs.declared.rule.Pair.{Pair}
 use Rattle.fond_game.specs.declared.rule.Rule.{Rule}
 use Rattle.fond_game.specs.declared.rule.Targets.{Targets}
 use Rattle.fond_game.specs.declared.rule.Targets.TheVariants.{One, All}
-use Rattle.fond_policy.specs.declared.cert.Cert.TheVariants.{Policy, Refusal}
-use Rattle.fond_policy.specs.Belongs.{BelongAsPairs, BelongAsRules}
-use Rattle.fond_cert.specs.Items.{IsPairOf, IsRuleOf}
+use Rattle.fond_cover.specs.declared.item.Item.{Item}
+use Rattle.fond_cover.specs.declared.item.Way.{Way}
+use Rattle.fond_cover.specs.declared.item.Way.TheVariants.{Goal as ToGoal, Rule as ByRule}
+use Rattle.fond_policy.specs.declared.cert.Cert.TheVariants.{Policy, Refusal, Covered}
+use Rattle.fond_policy.specs.Belongs.{BelongAsPairs, BelongAsRules, BelongAsItems}
+use Rattle.fond_cert.specs.Items.{IsPairOf, IsRuleOf, IsItemOf}
 use Rattle.fond_cert.specs.Cutting.{target_text, targets_text, literals_text}
-use Rattle.fond_cert.specs.Lines.{group_text, WrittenLiteral, WrittenLine, ReachLine, EndLine, sign_text}
-use Rattle.fond_cert.specs.Printed.{item_text, cube_text, fed, chosen_text, cond_text, pair_text, rule_text, layer_text, policy_text, refusal_text}
-use Rattle.fond_cert.specs.Spellings.{action_leaves, act_leaves, written_literal, written_cube, written_target, targets_line, layer_lines, pair_line, rule_line, lines_text, spelling}
+use Rattle.fond_cert.specs.Lines.{group_text, spaced, WrittenLiteral, WrittenLine, ReachLine, StartLine, EndLine, sign_text}
+use Rattle.fond_cert.specs.Printed.{atom_literal_text, cube_text, fed, chosen_text, cond_text, pair_text, rule_text, way_text, item_text, layer_text, plan_text, policy_text, items_text, cover_text, refusal_text}
+use Rattle.fond_cert.specs.Spellings.{action_leaves, act_leaves, written_literal, written_cube, written_target, targets_line, layer_lines, pair_line, rule_line, way_line, item_line, lines_text, spelling}
 use Rattle.fond_cert.proofs.Acts.{leaves_text as action_leaves_text}
 use Rattle.fond_cert.proofs.CubeTexts.{leaves_text}
 use Rattle.fond_cert.proofs.Literals.{literal_apart}
+use Rattle.fond_cert.proofs.ItemShapes.{item_apart}
 use Rattle.fond_cert.proofs.UnfairRules.{apart}
 use Rattle.fond_cert.proofs.Wholes.{lines_append}
 
 one_item : (labels : Labels) (atom : Atom) (literal : Option Bool) (rest : List WrittenLiteral) →
-    item_text labels atom literal ++ literals_text rest ≡ literals_text (cons_option (option_map (written_literal labels atom) literal) rest)
+    atom_literal_text labels atom literal ++ literals_text rest ≡ literals_text (cons_option (option_map (written_literal labels atom) literal) rest)
 one_item labels atom None rest = refl
 one_item labels atom (Some sign) rest =
     ap (λ t. (codes " " ++ (sign_text sign ++ t)) ++ literals_text rest) (leaves_text labels atom) ∙ literal_apart (written_literal labels atom sign) (literals_text rest)
 
-items_text : (labels : Labels) (cube : CubeView) (items : List (ℕ × Atom)) →
-    flat_map (λ (item : ℕ × Atom). item_text labels item.1 (literal_at cube item.0)) items
+cube_items_text : (labels : Labels) (cube : CubeView) (items : List (ℕ × Atom)) →
+    flat_map (λ (item : ℕ × Atom). atom_literal_text labels item.1 (literal_at cube item.0)) items
     ≡ literals_text (filter_map (λ (item : ℕ × Atom). option_map (written_literal labels item.1) (literal_at cube item.0)) items)
-items_text labels cube [] = refl
-items_text labels cube (item ∷ items) =
-    ap (λ t. item_text labels item.1 (literal_at cube item.0) ++ t) (items_text labels cube items)
+cube_items_text labels cube [] = refl
+cube_items_text labels cube (item ∷ items) =
+    ap (λ t. atom_literal_text labels item.1 (literal_at cube item.0) ++ t) (cube_items_text labels cube items)
     ∙ one_item labels item.1 (literal_at cube item.0) (filter_map (λ (item : ℕ × Atom). option_map (written_literal labels item.1) (literal_at cube item.0)) items)
 
 pub cube_text_is : (task : Task) (cube : CubeView) → cube_text task cube ≡ literals_text (written_cube task cube)
-cube_text_is task cube = items_text task.labels cube (enumerate_from 0 task.atoms)
+cube_text_is task cube = cube_items_text task.labels cube (enumerate_from 0 task.atoms)
 
 pub act_text_is : (task : Task) (n : ℕ) (act : Act) → slice_get task.acts n ≡ Some act → action_text task.labels act.ground ≡ group_text (act_leaves task n)
 act_text_is task n act e = action_leaves_text task.labels act.ground ∙ ap (λ o. group_text (option_map_or (λ (a : Act). action_leaves task.labels a.ground) o [])) (sym e)
@@ -107,24 +112,50 @@ rule_by task a (All targets) cond =
 pub rule_is : (task : Task) (rule : Rule) → rule_text task rule ≡ fed (rule_line task rule)
 rule_is task rule = rule_by task (act_leaves task rule.act) rule.targets rule.cond
 
+way_by : (task : Task) (way : Way) (cube : CubeView) → codes "item " ++ (way_text way ++ cond_text task cube) ≡ fed (way_line way (written_cube task cube))
+way_by task ToGoal cube = refl
+way_by task (ByRule rule numbers) cube =
+    let w = spaced (map decimal numbers) in
+    let t = codes " :" ++ literals_text (written_cube task cube) in
+    ap (λ u. codes "item " ++ u) (append_assoc (decimal rule) w (t ++ codes "\n") ∙ sym (flat3 (decimal rule) w t (codes "\n")))
+    ∙ ap (λ u. u ++ codes "\n") (sym (item_apart (decimal rule) (map decimal numbers) (written_cube task cube)))
+
+pub item_is : (task : Task) (item : Item) → item_text task item ≡ fed (item_line task item)
+item_is task item = way_by task item.way item.cube
+
 mapped : {X : Type 0} (f : X → WrittenLine) (g : X → List ℕ) → ((x : X) → g x ≡ fed (f x)) → (xs : List X) → flat_map g xs ≡ lines_text (map f xs)
 mapped f g h [] = refl
 mapped f g h (x ∷ xs) = ap (λ t. t ++ flat_map g xs) (h x) ∙ ap (λ t. fed (f x) ++ t) (mapped f g h xs)
 
-pub policy_is : (task : Task) (layers : List (List CubeView)) (pairs : List Pair) (rules : List Rule) (reach : ℕ) → policy_text task layers pairs rules reach ≡ spelling task (Policy layers pairs rules reach)
-policy_is task layers pairs rules reach =
+-- the text of layers, pairs and rules, with that of other lines after it
+plan_is : (task : Task) (layers : List (List CubeView)) (pairs : List Pair) (rules : List Rule) (last : List WrittenLine) →
+    plan_text task layers pairs rules ++ lines_text last ≡ lines_text (flat_map (layer_lines task) layers ++ (map (pair_line task) pairs ++ (map (rule_line task) rules ++ last)))
+plan_is task layers pairs rules last =
     let ll = flat_map (layer_lines task) layers in
     let pl = map (pair_line task) pairs in
     let rl = map (rule_line task) rules in
-    let last = ReachLine (decimal reach) ∷ EndLine ∷ [] in
-    ap (λ u. codes "dualfond 1 policy\n" ++ u)
-    (ap (λ t. flat_map (layer_text task) layers ++ t) (flat3 (flat_map (pair_text task) pairs) (flat_map (rule_text task) rules) (fed (ReachLine (decimal reach))) (codes "end\n"))
+    flat3 (flat_map (layer_text task) layers) (flat_map (pair_text task) pairs) (flat_map (rule_text task) rules) (lines_text last)
     ∙ ap (λ t. t ++ (flat_map (pair_text task) pairs ++ (flat_map (rule_text task) rules ++ lines_text last))) (sym (several_lines (layer_lines task) layers))
     ∙ ap (λ t. lines_text ll ++ (t ++ (flat_map (rule_text task) rules ++ lines_text last))) (mapped (pair_line task) (pair_text task) (pair_is task) pairs)
     ∙ ap (λ t. lines_text ll ++ (lines_text pl ++ (t ++ lines_text last))) (mapped (rule_line task) (rule_text task) (rule_is task) rules)
     ∙ ap (λ t. lines_text ll ++ (lines_text pl ++ t)) (sym (lines_append rl last))
     ∙ ap (λ t. lines_text ll ++ t) (sym (lines_append pl (rl ++ last)))
-    ∙ sym (lines_append ll (pl ++ (rl ++ last))))
+    ∙ sym (lines_append ll (pl ++ (rl ++ last)))
+
+pub policy_is : (task : Task) (layers : List (List CubeView)) (pairs : List Pair) (rules : List Rule) (reach : ℕ) → policy_text task layers pairs rules reach ≡ spelling task (Policy layers pairs rules reach)
+policy_is task layers pairs rules reach = ap (λ u. codes "dualfond 1 policy\n" ++ u) (plan_is task layers pairs rules (ReachLine (decimal reach) ∷ EndLine ∷ []))
+
+last_is : (task : Task) (items : List Item) (start : ℕ) → items_text task items start ++ codes "end\n" ≡ lines_text (map (item_line task) items ++ (StartLine (decimal start) ∷ EndLine ∷ []))
+last_is task items start =
+    append_assoc (flat_map (item_text task) items) (fed (StartLine (decimal start))) (codes "end\n")
+    ∙ ap (λ t. t ++ (fed (StartLine (decimal start)) ++ codes "end\n")) (mapped (item_line task) (item_text task) (item_is task) items)
+    ∙ sym (lines_append (map (item_line task) items) (StartLine (decimal start) ∷ EndLine ∷ []))
+
+pub cover_is : (task : Task) (layers : List (List CubeView)) (pairs : List Pair) (rules : List Rule) (items : List Item) (start : ℕ) →
+    cover_text task layers pairs rules items start ≡ spelling task (Covered layers pairs rules items start)
+cover_is task layers pairs rules items start =
+    ap (λ u. codes "dualfond 2 policy\n" ++ u)
+    (ap (λ t. plan_text task layers pairs rules ++ t) (last_is task items start) ∙ plan_is task layers pairs rules (map (item_line task) items ++ (StartLine (decimal start) ∷ EndLine ∷ [])))
 
 pub refusal_is : (task : Task) (layers : List (List CubeView)) → refusal_text task layers ≡ spelling task (Refusal layers)
 refusal_is task layers =
@@ -136,3 +167,6 @@ pairs_of task pairs h = λ k d lt. (h.over k d lt, h.there k d lt)
 
 pub rules_of : (task : Task) (rules : List Rule) → BelongAsRules task rules → Each (IsRuleOf task) rules
 rules_of task rules h = λ k d lt. (h.belong.over k d lt, h.belong.there k d lt, h.targeted k d lt)
+
+pub items_of : (task : Task) (items : List Item) → BelongAsItems task items → Each (IsItemOf task) items
+items_of task items h = λ k d lt. (h.over k (get_or items k d) (slice_get-get_or items k d lt), h.numbered k d lt)

@@ -1,19 +1,21 @@
 -- Lines of one text are the same line.
 use Rattle.std.proofs.Common.{◌≡◌, ℕ, ◌==◌, List, [], ◌∷◌, ◌++◌, All, true, false, IsTrue, get_or, if◌then◌else◌, codes, refl, sym, ap, ◌∙◌, arith, append_assoc}
 use Rattle.std.specs.Prelude.{⊤}
+use Rattle.std.specs.Char.{is_ascii_digit}
 use Rattle.std.specs.List.{flat_map, list_all}
 use Rattle.std.proofs.lemmas.Bool.{and_parts}
 use Rattle.std.proofs.lemmas.List.{append_cancel_left, append-nil}
 use Rattle.std.proofs.lemmas.List.Elements.{All-head, All-tail}
-use Rattle.fond_cert.specs.Lines.{is_plain_byte, IsPlainLeaf, IsGroup, spaced, group_text, is_number, WrittenTarget, GoalWord, NumberWord, IsProperTarget, WrittenLiteral, AreProper, WrittenLine, PolicyHeader, RefusalHeader, LayerLine, CubeLine, PairLine, FairRule, UnfairRule, ReachLine, EndLine, line_text, IsProper}
-use Rattle.fond_cert.specs.Parts.{EndsWord, literal_text}
+use Rattle.fond_cert.specs.Lines.{is_plain_byte, IsPlainLeaf, IsGroup, spaced, group_text, is_number, WrittenTarget, GoalWord, NumberWord, IsProperTarget, WrittenLiteral, AreProper, WrittenLine, PolicyHeader, RefusalHeader, CoverHeader, LayerLine, CubeLine, PairLine, FairRule, UnfairRule, ReachLine, GoalItem, RuleItem, StartLine, EndLine, line_text, IsProper}
+use Rattle.fond_cert.specs.Parts.{is_target, EndsWord, literal_text}
 use Rattle.fond_cert.specs.Cutting.{target_text, targets_text, literals_text}
-use Rattle.fond_cert.proofs.Afters.{target_right}
+use Rattle.fond_cert.proofs.Afters.{target_right, ends_words}
 use Rattle.fond_cert.proofs.Cubes.{spelled, same_sign}
-use Rattle.fond_cert.proofs.Cuts.{same_word, number_no_space, target_no_space}
+use Rattle.fond_cert.proofs.Cuts.{same_word, number_no_space, target_no_space, number_first}
 use Rattle.fond_cert.proofs.Groups.{group_apart}
 use Rattle.fond_cert.proofs.Literals.{literal_apart, same_head, same_tail, after_sign, after_space}
-use Rattle.fond_cert.proofs.Longest.{longest, colon_no_target, words_of, words_right, words_spaced}
+use Rattle.fond_cert.proofs.ItemShapes.{item_apart}
+use Rattle.fond_cert.proofs.Longest.{longest, colon_no_target, colon_no_number, words_of, words_right, words_spaced}
 use Rattle.fond_cert.proofs.UnfairRules.{apart}
 
 -- a text is empty, or begins with a byte that no leaf has
@@ -102,7 +104,7 @@ same_targets_by (x ∷ t) (y ∷ u) h k e =
 -- equal texts that begin with targets before a colon have the same targets and the same rest
 same_targets : (t u : List WrittenTarget) (s r : List ℕ) → All IsProperTarget t → All IsProperTarget u → targets_text t ++ (codes " :" ++ s) ≡ targets_text u ++ (codes " :" ++ r) → (t ≡ u) × (s ≡ r)
 same_targets t u s r h k e =
-    let words = longest (words_of t) (words_of u) (codes " :" ++ s) (codes " :" ++ r) (words_right t h) (words_right u k) (colon_no_target s) (colon_no_target r) refl refl
+    let words = longest is_target target_no_space (words_of t) (words_of u) (codes " :" ++ s) (codes " :" ++ r) (words_right t h) (words_right u k) (colon_no_target s) (colon_no_target r) refl refl
     (ap (λ text. text ++ (codes " :" ++ s)) (sym (words_spaced t)) ∙ e ∙ ap (λ text. text ++ (codes " :" ++ r)) (words_spaced u)) in
     (same_targets_by t u h k words.0, append_cancel_left (codes " :") s r words.1)
 
@@ -142,49 +144,82 @@ same_unfair a b t u l m h k e =
     let literals = same_literals l m h.3 k.3 targets.1 in
     λ i. UnfairRule (action.0 i) (targets.0 i) (literals i)
 
+same_item : (r s : List ℕ) (n m : List (List ℕ)) (l k : List WrittenLiteral) → IsProper (RuleItem r n l) → IsProper (RuleItem s m k) → line_text (RuleItem r n l) ≡ line_text (RuleItem s m k) → RuleItem r n l ≡ RuleItem s m k
+same_item r s n m l k h i e =
+    let rule = same_number r s _ _ h.0 i.0 (ends_words n _ refl) (ends_words m _ refl) (append_cancel_left (codes "item ") _ _ (sym (item_apart r n l) ∙ e ∙ item_apart s m k)) in
+    let items = longest is_number number_no_space n m _ _ h.2 i.2 (colon_no_number (literals_text l)) (colon_no_number (literals_text k)) refl refl rule.1 in
+    let literals = same_condition l k h.3 i.3 items.1 in
+    λ j. RuleItem (rule.0 j) (items.0 j) (literals j)
+
+-- an item with a rule begins with a digit
+number_or_goal : (r rest more : List ℕ) → IsTrue (is_number r) → ¬ codes "goal" ++ more ≡ r ++ rest
+number_or_goal [] rest more h e = absurd (cc)
+number_or_goal (b ∷ r) rest more h e =
+    let letter = same_head 103 b _ _ e in
+    let digit = (number_first b r h).0 in
+    let clash : is_ascii_digit 103 ≡ true = ap is_ascii_digit letter ∙ digit in
+    absurd (cc)
+
+goal_or_rule : (l k : List WrittenLiteral) (r : List ℕ) (n : List (List ℕ)) → IsProper (RuleItem r n k) → ¬ line_text (GoalItem l) ≡ line_text (RuleItem r n k)
+goal_or_rule l k r n h e = number_or_goal r _ _ h.0 (append_cancel_left (codes "item ") (codes "goal :" ++ literals_text l) _ (e ∙ item_apart r n k))
+
 fair_or_unfair : (a b : List (List ℕ)) (o : List ℕ) (t : WrittenTarget) (u : List WrittenTarget) (l m : List WrittenLiteral) → IsGroup a → IsGroup b → ¬ line_text (FairRule a o t l) ≡ line_text (UnfairRule b u m)
 fair_or_unfair a b o t u l m h k e =
     let action = same_group a b _ _ h k (append_cancel_left (codes "rule ") _ _ (e ∙ apart b u m)) in
     let letter = same_head 102 117 _ _ (same_tail 32 32 _ _ action.1) in
     absurd (omega (arith, letter))
 
--- the number of the kind of a line, where all rules are of one kind
+-- the number of the kind of a line, where all rules are of one kind, and all items
 abbrev pub kind_number : WrittenLine → ℕ
 kind_number PolicyHeader = 0
 kind_number RefusalHeader = 1
-kind_number LayerLine = 2
-kind_number (CubeLine l) = 3
-kind_number (PairLine a o n c l) = 4
-kind_number (FairRule a o t l) = 5
-kind_number (UnfairRule a t l) = 5
-kind_number (ReachLine n) = 6
-kind_number EndLine = 7
+kind_number CoverHeader = 2
+kind_number LayerLine = 3
+kind_number (CubeLine l) = 4
+kind_number (PairLine a o n c l) = 5
+kind_number (FairRule a o t l) = 6
+kind_number (UnfairRule a t l) = 6
+kind_number (GoalItem l) = 7
+kind_number (RuleItem r n l) = 7
+kind_number (ReachLine n) = 8
+kind_number (StartLine n) = 9
+kind_number EndLine = 10
 
 -- the number of the kind of a line with this text
 abbrev number_by : List ℕ → ℕ → ℕ
 number_by text b =
-    if b == 100 then (if get_or text 11 0 == 112 then 0 else 1)
-    else if b == 108 then 2
-    else if b == 99 then 3
-    else if b == 112 then 4
-    else if b == 101 then 7
-    else if get_or text 1 0 == 117 then 5
-    else 6
+    if b == 100 then (if get_or text 9 0 == 50 then 2 else if get_or text 11 0 == 112 then 0 else 1)
+    else if b == 108 then 3
+    else if b == 99 then 4
+    else if b == 112 then 5
+    else if b == 101 then 10
+    else if b == 105 then 7
+    else if b == 115 then 9
+    else if get_or text 1 0 == 117 then 6
+    else 8
 
 by_text : (line : WrittenLine) → number_by (line_text line) (get_or (line_text line) 0 0) ≡ kind_number line
 by_text PolicyHeader = refl
 by_text RefusalHeader = refl
+by_text CoverHeader = refl
 by_text LayerLine = refl
 by_text (CubeLine l) = refl
 by_text (PairLine a o n c l) = refl
 by_text (FairRule a o t l) = refl
 by_text (UnfairRule a t l) = refl
+by_text (GoalItem l) = refl
+by_text (RuleItem r n l) = refl
 by_text (ReachLine n) = refl
+by_text (StartLine n) = refl
 by_text EndLine = refl
+
+append_trimmed : (s t : List ℕ) → s ++ [] ≡ t ++ [] → s ≡ t
+append_trimmed s t e = sym (append-nil s) ∙ e ∙ append-nil t
 
 same_by_kind : (line other : WrittenLine) → kind_number line ≡ kind_number other → IsProper line → IsProper other → line_text line ≡ line_text other → line ≡ other
 same_by_kind PolicyHeader PolicyHeader kind h k e = refl
 same_by_kind RefusalHeader RefusalHeader kind h k e = refl
+same_by_kind CoverHeader CoverHeader kind h k e = refl
 same_by_kind LayerLine LayerLine kind h k e = refl
 same_by_kind (CubeLine l) (CubeLine m) kind h k e = ap CubeLine (same_literals l m h k (append_cancel_left (codes "cube") _ _ e))
 same_by_kind (PairLine a o n c l) (PairLine b p q d m) kind h k e = same_pair a b o n c p q d l m h k e
@@ -193,9 +228,11 @@ same_by_kind (FairRule a o t l) (UnfairRule b u m) kind h k e = absurd (fair_or_
 same_by_kind (UnfairRule a t l) (FairRule b p u m) kind h k e = absurd (fair_or_unfair b a p u t m l k.0 h.0 (sym e))
 same_by_kind (UnfairRule a t l) (UnfairRule b u m) kind h k e = same_unfair a b t u l m h k e
 same_by_kind (ReachLine n) (ReachLine q) kind h k e = ap ReachLine (append_trimmed n q (append_cancel_left (codes "reach ") _ _ e))
-  where
-    append_trimmed : (s t : List ℕ) → s ++ [] ≡ t ++ [] → s ≡ t
-    append_trimmed s t e = sym (append-nil s) ∙ e ∙ append-nil t
+same_by_kind (GoalItem l) (GoalItem m) kind h k e = ap GoalItem (same_literals l m h k (append_cancel_left (codes "item goal :") _ _ e))
+same_by_kind (GoalItem l) (RuleItem r n m) kind h k e = absurd (goal_or_rule l m r n k e)
+same_by_kind (RuleItem r n l) (GoalItem m) kind h k e = absurd (goal_or_rule m l r n h (sym e))
+same_by_kind (RuleItem r n l) (RuleItem s m k) kind h i e = same_item r s n m l k h i e
+same_by_kind (StartLine n) (StartLine q) kind h k e = ap StartLine (append_trimmed n q (append_cancel_left (codes "start ") _ _ e))
 same_by_kind EndLine EndLine kind h k e = refl
 same_by_kind line other kind h k e = absurd (omega (arith, kind))
 

@@ -3,10 +3,10 @@ use Rattle.std.proofs.Common.{◌≡◌, ◌≢◌, ℕ, ◌<◌, ◌+◌, IsTru
 use Rattle.std.proofs.lemmas.Grind.{flat_map-append}
 use Rattle.fond_cert.specs.declared.part.Part.{Part}
 use Rattle.fond_cert.specs.declared.line.Line.TheVariants.{Cube, Pair, FairRule as CutFair, UnfairRule as CutUnfair}
-use Rattle.fond_cert.specs.Lines.{IsGroup, group_text, is_number, WrittenTarget, IsProperTarget, WrittenLiteral, PolicyHeader, RefusalHeader, LayerLine, CubeLine, PairLine, FairRule, UnfairRule, ReachLine, EndLine, line_text, IsProper, Fixed, piece_text, target_pieces, literal_pieces}
-use Rattle.fond_cert.specs.Parts.{IsGroupText, AreLiterals, is_target, EndsWord, HasNoTarget}
-use Rattle.fond_cert.specs.Checked.{as_target, AreTargetsText}
-use Rattle.fond_cert.specs.Cutting.{target_text, targets_text, literals_text, IsFirst, IsLast, HasNoNumber, HasNoTargetAfter, HasNoTargets, HasNoLiterals, IsCutOf}
+use Rattle.fond_cert.specs.Lines.{IsGroup, group_text, is_number, WrittenTarget, IsProperTarget, WrittenLiteral, CubeLine, PairLine, FairRule, UnfairRule, line_text, IsProper, Fixed, piece_text, target_pieces, literal_pieces}
+use Rattle.fond_cert.specs.Parts.{IsGroupText, AreLiterals, is_target, AreWordsText, EndsWord, HasNoWord}
+use Rattle.fond_cert.specs.Checked.{as_target}
+use Rattle.fond_cert.specs.Cutting.{target_text, targets_text, literals_text, IsFirst, IsLast, HasNoNumber, HasNoTargetAfter, HasNoWords, HasNoLiterals, IsCutOf}
 use Rattle.fond_cert.specs.Kinds.{HasNoLineOf, IsPair, IsFair, IsUnfair}
 use Rattle.fond_cert.proofs.Afters.{cancel, target_right}
 use Rattle.fond_cert.proofs.Cubes.{spelled}
@@ -32,48 +32,31 @@ after_target text word found next t more h ends k others e f =
     (same_word found (target_text t) next more (target_no_space found h) (target_no_space (target_text t) (target_right t k)) ends others (cancel text word (found ++ next) (target_text t ++ more) e f)).1
 
 -- the same rest follows targets
-pub after_targets : (text word found next : List ℕ) (t : List WrittenTarget) (more : List ℕ) → AreTargetsText found → HasNoTarget next → EndsWord next → All IsProperTarget t →
+pub after_targets : (text word found next : List ℕ) (t : List WrittenTarget) (more : List ℕ) → AreWordsText is_target found → HasNoWord is_target next → EndsWord next → All IsProperTarget t →
     text ≡ word ++ (found ++ next) → text ≡ word ++ (targets_text t ++ (codes " :" ++ more)) → next ≡ codes " :" ++ more
 after_targets text word found next t more h none ends k e f =
-    (longest h.0 (words_of t) next (codes " :" ++ more) h.1 (words_right t k) none (colon_no_target more) ends refl
+    (longest is_target target_no_space h.0 (words_of t) next (codes " :" ++ more) h.1 (words_right t k) none (colon_no_target more) ends refl
     (ap (λ u. u ++ next) (sym h.2) ∙ cancel text word (found ++ next) (targets_text t ++ (codes " :" ++ more)) e f ∙ ap (λ u. u ++ (codes " :" ++ more)) (words_spaced t))).1
 
 pub only_pairs : (text : List ℕ) → ((a : List (List ℕ)) (o n c : List ℕ) (l : List WrittenLiteral) → IsProper (PairLine a o n c l) → text ≢ line_text (PairLine a o n c l)) → HasNoLineOf IsPair text
-only_pairs text none PolicyHeader kind h = absurd kind
-only_pairs text none RefusalHeader kind h = absurd kind
-only_pairs text none LayerLine kind h = absurd kind
-only_pairs text none (CubeLine l) kind h = absurd kind
 only_pairs text none (PairLine a o n c l) kind h = none a o n c l h
-only_pairs text none (FairRule a o t l) kind h = absurd kind
-only_pairs text none (UnfairRule a t l) kind h = absurd kind
-only_pairs text none (ReachLine n) kind h = absurd kind
-only_pairs text none EndLine kind h = absurd kind
+only_pairs text none line kind h = absurd kind
 
 pub only_fair : (text : List ℕ) → ((a : List (List ℕ)) (o : List ℕ) (t : WrittenTarget) (l : List WrittenLiteral) → IsProper (FairRule a o t l) → text ≢ line_text (FairRule a o t l)) → HasNoLineOf IsFair text
-only_fair text none PolicyHeader kind h = absurd kind
-only_fair text none RefusalHeader kind h = absurd kind
-only_fair text none LayerLine kind h = absurd kind
-only_fair text none (CubeLine l) kind h = absurd kind
-only_fair text none (PairLine a o n c l) kind h = absurd kind
 only_fair text none (FairRule a o t l) kind h = none a o t l h
-only_fair text none (UnfairRule a t l) kind h = absurd kind
-only_fair text none (ReachLine n) kind h = absurd kind
-only_fair text none EndLine kind h = absurd kind
+only_fair text none line kind h = absurd kind
 
 pub only_unfair : (text : List ℕ) → ((a : List (List ℕ)) (t : List WrittenTarget) (l : List WrittenLiteral) → IsProper (UnfairRule a t l) → text ≢ line_text (UnfairRule a t l)) → HasNoLineOf IsUnfair text
-only_unfair text none PolicyHeader kind h = absurd kind
-only_unfair text none RefusalHeader kind h = absurd kind
-only_unfair text none LayerLine kind h = absurd kind
-only_unfair text none (CubeLine l) kind h = absurd kind
-only_unfair text none (PairLine a o n c l) kind h = absurd kind
-only_unfair text none (FairRule a o t l) kind h = absurd kind
 only_unfair text none (UnfairRule a t l) kind h = none a t l h
-only_unfair text none (ReachLine n) kind h = absurd kind
-only_unfair text none EndLine kind h = absurd kind
+only_unfair text none line kind h = absurd kind
 
 -- a number that was read after a word
 abbrev pub IsNumberAfter : Part → List ℕ → Part → Part → Type 0
 IsNumberAfter rest word part next = IsTrue (is_number part.text.now) × EndsWord next.text.now × IsFirst rest word part next
+
+some_words : (t : List WrittenTarget) → 0 < length t → 0 < length (words_of t)
+some_words [] h = absurd (omega (arith, h))
+some_words (target ∷ t) h = omega arith
 
 pub cube_found : (line literals : Part) → line.at ≡ 0 → AreLiterals literals.text.now → IsLast line (codes "cube") literals → IsCutOf line.text.now (Cube literals)
 cube_found line literals start are e =
@@ -193,10 +176,13 @@ module _ (line action r1 : Part) (group : IsGroupText action.text.now) where
         r1.text.now ≡ codes " unfair" ++ (targets_text t ++ (codes " :" ++ literals_text l))
     unfair_first a t l h f = after_action line.text.now (codes "rule ") action.text.now r1.text.now a _ group h.0 e.0 (f ∙ unfair_text a t l)
 
-    pub no_unfair_targets : HasNoTargets r1.text.now (codes " unfair") → HasNoLineOf IsUnfair line.text.now
-    no_unfair_targets none = only_unfair line.text.now (λ a t l h f. none t _ h.1 h.2 (unfair_first a t l h f))
+    pub no_unfair_targets : HasNoWords is_target r1.text.now (codes " unfair") → HasNoLineOf IsUnfair line.text.now
+    no_unfair_targets none =
+        only_unfair line.text.now
+        (λ a t l h f. none (words_of t) (literals_text l) (some_words t h.1) (words_right t h.2)
+        (unfair_first a t l h f ∙ ap (λ u. codes " unfair" ++ (u ++ (codes " :" ++ literals_text l))) (words_spaced t)))
 
-    module _ (targets r2 : Part) (are : AreTargetsText targets.text.now) (some : 0 < length targets.text.now) (none : HasNoTarget r2.text.now) (ends : EndsWord r2.text.now)
+    module _ (targets r2 : Part) (are : AreWordsText is_target targets.text.now) (some : 0 < length targets.text.now) (none : HasNoWord is_target r2.text.now) (ends : EndsWord r2.text.now)
         (e1 : IsFirst r1 (codes " unfair") targets r2) where
       pub no_unfair_literals : HasNoLiterals r2.text.now (codes " :") → HasNoLineOf IsUnfair line.text.now
       no_unfair_literals others =

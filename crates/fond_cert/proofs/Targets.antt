@@ -7,12 +7,12 @@ use Rattle.std.proofs.lemmas.List.Elements.{All-head, All-tail, All-cons, All-ni
 use Rattle.fond_task.specs.declared.task.Task.{Task}
 use Rattle.fond_game.specs.declared.rule.Target.{Target}
 use Rattle.fond_cert.specs.Lines.{is_number, spaced, WrittenTarget, IsProperTarget, piece_text, target_piece, target_pieces}
-use Rattle.fond_cert.specs.Parts.{is_target, AreTargets, IsCut, EndsWord}
+use Rattle.fond_cert.specs.Parts.{is_target, AreWords, AreWordsText, IsCut, EndsWord}
 use Rattle.fond_cert.specs.Words.{piece_code, refused_or, first_refused}
 use Rattle.fond_policy.specs.Sizes.{IsSmallTarget}
 use Rattle.fond_cert.specs.Spellings.{written_target}
-use Rattle.fond_cert.specs.Checked.{as_target, AreTargetsText, AreTargetsAt, IsTargetRefused}
-use Rattle.fond_cert.proofs.Cuts.{same_word, target_no_space}
+use Rattle.fond_cert.specs.Checked.{as_target, AreTargetsAt, IsTargetRefused}
+use Rattle.fond_cert.proofs.Cuts.{same_word, target_no_space, HasNoSpaces}
 use Rattle.fond_cert.proofs.Literals.{same_tail}
 
 -- a word is the text of a written target
@@ -28,13 +28,13 @@ writes_by word false e h =
 pub writes : (word : List ℕ) → is_target word ≡ true → Writes word (as_target word)
 writes word h = writes_by word (bytes_eq word (codes "goal")) refl h
 
-proper : (words : List (List ℕ)) → AreTargets words → All IsProperTarget (map as_target words)
+proper : (words : List (List ℕ)) → AreWords is_target words → All IsProperTarget (map as_target words)
 proper [] h = All-nil IsProperTarget
 proper (word ∷ words) h =
     let P = λ (word : List ℕ). IsTrue (is_target word) in
     All-cons IsProperTarget (as_target word) (map as_target words) (writes word (All-head P word words h)).0 (proper words (All-tail P word words h))
 
-spelled : (words : List (List ℕ)) → AreTargets words → spaced words ≡ flat_map piece_text (target_pieces (map as_target words))
+spelled : (words : List (List ℕ)) → AreWords is_target words → spaced words ≡ flat_map piece_text (target_pieces (map as_target words))
 spelled [] h = refl
 spelled (word ∷ words) h =
     let P = λ (word : List ℕ). IsTrue (is_target word) in
@@ -42,15 +42,15 @@ spelled (word ∷ words) h =
     ∙ ap (λ t. 32 ∷ (t ++ flat_map piece_text (target_pieces (map as_target words)))) (sym (writes word (All-head P word words h)).1)
 
 -- the targets that a text of targets writes
-pub as_written : (text : List ℕ) → AreTargetsText text → (written : List WrittenTarget) × All IsProperTarget written × (text ≡ flat_map piece_text (target_pieces written))
+pub as_written : (text : List ℕ) → AreWordsText is_target text → (written : List WrittenTarget) × All IsProperTarget written × (text ≡ flat_map piece_text (target_pieces written))
 as_written text h = (map as_target h.0, proper h.0 h.1, h.2 ∙ spelled h.0 h.1)
 
 -- the targets that are left, after these were read
 pub record LeftTargets (at : ℕ) (text rest : List ℕ) (targets : List Target) : Type 0 where
   pub whole : List (List ℕ)
   pub left : List (List ℕ)
-  pub whole_right : AreTargets whole
-  pub left_right : AreTargets left
+  pub whole_right : AreWords is_target whole
+  pub left_right : AreWords is_target left
   pub whole_is : text ≡ spaced whole
   pub left_is : rest ≡ spaced left
   pub short : length rest ≤ length text
@@ -58,7 +58,7 @@ pub record LeftTargets (at : ℕ) (text rest : List ℕ) (targets : List Target)
   pub named : map as_target whole ≡ map written_target targets ++ map as_target left
   pub small : All IsSmallTarget targets
 
-pub all_left : (at : ℕ) (text : List ℕ) → AreTargetsText text → LeftTargets at text text []
+pub all_left : (at : ℕ) (text : List ℕ) → AreWordsText is_target text → LeftTargets at text text []
 all_left at text h = record {
   whole = h.0;
   left = h.0;
@@ -76,20 +76,20 @@ ends_spaced : (words : List (List ℕ)) → EndsWord (spaced words)
 ends_spaced [] = tt
 ends_spaced (word ∷ words) = refl
 
--- the next of the words that are left
-record NextWord (left : List (List ℕ)) (word further : List ℕ) : Type 0 where
+-- the next of the words that are left, which pass a test
+pub record NextWord (test : List ℕ → Bool) (left : List (List ℕ)) (word further : List ℕ) : Type 0 where
   pub more : List (List ℕ)
   pub left_is : left ≡ word ∷ more
   pub behind_is : further ≡ spaced more
-  pub right : is_target word ≡ true
-  pub more_right : AreTargets more
+  pub right : test word ≡ true
+  pub more_right : AreWords test more
 
-next_word : (left : List (List ℕ)) (inner word further : List ℕ) → AreTargets left → 32 ∷ inner ≡ spaced left → IsCut inner word further → NextWord left word further
-next_word [] inner word further h e cut = absurd (cc)
-next_word (first ∷ more) inner word further h e cut =
-    let P = λ (word : List ℕ). IsTrue (is_target word) in
+pub next_word : (test : List ℕ → Bool) → HasNoSpaces test → (left : List (List ℕ)) (inner word further : List ℕ) → AreWords test left → 32 ∷ inner ≡ spaced left → IsCut inner word further → NextWord test left word further
+next_word test no_space [] inner word further h e cut = absurd (cc)
+next_word test no_space (first ∷ more) inner word further h e cut =
+    let P = λ (word : List ℕ). IsTrue (test word) in
     let right = All-head P first more h in
-    let same = same_word word first further (spaced more) cut.1 (target_no_space first right) cut.2 (ends_spaced more) (sym cut.0 ∙ same_tail 32 32 inner (first ++ spaced more) e) in
+    let same = same_word word first further (spaced more) cut.1 (no_space first right) cut.2 (ends_spaced more) (sym cut.0 ∙ same_tail 32 32 inner (first ++ spaced more) e) in
     record {
       more = more;
       left_is = ap (λ w. w ∷ more) (sym same.0);
@@ -98,8 +98,8 @@ next_word (first ∷ more) inner word further h e cut =
       more_right = All-tail P first more h;
     }
 
-next_is : (at : ℕ) (text rest inner word further : List ℕ) (targets : List Target) → (h : LeftTargets at text rest targets) → rest ≡ 32 ∷ inner → IsCut inner word further → NextWord h.left word further
-next_is at text rest inner word further targets h e cut = next_word h.left inner word further h.left_right (sym e ∙ h.left_is) cut
+next_is : (at : ℕ) (text rest inner word further : List ℕ) (targets : List Target) → (h : LeftTargets at text rest targets) → rest ≡ 32 ∷ inner → IsCut inner word further → NextWord is_target h.left word further
+next_is at text rest inner word further targets h e cut = next_word is_target target_no_space h.left inner word further h.left_right (sym e ∙ h.left_is) cut
 
 pub next_right : (at : ℕ) (text rest inner word further : List ℕ) (targets : List Target) → LeftTargets at text rest targets → rest ≡ 32 ∷ inner → IsCut inner word further → IsTrue (is_target word)
 next_right at text rest inner word further targets h e cut = (next_is at text rest inner word further targets h e cut).right

@@ -11,9 +11,9 @@ use Rattle.fond_cert.specs.declared.line.Line.{Line}
 use Rattle.fond_cert.specs.declared.line.Line.TheVariants.{UnfairRule as UnfairParts}
 use Rattle.fond_cert.specs.declared.part.Part.{Part}
 use Rattle.fond_cert.specs.Lines.{group_text, WrittenTarget, WrittenLiteral, AreProper, UnfairRule, line_text, IsProper, IsProperTarget, Piece, Fixed, piece_text, target_pieces, literal_pieces}
-use Rattle.fond_cert.specs.Parts.{AreLiterals}
+use Rattle.fond_cert.specs.Parts.{AreLiterals, is_target, AreWordsText}
 use Rattle.fond_cert.specs.Words.{Refused, unknown, refused_or, first_refused, refusal_or_order, line_refusal, atom_numbers, is_increasing}
-use Rattle.fond_cert.specs.Checked.{AreTargetsText, AreTargetsAt, IsTargetRefused, ReadsAct, IsActRefused, ReadsCube, IsCubeRefused, cube_refusal}
+use Rattle.fond_cert.specs.Checked.{AreTargetsAt, IsTargetRefused, ReadsAct, IsActRefused, ReadsCube, IsCubeRefused, cube_refusal}
 use Rattle.fond_cert.specs.Cutting.{targets_text, literals_text, IsRightCut, IsMade, IsRefusedBy}
 use Rattle.fond_cert.specs.Items.{IsReadRule}
 use Rattle.fond_cert.specs.Refusals.{LineRefuses}
@@ -65,7 +65,7 @@ module _ (action targets literals : Part) (h : IsRightCut (UnfairParts action ta
   proper : IsProper (UnfairRule a h.2.1 h.2.2)
   proper = subst IsProper h.2.3 h.1
 
-  pub are_targets : AreTargetsText targets.text.now
+  pub are_targets : AreWordsText is_target targets.text.now
   are_targets = (words_of h.2.1, words_right h.2.1 proper.2, h.2.5 ∙ words_spaced h.2.1)
 
   pub are_literals : AreLiterals literals.text.now

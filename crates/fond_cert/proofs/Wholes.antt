@@ -1,45 +1,51 @@
 -- Texts that were read line by line.
-use Rattle.std.proofs.Common.{◌≡◌, ◌≢◌, ◌⊎◌, inl, inr, ℕ, ◌+◌, ◌-◌, ◌≤◌, ◌<◌, ◌^◌, List, [], ◌∷◌, ◌++◌, All, Option, Some, None, length, map, codes, refl, sym, ap, ◌∙◌, subst, arith, length-append, append_assoc}
+use Rattle.std.proofs.Common.{◌≡◌, ◌≢◌, inl, inr, ℕ, ◌+◌, ◌-◌, ◌≤◌, ◌<◌, ◌^◌, List, [], ◌∷◌, ◌++◌, All, Option, Some, None, length, map, codes, refl, sym, ap, ◌∙◌, subst, arith, length-append, append_assoc}
 use Rattle.std.specs.List.{flat_map}
-use Rattle.std.specs.Prelude.{IfSome}
+use Rattle.std.specs.Prelude.{IfSome, slice_get}
 use Rattle.std.specs.Fmt.{decimal}
 use Rattle.std.proofs.lemmas.Grind.{flat_map-append}
 use Rattle.std.proofs.lemmas.List.{append-nil}
 use Rattle.std.proofs.lemmas.List.Elements.{All-nil}
+use Rattle.std.proofs.lemmas.Option.{get_or_from_slice_get, slice_get_within}
 use Rattle.fond_task.specs.declared.task.Task.{Task}
 use Rattle.fond_game.specs.Layers.{CubeView}
+use Rattle.fond_cover.specs.declared.item.Item.{Item}
 use Rattle.fond_cert.specs.declared.draft.Draft.{Draft}
 use Rattle.fond_cert.specs.declared.due.Due.{Due as KeptDue}
-use Rattle.fond_cert.specs.declared.due.Due.TheVariants.{Header, Layers, Cubes, Pairs, Rules, End as EndOnly, Nothing}
+use Rattle.fond_cert.specs.declared.due.Due.TheVariants.{Header, Nothing}
 use Rattle.fond_cert.specs.declared.error.CertError.{CertError}
 use Rattle.fond_cert.specs.declared.error.LineError.{LineError}
 use Rattle.fond_cert.specs.declared.error.LineError.TheVariants.{Refused as RefusedLine, NoMemory}
 use Rattle.fond_cert.specs.declared.line.Line.{Line}
-use Rattle.fond_cert.specs.declared.line.Line.TheVariants.{PolicyHeader as CutPolicy, RefusalHeader as CutRefusal, Layer, Cube, Pair, FairRule as CutFair, UnfairRule as CutUnfair, Reach, End}
-use Rattle.fond_policy.specs.Belongs.{Belongs, BelongAsLayers, BelongAsPairs, BelongAsRules}
+use Rattle.fond_cert.specs.declared.line.Line.TheVariants.{PolicyHeader as CutPolicy, RefusalHeader as CutRefusal, CoverHeader as CutCover, Layer, Cube, Pair, FairRule as CutFair, UnfairRule as CutUnfair, Reach, GoalItem as CutGoal, RuleItem as CutItem, Start, End}
+use Rattle.fond_policy.specs.declared.cert.Cert.{Cert}
+use Rattle.fond_policy.specs.declared.cert.Cert.TheVariants.{Policy, Refusal, Covered}
+use Rattle.fond_policy.specs.Belongs.{Belongs, BelongAsLayers, BelongAsPairs, BelongAsRules, BelongAsItems}
 use Rattle.fond_cert.specs.Cutting.{IsLineOf, IsCutOf, IsRefusedBy}
-use Rattle.fond_cert.specs.Drafts.{all_layers, draft_lines, opened, IsDraftOf, HasLayersAlone, FitsDue}
-use Rattle.fond_cert.specs.Faults.{Due, HeaderDue, LayersDue, CubesDue, PairsDue, RulesDue, EndDue, NothingDue, due_after, Lead, IsRefusedLine, IsRefusedAt, IsCertFault}
+use Rattle.fond_cert.specs.Drafts.{all_layers, draft_lines, opened, last_lines, IsDraftOf, header, HasLayersAlone, IsWholeOf, FitsDue}
+use Rattle.fond_cert.specs.Faults.{ByReach, ByCover, Kind, OfPolicy, OfRefusal, Due, HeaderDue, NothingDue, due_after, Lead, IsRefusedLine, IsRefusedAt, IsCertFault}
 use Rattle.fond_cert.specs.Feeds.{HasNoFeed}
-use Rattle.fond_cert.specs.Items.{IsReadPair, IsReadRule}
-use Rattle.fond_cert.specs.Lines.{WrittenLine, PolicyHeader, RefusalHeader, LayerLine, CubeLine, PairLine, FairRule, UnfairRule, ReachLine, EndLine, line_text}
+use Rattle.fond_cert.specs.Items.{IsReadPair, IsReadRule, IsReadItem}
+use Rattle.fond_cert.specs.Lines.{WrittenLine, PolicyHeader, RefusalHeader, CoverHeader, ReachLine, EndLine, line_text}
 use Rattle.fond_cert.specs.Progress.{IsReady, IsTaken, IsWhole, cert_by, cert_of, IsPlaced}
 use Rattle.fond_cert.specs.Refusals.{LineRefuses, CertRefuses}
-use Rattle.fond_cert.specs.Spellings.{layer_lines, pair_line, rule_line, lines_text, spelling}
+use Rattle.fond_cert.specs.Spellings.{layer_lines, pair_line, rule_line, item_line, lines_text, spelling}
 use Rattle.fond_policy.specs.Sizes.{HasSmallNumbers}
 use Rattle.fond_cert.specs.Stages.{due_of, like}
 use Rattle.fond_cert.specs.Words.{Refused}
 use Rattle.fond_cert.proofs.Dues.{like_due}
 use Rattle.fond_cert.proofs.FairRules.{fair_text}
+use Rattle.fond_cert.proofs.ItemLines.{rule_item_text}
 use Rattle.fond_cert.proofs.Pairs.{pair_text}
 use Rattle.fond_cert.proofs.Refusals.{refusal_within}
-use Rattle.fond_cert.proofs.Steps.{step, grow4}
+use Rattle.fond_cert.proofs.Steps.{step, grow5}
 use Rattle.fond_cert.proofs.UnfairRules.{unfair_text}
 
 -- a line that is cut has one text
 pub same_text : (line : Line) (w v : WrittenLine) → IsLineOf line w → IsLineOf line v → line_text w ≡ line_text v
 same_text CutPolicy w v h k = ap line_text (h ∙ sym k)
 same_text CutRefusal w v h k = ap line_text (h ∙ sym k)
+same_text CutCover w v h k = ap line_text (h ∙ sym k)
 same_text Layer w v h k = ap line_text (h ∙ sym k)
 same_text (Cube literals) w v h k = ap line_text h.1 ∙ ap (λ t. codes "cube" ++ t) (sym h.2 ∙ k.2) ∙ ap line_text (sym k.1)
 same_text (Pair action outcome layer cube literals) w v h k = ap line_text h.2 ∙ pair_text h.0 k.0 _ _ _ _ _ _ h.1 k.1 (sym h.3 ∙ k.3) refl refl refl (sym h.4 ∙ k.4) ∙ ap line_text (sym k.2)
@@ -48,6 +54,10 @@ same_text (CutFair action outcome target literals) w v h k =
 same_text (CutUnfair action targets literals) w v h k =
     ap line_text h.3 ∙ unfair_text h.0 k.0 h.1 k.1 h.2 k.2 (sym h.4 ∙ k.4) (sym h.5 ∙ k.5) (sym h.6 ∙ k.6) ∙ ap line_text (sym k.3)
 same_text (Reach count) w v h k = ap line_text (h.0 ∙ sym k.0)
+same_text (CutGoal literals) w v h k = ap line_text h.1 ∙ ap (λ t. codes "item goal :" ++ t) (sym h.2 ∙ k.2) ∙ ap line_text (sym k.1)
+same_text (CutItem rule items literals) w v h k =
+    ap line_text h.2 ∙ rule_item_text rule.text.now rule.text.now h.0 k.0 h.1 k.1 refl (sym h.3 ∙ k.3) (sym h.4 ∙ k.4) ∙ ap line_text (sym k.2)
+same_text (Start item) w v h k = ap line_text (h.0 ∙ sym k.0)
 same_text End w v h k = ap line_text (h ∙ sym k)
 
 pub lead_more : (task : Task) (lines more : List WrittenLine) (due between end : Due) → Lead task due lines between → Lead task between more end → Lead task due (lines ++ more) end
@@ -74,7 +84,7 @@ pub record IsReadTo (task : Task) (text rest : List ℕ) (due : KeptDue) (draft 
   pub fits : FitsDue task (due_of due) draft own
   pub belongs : IsDraftOf task draft
 
-pub nothing_read : (task : Task) (text : List ℕ) (draft : Draft) → draft ≡ record { layers = []; current = None; pairs = []; rules = []; reach = None } → IsReadTo task text text Header draft
+pub nothing_read : (task : Task) (text : List ℕ) (draft : Draft) → draft ≡ record { layers = []; current = None; pairs = []; rules = []; items = []; reach = None; start = None } → IsReadTo task text text Header draft
 nothing_read task text draft e = record {
   lines = [];
   own = [];
@@ -93,7 +103,10 @@ nothing_read task text draft e = record {
         pairs = All-nil (IsReadPair task);
         rules = All-nil (IsReadRule task);
         few = omega arith;
+        items = All-nil (IsReadItem task);
+        few_items = omega arith;
         reach = tt;
+        start = tt;
       });
 }
 
@@ -150,29 +163,16 @@ within_rest task rest piece further due NoMemory e h = tt
 within_rest task rest piece further due (RefusedLine code at) e h = omega (arith, line_within task due piece code at h, ap length e, length-append piece (codes "\n" ++ further))
 
 pub nothing_allowed : (line : WrittenLine) (next : Due) → ¬ due_after NothingDue line ≡ Some next
-nothing_allowed PolicyHeader next e = absurd (cc)
-nothing_allowed RefusalHeader next e = absurd (cc)
-nothing_allowed LayerLine next e = absurd (cc)
-nothing_allowed (CubeLine l) next e = absurd (cc)
-nothing_allowed (PairLine a o n c l) next e = absurd (cc)
-nothing_allowed (FairRule a o t l) next e = absurd (cc)
-nothing_allowed (UnfairRule a t l) next e = absurd (cc)
-nothing_allowed (ReachLine n) next e = absurd (cc)
-nothing_allowed EndLine next e = absurd (cc)
+nothing_allowed line next e = absurd (cc)
 
 some_bytes : (rest piece further : List ℕ) → rest ≡ piece ++ (codes "\n" ++ further) → rest ≢ []
 some_bytes rest piece further e f = omega (arith, ap length e, ap length f, length-append piece (codes "\n" ++ further))
 
 refused_line : (task : Task) (due : Due) (rest piece further : List ℕ) (code at : ℕ) → HasNoFeed piece → rest ≡ piece ++ (codes "\n" ++ further) → IsRefusedLine task due piece code at →
     IsRefusedAt task due rest code at
-refused_line task HeaderDue rest piece further code at whole e h = inr (piece, further, e, whole, h)
-refused_line task (LayersDue kind) rest piece further code at whole e h = inr (piece, further, e, whole, h)
-refused_line task (CubesDue kind layers cubes) rest piece further code at whole e h = inr (piece, further, e, whole, h)
-refused_line task PairsDue rest piece further code at whole e h = inr (piece, further, e, whole, h)
-refused_line task (RulesDue rules) rest piece further code at whole e h = inr (piece, further, e, whole, h)
-refused_line task EndDue rest piece further code at whole e h = inr (piece, further, e, whole, h)
 refused_line task NothingDue rest piece further code at whole e (inl h) = (some_bytes rest piece further e, h.1, h.2)
 refused_line task NothingDue rest piece further code at whole e (inr h) = absurd (nothing_allowed h.0 h.1 h.3)
+refused_line task due rest piece further code at whole e h = inr (piece, further, e, whole, h)
 
 pub line_fault : (task : Task) (text rest piece further : List ℕ) (due : KeptDue) (draft : Draft) (error : LineError) (result : CertError) → IsReadTo task text rest due draft → HasNoFeed piece →
     rest ≡ piece ++ (codes "\n" ++ further) → LineRefuses (λ (refused : Refused). IsRefusedLine task (due_of due) piece refused.code refused.at) error →
@@ -182,22 +182,12 @@ line_fault task text rest piece further due draft (RefusedLine code at) result h
 line_fault task text rest piece further due draft NoMemory result h whole e refused placed = rw placed tt
 
 no_rest : (task : Task) (due : Due) (rest : List ℕ) → HasNoFeed rest → ¬ ((due ≡ NothingDue) × (rest ≡ [])) → IsRefusedAt task due rest 1 0
-no_rest task HeaderDue rest none not_over = inl (none, refl, refl)
-no_rest task (LayersDue kind) rest none not_over = inl (none, refl, refl)
-no_rest task (CubesDue kind layers cubes) rest none not_over = inl (none, refl, refl)
-no_rest task PairsDue rest none not_over = inl (none, refl, refl)
-no_rest task (RulesDue rules) rest none not_over = inl (none, refl, refl)
-no_rest task EndDue rest none not_over = inl (none, refl, refl)
 no_rest task NothingDue rest none not_over = ((λ e. not_over (refl, e)), refl, refl)
+no_rest task due rest none not_over = inl (none, refl, refl)
 
 kept_nothing : (due : KeptDue) → due_of due ≡ NothingDue → due ≡ Nothing
-kept_nothing Header e = absurd (cc)
-kept_nothing (Layers kind) e = absurd (cc)
-kept_nothing (Cubes kind layers cubes) e = absurd (cc)
-kept_nothing Pairs e = absurd (cc)
-kept_nothing (Rules rules) e = absurd (cc)
-kept_nothing EndOnly e = absurd (cc)
 kept_nothing Nothing e = refl
+kept_nothing due e = absurd (cc)
 
 pub end_fault : (task : Task) (text rest : List ℕ) (due : KeptDue) (draft : Draft) → IsReadTo task text rest due draft → HasNoFeed rest → ¬ ((due ≡ Nothing) × (rest ≡ [])) →
     IsCertFault task text 1 (length text - length rest + 0)
@@ -207,15 +197,7 @@ pub whole_read : (task : Task) (text rest : List ℕ) (due : KeptDue) (draft : D
 whole_read task text rest due draft h e f =
     let fits : FitsDue task NothingDue draft h.own = rw e at h.fits in
     let is : text ≡ lines_text h.own = h.split ∙ ap (λ t. lines_text h.lines ++ t) f ∙ append-nil (lines_text h.lines) ∙ h.same in
-    (h.belongs, (fits.0, by_kind is fits.1))
-  where
-    by_kind : text ≡ lines_text h.own →
-        (((reach : ℕ) × (draft.reach ≡ Some reach)) × (h.own ≡ PolicyHeader ∷ (draft_lines task draft ++ (EndLine ∷ []))))
-        ⊎ (HasLayersAlone draft × (h.own ≡ RefusalHeader ∷ (draft_lines task draft ++ (EndLine ∷ [])))) →
-        (((reach : ℕ) × (draft.reach ≡ Some reach)) × (text ≡ lines_text (PolicyHeader ∷ (draft_lines task draft ++ (EndLine ∷ [])))))
-        ⊎ (HasLayersAlone draft × (text ≡ lines_text (RefusalHeader ∷ (draft_lines task draft ++ (EndLine ∷ [])))))
-    by_kind is (inl k) = inl (k.0, is ∙ ap lines_text k.1)
-    by_kind is (inr k) = inr (k.0, is ∙ ap lines_text k.1)
+    (h.belongs, (fits.0, (fits.1.0, fits.1.1, is ∙ ap lines_text fits.1.2)))
 
 -- the certificate of a whole draft
 module _ (task : Task) (text : List ℕ) (draft : Draft) (belongs : IsDraftOf task draft) (whole : IsWhole task text draft) where
@@ -238,32 +220,57 @@ module _ (task : Task) (text : List ℕ) (draft : Draft) (belongs : IsDraftOf ta
   abbrev layers_text : List WrittenLine
   layers_text = flat_map (layer_lines task) draft.layers
 
-  policy_lines : (reach : ℕ) → draft.reach ≡ Some reach →
-      draft_lines task draft ++ (EndLine ∷ []) ≡ layers_text ++ (map (pair_line task) draft.pairs ++ (map (rule_line task) draft.rules ++ (ReachLine (decimal reach) ∷ EndLine ∷ [])))
-  policy_lines reach e =
-      rw (e, layers_are) (sym (grow4 layers_text (map (pair_line task) draft.pairs) (map (rule_line task) draft.rules) (ReachLine (decimal reach) ∷ []) (EndLine ∷ [])))
+  item_at : (number : ℕ) (item : Item) → slice_get draft.items number ≡ Some item → IsReadItem task item
+  item_at number item e = subst (IsReadItem task) (get_or_from_slice_get draft.items number item item e) (belongs.items number item (slice_get_within draft.items number item e))
+
+  as_items : BelongAsItems task draft.items
+  as_items = record {
+    few = belongs.few_items;
+    over = λ number item e. (item_at number item e).0;
+    numbered = λ k d lt. (belongs.items k d lt).1;
+  }
+
+  -- the lines of a draft and the end line, if its reach number and its start number are these
+  ended : (reach start : Option ℕ) → draft.reach ≡ reach → draft.start ≡ start → draft_lines task draft ++ (EndLine ∷ [])
+      ≡ layers_text ++ (map (pair_line task) draft.pairs ++ (map (rule_line task) draft.rules ++ (map (item_line task) draft.items ++ (last_lines reach start ++ (EndLine ∷ [])))))
+  ended reach start e f =
+      rw (e, f, layers_are)
+      (sym (grow5 layers_text (map (pair_line task) draft.pairs) (map (rule_line task) draft.rules) (map (item_line task) draft.items) (last_lines reach start) (EndLine ∷ [])))
 
   refusal_lines : HasLayersAlone draft → draft_lines task draft ++ (EndLine ∷ []) ≡ layers_text ++ (EndLine ∷ [])
-  refusal_lines h = rw (h.0, h.1, h.2, layers_are) (ap (λ t. t ++ (EndLine ∷ [])) (append-nil layers_text))
+  refusal_lines h = rw (h.0, h.1, h.2.0, h.2.1.0, h.2.1.1, layers_are) (ap (λ t. t ++ (EndLine ∷ [])) (append-nil layers_text))
 
-  spelled_by : (r : Option ℕ) → draft.reach ≡ r →
-      (((reach : ℕ) × (draft.reach ≡ Some reach)) × (text ≡ lines_text (PolicyHeader ∷ (draft_lines task draft ++ (EndLine ∷ [])))))
-      ⊎ (HasLayersAlone draft × (text ≡ lines_text (RefusalHeader ∷ (draft_lines task draft ++ (EndLine ∷ []))))) →
-      Belongs task (cert_by draft r) × (text ≡ spelling task (cert_by draft r))
-  spelled_by (Some reach) e (inl k) = ((as_layers, as_pairs, as_rules), k.1 ∙ ap (λ l. lines_text (PolicyHeader ∷ l)) (policy_lines reach e))
-  spelled_by (Some reach) e (inr k) = let none : Some reach ≡ None = sym e ∙ k.0.2 in absurd (cc)
-  spelled_by None e (inl k) = let none : Some k.0.0 ≡ None = sym k.0.1 ∙ e in absurd (cc)
-  spelled_by None e (inr k) = (as_layers, k.1 ∙ ap (λ l. lines_text (RefusalHeader ∷ l)) (refusal_lines k.0))
+  -- a certificate is read, and its numbers are small
+  abbrev IsRead : Cert → Type 0
+  IsRead cert = Belongs task cert × (text ≡ spelling task cert) × HasSmallNumbers cert
 
-  small_by : (r : Option ℕ) → draft.reach ≡ r → HasSmallNumbers (cert_by draft r)
-  small_by (Some reach) e = ((λ k d lt. (belongs.pairs k d lt).2), (λ k d lt. (belongs.rules k d lt).3), subst (λ (r : Option ℕ). IfSome r (λ n. n < 2 ^ 64)) e belongs.reach)
-  small_by None e = tt
+  read_by : (kind : Kind) → IsWholeOf kind draft → text ≡ lines_text (header kind ∷ (draft_lines task draft ++ (EndLine ∷ []))) → IsRead (cert_of draft)
+  read_by (OfPolicy ByReach) h is =
+      let cert : cert_of draft ≡ Policy draft.layers draft.pairs draft.rules h.0 = ap (λ r. cert_by draft r draft.start) h.1 in
+      let lines = ap (λ l. lines_text (PolicyHeader ∷ l)) (ended (Some h.0) None h.1 h.3) in
+      let without = ap (λ (l : List Item). lines_text (PolicyHeader ∷ (layers_text ++ (map (pair_line task) draft.pairs ++ (map (rule_line task) draft.rules ++ (map (item_line task) l ++ (ReachLine (decimal h.0) ∷ EndLine ∷ []))))))) h.2 in
+      subst IsRead (sym cert)
+      ((as_layers, as_pairs, as_rules), is ∙ lines ∙ without, ((λ k d lt. (belongs.pairs k d lt).2), (λ k d lt. (belongs.rules k d lt).3), subst (λ (r : Option ℕ). IfSome r (λ n. n < 2 ^ 64)) h.1 belongs.reach))
+  read_by (OfPolicy ByCover) h is =
+      let cert : cert_of draft ≡ Covered draft.layers draft.pairs draft.rules draft.items h.0 = ap (λ r. cert_by draft r draft.start) h.2 ∙ ap (λ s. cert_by draft None s) h.1 in
+      let lines = ap (λ l. lines_text (CoverHeader ∷ l)) (ended None (Some h.0) h.2 h.1) in
+      subst IsRead (sym cert) (
+        (as_layers, as_pairs, as_rules, as_items),
+        is ∙ lines,
+        ((λ k d lt. (belongs.pairs k d lt).2), (λ k d lt. (belongs.rules k d lt).3), (λ k d lt. (belongs.items k d lt).2), subst (λ (s : Option ℕ). IfSome s (λ n. n < 2 ^ 32)) h.1 belongs.start),
+      )
+  read_by OfRefusal h is =
+      let cert : cert_of draft ≡ Refusal draft.layers = ap (λ r. cert_by draft r draft.start) h.2.1.0 ∙ ap (λ s. cert_by draft None s) h.2.1.1 in
+      subst IsRead (sym cert) (as_layers, is ∙ ap (λ l. lines_text (RefusalHeader ∷ l)) (refusal_lines h), tt)
+
+  read : IsRead (cert_of draft)
+  read = read_by whole.1.0 whole.1.1 whole.1.2
 
   pub cert_small : HasSmallNumbers (cert_of draft)
-  cert_small = small_by draft.reach refl
+  cert_small = read.2
 
   pub cert_read : Belongs task (cert_of draft) × (text ≡ spelling task (cert_of draft))
-  cert_read = spelled_by draft.reach refl whole.1
+  cert_read = (read.0, read.1)
 
 -- refusals of a line that is cut
 pub cut_refused : (task : Task) (due next : Due) (piece : List ℕ) (line : Line) (error : LineError) → IsCutOf piece line → due_after due (like line) ≡ Some next →

@@ -11,8 +11,8 @@ use Rattle.fond_cert.specs.declared.error.LineError.{LineError}
 use Rattle.fond_cert.specs.declared.error.LineError.TheVariants.{Refused as RefusedLine}
 use Rattle.fond_cert.specs.declared.part.Part.{Part}
 use Rattle.fond_cert.specs.Cutting.{literals_text}
-use Rattle.fond_cert.specs.Lines.{IsGroup, group_text, spaced, WrittenTarget, GoalWord, NumberWord, IsProperTarget, WrittenLiteral, AreProper, piece_text, target_piece, target_pieces, literal_pieces}
-use Rattle.fond_cert.specs.Parts.{AreTargets}
+use Rattle.fond_cert.specs.Lines.{IsGroup, group_text, spaced, is_number, WrittenTarget, GoalWord, NumberWord, IsProperTarget, WrittenLiteral, AreProper, piece_text, target_piece, target_pieces, number_pieces, literal_pieces}
+use Rattle.fond_cert.specs.Parts.{AreWords}
 use Rattle.fond_policy.specs.Sizes.{IsSmallTarget}
 use Rattle.fond_cert.specs.Spellings.{written_target, written_cube}
 use Rattle.fond_cert.specs.Words.{Refused, piece_code, first_refused, atom_numbers, is_increasing, refusal_or_order}
@@ -20,10 +20,6 @@ use Rattle.fond_cert.specs.Words.{Refused, piece_code, first_refused, atom_numbe
 -- a word as a written target
 abbrev pub as_target : List ℕ → WrittenTarget
 as_target word = if bytes_eq word (codes "goal") then GoalWord else NumberWord word
-
--- a text is that of targets, each after a space
-abbrev pub AreTargetsText : List ℕ → Type 0
-AreTargetsText text = (words : List (List ℕ)) × AreTargets words × (text ≡ spaced words)
 
 -- targets are read from a text that begins at this byte of a line, and none of them is refused
 pub record AreTargetsAt (task : Task) (at : ℕ) (text : List ℕ) (targets : List Target) : Type 0 where
@@ -40,6 +36,22 @@ pub record IsTargetRefused (task : Task) (at : ℕ) (text : List ℕ) (refused :
   pub proper : All IsProperTarget written
   pub spelled : text ≡ flat_map piece_text (target_pieces written)
   pub wrong : first_refused task at (target_pieces written) ≡ Some refused
+
+-- numbers are read from a text that begins at this byte of a line, and none of them is refused
+pub record AreNumbersAt (task : Task) (at : ℕ) (text : List ℕ) (numbers : List ℕ) : Type 0 where
+  pub written : List (List ℕ)
+  pub proper : AreWords is_number written
+  pub spelled : text ≡ spaced written
+  pub right : first_refused task at (number_pieces written) ≡ None
+  pub named : written ≡ map decimal numbers
+  pub small : All (λ number. number < 2 ^ 32) numbers
+
+-- a text of numbers that begins at this byte of a line has this first refusal, that of one of its numbers
+pub record IsOneNumberRefused (task : Task) (at : ℕ) (text : List ℕ) (refused : Refused) : Type 0 where
+  pub written : List (List ℕ)
+  pub proper : AreWords is_number written
+  pub spelled : text ≡ spaced written
+  pub wrong : first_refused task at (number_pieces written) ≡ Some refused
 
 -- a cube with a literal of an atom, or unchanged if the task does not have the atom
 abbrev pub with_literal : List (Option Bool) → Option ℕ → Bool → List (Option Bool)

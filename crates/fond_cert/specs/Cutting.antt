@@ -1,12 +1,12 @@
 -- Lines as they are cut into parts, and the written lines that they are.
-use Rattle.std.specs.Prelude.{◌≡◌, ◌≢◌, ℕ, ◌<◌, ◌+◌, List, ◌++◌, Some, None, IsTrue, All, length, codes}
+use Rattle.std.specs.Prelude.{◌≡◌, ◌≢◌, ℕ, ◌<◌, ◌+◌, Bool, List, ◌++◌, Some, None, IsTrue, length, codes}
 use Rattle.std.specs.List.{flat_map}
 use Rattle.fond_task.specs.declared.task.Task.{Task}
 use Rattle.fond_cert.specs.declared.part.Part.{Part}
 use Rattle.fond_cert.specs.declared.line.Line.{Line}
-use Rattle.fond_cert.specs.declared.line.Line.TheVariants.{PolicyHeader as CutPolicy, RefusalHeader as CutRefusal, Layer, Cube, Pair, FairRule as CutFair, UnfairRule as CutUnfair, Reach, End}
-use Rattle.fond_cert.specs.Lines.{IsGroup, group_text, WrittenTarget, IsProperTarget, WrittenLiteral, AreProper, WrittenLine, PolicyHeader, RefusalHeader, LayerLine, CubeLine, PairLine, FairRule, UnfairRule, ReachLine, EndLine, line_text, IsProper, is_number, piece_text, target_piece, target_pieces, literal_pieces}
-use Rattle.fond_cert.specs.Parts.{EndsWord}
+use Rattle.fond_cert.specs.declared.line.Line.TheVariants.{PolicyHeader as CutPolicy, RefusalHeader as CutRefusal, CoverHeader as CutCover, Layer, Cube, Pair, FairRule as CutFair, UnfairRule as CutUnfair, Reach, GoalItem as CutGoal, RuleItem as CutItem, Start, End}
+use Rattle.fond_cert.specs.Lines.{IsGroup, group_text, WrittenTarget, IsProperTarget, WrittenLiteral, AreProper, WrittenLine, PolicyHeader, RefusalHeader, CoverHeader, LayerLine, CubeLine, PairLine, FairRule, UnfairRule, ReachLine, GoalItem, RuleItem, StartLine, EndLine, line_text, IsProper, is_number, piece_text, spaced, target_piece, target_pieces, literal_pieces}
+use Rattle.fond_cert.specs.Parts.{AreWords, EndsWord}
 use Rattle.fond_cert.specs.Words.{Refused, line_refusal}
 
 -- the text of a target
@@ -42,10 +42,10 @@ HasNoNumber rest word = (digits more : List ℕ) → IsTrue (is_number digits) �
 abbrev pub HasNoTargetAfter : List ℕ → List ℕ → Type 0
 HasNoTargetAfter rest word = (target : WrittenTarget) (more : List ℕ) → IsProperTarget target → EndsWord more → rest ≢ word ++ (target_text target ++ more)
 
--- a rest begins with no such word and targets before a colon
-abbrev pub HasNoTargets : List ℕ → List ℕ → Type 0
-HasNoTargets rest word =
-    (targets : List WrittenTarget) (more : List ℕ) → 0 < length targets → All IsProperTarget targets → rest ≢ word ++ (targets_text targets ++ (codes " :" ++ more))
+-- a rest begins with no such start and words that pass a test, before a colon
+abbrev pub HasNoWords : (List ℕ → Bool) → List ℕ → List ℕ → Type 0
+HasNoWords test rest start =
+    (words : List (List ℕ)) (more : List ℕ) → 0 < length words → AreWords test words → rest ≢ start ++ (spaced words ++ (codes " :" ++ more))
 
 -- a rest is not such a word and literals
 abbrev pub HasNoLiterals : List ℕ → List ℕ → Type 0
@@ -55,6 +55,7 @@ HasNoLiterals rest word = (literals : List WrittenLiteral) → AreProper literal
 abbrev pub IsLineOf : Line → WrittenLine → Type 0
 IsLineOf CutPolicy written = written ≡ PolicyHeader
 IsLineOf CutRefusal written = written ≡ RefusalHeader
+IsLineOf CutCover written = written ≡ CoverHeader
 IsLineOf Layer written = written ≡ LayerLine
 IsLineOf (Cube literals) written = (l : List WrittenLiteral) × (written ≡ CubeLine l) × (literals.text.now ≡ literals_text l) × (literals.at ≡ 4)
 IsLineOf (Pair action outcome layer cube literals) written =
@@ -72,6 +73,11 @@ IsLineOf (CutUnfair action targets literals) written =
     × (action.text.now ≡ group_text a) × (targets.text.now ≡ targets_text t) × (literals.text.now ≡ literals_text l)
     × (action.at ≡ 5) × (targets.at ≡ action.at + length action.text.now + 7) × (literals.at ≡ targets.at + length targets.text.now + 2)
 IsLineOf (Reach count) written = (written ≡ ReachLine count.text.now) × (count.at ≡ 6)
+IsLineOf (CutGoal literals) written = (l : List WrittenLiteral) × (written ≡ GoalItem l) × (literals.text.now ≡ literals_text l) × (literals.at ≡ 11)
+IsLineOf (CutItem rule items literals) written =
+    (n : List (List ℕ)) × (l : List WrittenLiteral) × (written ≡ RuleItem rule.text.now n l) × (items.text.now ≡ spaced n) × (literals.text.now ≡ literals_text l)
+    × (rule.at ≡ 5) × (items.at ≡ rule.at + length rule.text.now) × (literals.at ≡ items.at + length items.text.now + 2)
+IsLineOf (Start item) written = (written ≡ StartLine item.text.now) × (item.at ≡ 6)
 IsLineOf End written = written ≡ EndLine
 
 -- a line that is cut is a proper written line

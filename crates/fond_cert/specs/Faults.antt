@@ -1,24 +1,31 @@
 -- The fault of a text that is no certificate: its code and its byte.
 use Rattle.std.specs.Prelude.{◌≡◌, ◌≢◌, ◌⊎◌, ℕ, ◌+◌, ◌^◌, nat_lt, if◌then◌else◌, List, [], ◌∷◌, ◌++◌, Option, Some, None, length, codes}
 use Rattle.fond_task.specs.declared.task.Task.{Task}
-use Rattle.fond_cert.specs.Lines.{WrittenLine, PolicyHeader, RefusalHeader, LayerLine, CubeLine, PairLine, FairRule, UnfairRule, ReachLine, EndLine, line_text, IsProper}
+use Rattle.fond_cert.specs.Lines.{WrittenLine, PolicyHeader, RefusalHeader, CoverHeader, LayerLine, CubeLine, PairLine, FairRule, UnfairRule, ReachLine, GoalItem, RuleItem, StartLine, EndLine, line_text, IsProper}
 use Rattle.fond_cert.specs.Feeds.{HasNoFeed}
 use Rattle.fond_cert.specs.Words.{line_refusal}
 use Rattle.fond_cert.specs.Spellings.{lines_text}
 
+-- how a policy shows that it acts wherever it leads: by the number of states that it reaches, or by a cover of them
+pub data Evidence : Type 0 where
+  ByReach : Evidence
+  ByCover : Evidence
+
 -- whether a certificate is a policy or a refusal
 pub data Kind : Type 0 where
-  OfPolicy : Kind
+  OfPolicy : (evidence : Evidence) → Kind
   OfRefusal : Kind
 
 -- what is due at a place: the header; a layer, or what follows the layers; the same after this many layers, the last with
--- this many cubes; what follows a pair; what follows this many rules; the end line; or nothing more
+-- this many cubes; what follows a pair; what follows this many rules; what follows this many items; the end line; or nothing
+-- more
 pub data Due : Type 0 where
   HeaderDue : Due
   LayersDue : (kind : Kind) → Due
   CubesDue : (kind : Kind) (layers cubes : ℕ) → Due
-  PairsDue : Due
-  RulesDue : (rules : ℕ) → Due
+  PairsDue : (evidence : Evidence) → Due
+  RulesDue : (evidence : Evidence) (rules : ℕ) → Due
+  ItemsDue : (items : ℕ) → Due
   EndDue : Due
   NothingDue : Due
 
@@ -26,28 +33,44 @@ pub data Due : Type 0 where
 abbrev pub if_few : ℕ → Due → Option Due
 if_few count due = if nat_lt count (2 ^ 32) then Some due else None
 
+-- what is due after a line that may follow the rules of a policy
+abbrev pub after_rules : Evidence → WrittenLine → Option Due
+after_rules ByReach (ReachLine count) = Some EndDue
+after_rules ByCover (GoalItem literals) = Some (ItemsDue 1)
+after_rules ByCover (RuleItem rule items literals) = Some (ItemsDue 1)
+after_rules ByCover (StartLine item) = Some EndDue
+after_rules evidence line = None
+
+-- what is due after a line that may follow the layers or a pair of a policy
+abbrev pub after_pairs : Evidence → WrittenLine → Option Due
+after_pairs evidence (PairLine action outcome layer cube literals) = Some (PairsDue evidence)
+after_pairs evidence (FairRule action outcome target literals) = Some (RulesDue evidence 1)
+after_pairs evidence (UnfairRule action targets literals) = Some (RulesDue evidence 1)
+after_pairs evidence line = after_rules evidence line
+
 -- what is due after a line that may follow the layers of a certificate
 abbrev pub after_layers : Kind → WrittenLine → Option Due
-after_layers OfPolicy (PairLine action outcome layer cube literals) = Some PairsDue
-after_layers OfPolicy (FairRule action outcome target literals) = Some (RulesDue 1)
-after_layers OfPolicy (UnfairRule action targets literals) = Some (RulesDue 1)
-after_layers OfPolicy (ReachLine count) = Some EndDue
+after_layers (OfPolicy evidence) line = after_pairs evidence line
 after_layers OfRefusal EndLine = Some NothingDue
-after_layers kind line = None
+after_layers OfRefusal line = None
 
 -- what is due after a line, if the line is allowed at its place
 abbrev pub due_after : Due → WrittenLine → Option Due
-due_after HeaderDue PolicyHeader = Some (LayersDue OfPolicy)
+due_after HeaderDue PolicyHeader = Some (LayersDue (OfPolicy ByReach))
+due_after HeaderDue CoverHeader = Some (LayersDue (OfPolicy ByCover))
 due_after HeaderDue RefusalHeader = Some (LayersDue OfRefusal)
 due_after (LayersDue kind) LayerLine = Some (CubesDue kind 1 0)
 due_after (LayersDue kind) line = after_layers kind line
 due_after (CubesDue kind layers cubes) LayerLine = if_few (layers + 1) (CubesDue kind (layers + 1) 0)
 due_after (CubesDue kind layers cubes) (CubeLine literals) = if_few (cubes + 1) (CubesDue kind layers (cubes + 1))
 due_after (CubesDue kind layers cubes) line = after_layers kind line
-due_after PairsDue line = after_layers OfPolicy line
-due_after (RulesDue rules) (FairRule action outcome target literals) = if_few (rules + 1) (RulesDue (rules + 1))
-due_after (RulesDue rules) (UnfairRule action targets literals) = if_few (rules + 1) (RulesDue (rules + 1))
-due_after (RulesDue rules) (ReachLine count) = Some EndDue
+due_after (PairsDue evidence) line = after_pairs evidence line
+due_after (RulesDue evidence rules) (FairRule action outcome target literals) = if_few (rules + 1) (RulesDue evidence (rules + 1))
+due_after (RulesDue evidence rules) (UnfairRule action targets literals) = if_few (rules + 1) (RulesDue evidence (rules + 1))
+due_after (RulesDue evidence rules) line = after_rules evidence line
+due_after (ItemsDue items) (GoalItem literals) = if_few (items + 1) (ItemsDue (items + 1))
+due_after (ItemsDue items) (RuleItem rule numbers literals) = if_few (items + 1) (ItemsDue (items + 1))
+due_after (ItemsDue items) line = after_rules ByCover line
 due_after EndDue EndLine = Some NothingDue
 due_after due line = None
 

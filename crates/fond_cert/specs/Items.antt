@@ -1,10 +1,12 @@
--- Pairs and rules, one by one, that belong to a task.
+-- Pairs, rules and items, one by one, that belong to a task.
 use Rattle.std.specs.Prelude.{◌≡◌, ◌<◌, length}
 use Rattle.fond_task.specs.declared.task.Task.{Task}
 use Rattle.fond_game.specs.declared.rule.Pair.{Pair}
 use Rattle.fond_game.specs.declared.rule.Rule.{Rule}
 use Rattle.fond_rules.specs.Belongs.{HasTarget}
-use Rattle.fond_policy.specs.Sizes.{IsSmallPair, AreSmallTargets}
+use Rattle.fond_cover.specs.declared.item.Item.{Item}
+use Rattle.fond_policy.specs.Belongs.{HasNumber}
+use Rattle.fond_policy.specs.Sizes.{IsSmallPair, AreSmallTargets, IsSmallWay}
 
 -- a pair belongs to a task: its condition is over the task's atoms, and the task has its action
 abbrev pub IsPairOf : Task → Pair → Type 0
@@ -14,6 +16,10 @@ IsPairOf task pair = (length pair.cond ≡ length task.atoms) × (pair.act < len
 abbrev pub IsRuleOf : Task → Rule → Type 0
 IsRuleOf task rule = (length rule.cond ≡ length task.atoms) × (rule.act < length task.acts) × HasTarget rule.targets
 
+-- an item belongs to a task: its cube is over the task's atoms, and it has an item number if it has a rule
+abbrev pub IsItemOf : Task → Item → Type 0
+IsItemOf task item = (length item.cube ≡ length task.atoms) × HasNumber item.way
+
 -- what reading a pair ensures: it belongs to the task, and its numbers are small
 abbrev pub IsReadPair : Task → Pair → Type 0
 IsReadPair task pair = (length pair.cond ≡ length task.atoms) × (pair.act < length task.acts) × IsSmallPair pair
@@ -21,3 +27,7 @@ IsReadPair task pair = (length pair.cond ≡ length task.atoms) × (pair.act < l
 -- what reading a rule ensures: it belongs to the task, and its numbers are small
 abbrev pub IsReadRule : Task → Rule → Type 0
 IsReadRule task rule = (length rule.cond ≡ length task.atoms) × (rule.act < length task.acts) × HasTarget rule.targets × AreSmallTargets rule.targets
+
+-- what reading an item ensures: it belongs to the task, and its numbers are small
+abbrev pub IsReadItem : Task → Item → Type 0
+IsReadItem task item = (length item.cube ≡ length task.atoms) × HasNumber item.way × IsSmallWay item.way

@@ -1,6 +1,6 @@
 -- Kinds of lines, and texts that have no line of a kind.
 use Rattle.std.specs.Prelude.{◌≢◌, ◌⊎◌, List, ℕ, ⊤}
-use Rattle.fond_cert.specs.Lines.{WrittenLine, PolicyHeader, RefusalHeader, LayerLine, CubeLine, PairLine, FairRule, UnfairRule, ReachLine, EndLine, line_text, IsProper}
+use Rattle.fond_cert.specs.Lines.{WrittenLine, PolicyHeader, RefusalHeader, CoverHeader, LayerLine, CubeLine, PairLine, FairRule, UnfairRule, ReachLine, GoalItem, RuleItem, StartLine, EndLine, line_text, IsProper}
 
 -- a text is no proper line of a kind
 abbrev pub HasNoLineOf : (WrittenLine → Type 0) → List ℕ → Type 0
@@ -10,6 +10,7 @@ HasNoLineOf kind text = (line : WrittenLine) → kind line → IsProper line →
 abbrev pub IsWord : WrittenLine → Type 0
 IsWord PolicyHeader = ⊤
 IsWord RefusalHeader = ⊤
+IsWord CoverHeader = ⊤
 IsWord LayerLine = ⊤
 IsWord EndLine = ⊤
 IsWord line = ⊥
@@ -43,9 +44,32 @@ abbrev pub IsReach : WrittenLine → Type 0
 IsReach (ReachLine count) = ⊤
 IsReach line = ⊥
 
+-- a line is an item of goals
+abbrev pub IsGoalItem : WrittenLine → Type 0
+IsGoalItem (GoalItem literals) = ⊤
+IsGoalItem line = ⊥
+
+-- a line is an item with a rule
+abbrev pub IsRuleItem : WrittenLine → Type 0
+IsRuleItem (RuleItem rule items literals) = ⊤
+IsRuleItem line = ⊥
+
+-- a line is an item
+abbrev pub IsItem : WrittenLine → Type 0
+IsItem line = IsGoalItem line ⊎ IsRuleItem line
+
+-- a line is the start line
+abbrev pub IsStart : WrittenLine → Type 0
+IsStart (StartLine item) = ⊤
+IsStart line = ⊥
+
+-- a line follows the rules of a policy
+abbrev pub IsLast : WrittenLine → Type 0
+IsLast line = IsItem line ⊎ (IsStart line ⊎ IsReach line)
+
 -- a line has parts
 abbrev pub HasParts : WrittenLine → Type 0
-HasParts line = IsCube line ⊎ (IsPair line ⊎ (IsRule line ⊎ IsReach line))
+HasParts line = IsCube line ⊎ (IsPair line ⊎ (IsRule line ⊎ IsLast line))
 
 -- a line is any
 abbrev pub IsAny : WrittenLine → Type 0

@@ -54,12 +54,16 @@ sign_text false = codes "-"
 pub data WrittenLine : Type 0 where
   PolicyHeader : WrittenLine
   RefusalHeader : WrittenLine
+  CoverHeader : WrittenLine
   LayerLine : WrittenLine
   CubeLine : (literals : List WrittenLiteral) → WrittenLine
   PairLine : (action : List (List ℕ)) (outcome layer cube : List ℕ) (literals : List WrittenLiteral) → WrittenLine
   FairRule : (action : List (List ℕ)) (outcome : List ℕ) (target : WrittenTarget) (literals : List WrittenLiteral) → WrittenLine
   UnfairRule : (action : List (List ℕ)) (targets : List WrittenTarget) (literals : List WrittenLiteral) → WrittenLine
   ReachLine : (count : List ℕ) → WrittenLine
+  GoalItem : (literals : List WrittenLiteral) → WrittenLine
+  RuleItem : (rule : List ℕ) (items : List (List ℕ)) (literals : List WrittenLiteral) → WrittenLine
+  StartLine : (item : List ℕ) → WrittenLine
   EndLine : WrittenLine
 
 -- a piece of a line: bytes that are never refused, an action, an atom, or a number that must be below a bound
@@ -86,6 +90,11 @@ abbrev pub target_pieces : List WrittenTarget → List Piece
 target_pieces [] = []
 target_pieces (target ∷ targets) = Fixed (codes " ") ∷ target_piece target ∷ target_pieces targets
 
+-- the pieces of numbers below 2^32, each after a space
+abbrev pub number_pieces : List (List ℕ) → List Piece
+number_pieces [] = []
+number_pieces (digits ∷ numbers) = Fixed (codes " ") ∷ Below (2 ^ 32) digits ∷ number_pieces numbers
+
 -- the pieces of literals, each a sign and an atom after a space
 abbrev pub literal_pieces : List WrittenLiteral → List Piece
 literal_pieces [] = []
@@ -95,6 +104,7 @@ literal_pieces (literal ∷ literals) = Fixed (codes " ") ∷ Fixed (sign_text l
 abbrev pub line_pieces : WrittenLine → List Piece
 line_pieces PolicyHeader = Fixed (codes "dualfond 1 policy") ∷ []
 line_pieces RefusalHeader = Fixed (codes "dualfond 1 refusal") ∷ []
+line_pieces CoverHeader = Fixed (codes "dualfond 2 policy") ∷ []
 line_pieces LayerLine = Fixed (codes "layer") ∷ []
 line_pieces (CubeLine literals) = Fixed (codes "cube") ∷ literal_pieces literals
 line_pieces (PairLine action outcome layer cube literals) =
@@ -104,6 +114,10 @@ line_pieces (FairRule action outcome target literals) =
 line_pieces (UnfairRule action targets literals) =
     Fixed (codes "rule ") ∷ ActionWord action ∷ Fixed (codes " unfair") ∷ (target_pieces targets ++ (Fixed (codes " :") ∷ literal_pieces literals))
 line_pieces (ReachLine count) = Fixed (codes "reach ") ∷ Below (2 ^ 64) count ∷ []
+line_pieces (GoalItem literals) = Fixed (codes "item goal :") ∷ literal_pieces literals
+line_pieces (RuleItem rule items literals) =
+    Fixed (codes "item ") ∷ Below (2 ^ 32) rule ∷ (number_pieces items ++ (Fixed (codes " :") ∷ literal_pieces literals))
+line_pieces (StartLine item) = Fixed (codes "start ") ∷ Below (2 ^ 32) item ∷ []
 line_pieces EndLine = Fixed (codes "end") ∷ []
 
 -- the text of a line
@@ -114,14 +128,19 @@ line_text line = flat_map piece_text (line_pieces line)
 abbrev pub AreProper : List WrittenLiteral → Type 0
 AreProper literals = All (λ literal. IsGroup literal.leaves) literals
 
--- a line is proper: its atoms and actions have leaves, its numbers are numbers, and an unfair rule has targets
+-- a line is proper: its atoms and actions have leaves, its numbers are numbers, an unfair rule has targets, and an item with
+-- a rule has item numbers
 abbrev pub IsProper : WrittenLine → Type 0
 IsProper PolicyHeader = ⊤
 IsProper RefusalHeader = ⊤
+IsProper CoverHeader = ⊤
 IsProper LayerLine = ⊤
 IsProper (CubeLine literals) = AreProper literals
 IsProper (PairLine action outcome layer cube literals) = IsGroup action × IsTrue (is_number outcome) × IsTrue (is_number layer) × IsTrue (is_number cube) × AreProper literals
 IsProper (FairRule action outcome target literals) = IsGroup action × IsTrue (is_number outcome) × IsProperTarget target × AreProper literals
 IsProper (UnfairRule action targets literals) = IsGroup action × (0 < length targets) × All IsProperTarget targets × AreProper literals
 IsProper (ReachLine count) = IsTrue (is_number count)
+IsProper (GoalItem literals) = AreProper literals
+IsProper (RuleItem rule items literals) = IsTrue (is_number rule) × (0 < length items) × All (λ digits. IsTrue (is_number digits)) items × AreProper literals
+IsProper (StartLine item) = IsTrue (is_number item)
 IsProper EndLine = ⊤

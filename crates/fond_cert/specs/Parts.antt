@@ -2,7 +2,7 @@
 use Rattle.std.specs.Prelude.{◌≡◌, ◌≢◌, ℕ, ◌==◌, ◌&&◌, ◌||◌, not, Bool, true, false, List, [], ◌∷◌, ◌++◌, Option, Some, None, All, IsTrue, codes, ⊤, if◌then◌else◌}
 use Rattle.std.specs.Str.{bytes_eq}
 use Rattle.std.specs.List.{flat_map, list_all}
-use Rattle.fond_cert.specs.Lines.{is_plain_byte, IsGroup, group_text, WrittenLiteral, sign_text, is_number}
+use Rattle.fond_cert.specs.Lines.{is_plain_byte, IsGroup, group_text, spaced, WrittenLiteral, sign_text, is_number}
 
 -- a text is that of an atom or an action
 abbrev pub IsGroupText : List ℕ → Type 0
@@ -51,10 +51,14 @@ IsCut text word rest = (text ≡ word ++ rest) × IsTrue (list_all is_in_word wo
 abbrev pub is_target : List ℕ → Bool
 is_target word = bytes_eq word (codes "goal") || is_number word
 
--- words that are targets
-abbrev pub AreTargets : List (List ℕ) → Type 0
-AreTargets words = All (λ word. IsTrue (is_target word)) words
+-- words that pass a test
+abbrev pub AreWords : (List ℕ → Bool) → List (List ℕ) → Type 0
+AreWords test words = All (λ word. IsTrue (test word)) words
 
--- a text does not begin with a space and a word that is a target
-abbrev pub HasNoTarget : List ℕ → Type 0
-HasNoTarget text = (word rest : List ℕ) → IsTrue (is_target word) → EndsWord rest → text ≢ codes " " ++ (word ++ rest)
+-- a text is that of words that pass a test, each after a space
+abbrev pub AreWordsText : (List ℕ → Bool) → List ℕ → Type 0
+AreWordsText test text = (words : List (List ℕ)) × AreWords test words × (text ≡ spaced words)
+
+-- a text does not begin with a space and a word that passes a test
+abbrev pub HasNoWord : (List ℕ → Bool) → List ℕ → Type 0
+HasNoWord test text = (word rest : List ℕ) → IsTrue (test word) → EndsWord rest → text ≢ codes " " ++ (word ++ rest)

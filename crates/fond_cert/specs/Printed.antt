@@ -1,4 +1,4 @@
--- What is printed of cubes, atom by atom.
+-- What is printed, part by part.
 use Rattle.std.specs.Prelude.{ℕ, List, [], ◌++◌, Bool, Option, Some, None, map, codes}
 use Rattle.std.specs.Fmt.{decimal}
 use Rattle.std.specs.List.{enumerate_from, flat_map}
@@ -12,18 +12,21 @@ use Rattle.fond_game.specs.declared.rule.Targets.{Targets}
 use Rattle.fond_game.specs.declared.rule.Targets.TheVariants.{One, All}
 use Rattle.fond_game.specs.declared.rule.Pair.{Pair}
 use Rattle.fond_game.specs.declared.rule.Rule.{Rule}
+use Rattle.fond_cover.specs.declared.item.Item.{Item}
+use Rattle.fond_cover.specs.declared.item.Way.{Way}
+use Rattle.fond_cover.specs.declared.item.Way.TheVariants.{Goal as ToGoal, Rule as ByRule}
 use Rattle.fond_cert.specs.Cutting.{target_text, targets_text, literals_text}
-use Rattle.fond_cert.specs.Lines.{group_text, WrittenLine, ReachLine, line_text, sign_text}
+use Rattle.fond_cert.specs.Lines.{group_text, spaced, WrittenLine, ReachLine, StartLine, line_text, sign_text}
 use Rattle.fond_cert.specs.Spellings.{act_leaves, written_target, written_cube, layer_lines, lines_text}
 
 -- the text of an atom's literal, if there is one
-abbrev pub item_text : Labels → Atom → Option Bool → List ℕ
-item_text labels atom None = []
-item_text labels atom (Some sign) = codes " " ++ (sign_text sign ++ atom_text labels atom)
+abbrev pub atom_literal_text : Labels → Atom → Option Bool → List ℕ
+atom_literal_text labels atom None = []
+atom_literal_text labels atom (Some sign) = codes " " ++ (sign_text sign ++ atom_text labels atom)
 
 -- the text of a cube's literals, atom by atom
 abbrev pub cube_text : Task → CubeView → List ℕ
-cube_text task cube = flat_map (λ item. item_text task.labels item.1 (literal_at cube item.0)) (enumerate_from 0 task.atoms)
+cube_text task cube = flat_map (λ item. atom_literal_text task.labels item.1 (literal_at cube item.0)) (enumerate_from 0 task.atoms)
 
 -- the text of a line with its line feed
 abbrev pub fed : WrittenLine → List ℕ
@@ -54,14 +57,32 @@ rule_text task rule = codes "rule " ++ (group_text (act_leaves task rule.act) ++
 abbrev pub layer_text : Task → List CubeView → List ℕ
 layer_text task layer = lines_text (layer_lines task layer)
 
--- the text of pairs, rules and the reach line
-abbrev pub plan_text : Task → List Pair → List Rule → ℕ → List ℕ
-plan_text task pairs rules reach = flat_map (pair_text task) pairs ++ (flat_map (rule_text task) rules ++ fed (ReachLine (decimal reach)))
+-- the text of a way, after the word of its line
+abbrev pub way_text : Way → List ℕ
+way_text ToGoal = codes "goal"
+way_text (ByRule rule numbers) = decimal rule ++ spaced (map decimal numbers)
 
--- the text of a policy, part by part
+-- the text of an item's line, part by part
+abbrev pub item_text : Task → Item → List ℕ
+item_text task item = codes "item " ++ (way_text item.way ++ cond_text task item.cube)
+
+-- the text of layers, pairs and rules
+abbrev pub plan_text : Task → List (List CubeView) → List Pair → List Rule → List ℕ
+plan_text task layers pairs rules = flat_map (layer_text task) layers ++ (flat_map (pair_text task) pairs ++ flat_map (rule_text task) rules)
+
+-- the text of a policy with a reach number, part by part
 abbrev pub policy_text : Task → List (List CubeView) → List Pair → List Rule → ℕ → List ℕ
 policy_text task layers pairs rules reach =
-    codes "dualfond 1 policy\n" ++ (flat_map (layer_text task) layers ++ (plan_text task pairs rules reach ++ codes "end\n"))
+    codes "dualfond 1 policy\n" ++ (plan_text task layers pairs rules ++ (fed (ReachLine (decimal reach)) ++ codes "end\n"))
+
+-- the text of items and the start line
+abbrev pub items_text : Task → List Item → ℕ → List ℕ
+items_text task items start = flat_map (item_text task) items ++ fed (StartLine (decimal start))
+
+-- the text of a policy with a cover, part by part
+abbrev pub cover_text : Task → List (List CubeView) → List Pair → List Rule → List Item → ℕ → List ℕ
+cover_text task layers pairs rules items start =
+    codes "dualfond 2 policy\n" ++ (plan_text task layers pairs rules ++ (items_text task items start ++ codes "end\n"))
 
 -- the text of a refusal, part by part
 abbrev pub refusal_text : Task → List (List CubeView) → List ℕ

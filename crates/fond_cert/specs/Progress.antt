@@ -1,8 +1,8 @@
 -- How far a text was read.
-use Rattle.std.specs.Prelude.{◌≡◌, ◌⊎◌, ℕ, ◌+◌, List, [], ◌∷◌, ◌++◌, Option, Some, None}
+use Rattle.std.specs.Prelude.{◌≡◌, ℕ, ◌+◌, List, [], ◌∷◌, ◌++◌, Option, Some, None}
 use Rattle.fond_task.specs.declared.task.Task.{Task}
 use Rattle.fond_policy.specs.declared.cert.Cert.{Cert}
-use Rattle.fond_policy.specs.declared.cert.Cert.TheVariants.{Policy, Refusal}
+use Rattle.fond_policy.specs.declared.cert.Cert.TheVariants.{Policy, Refusal, Covered}
 use Rattle.fond_cert.specs.declared.draft.Draft.{Draft}
 use Rattle.fond_cert.specs.declared.due.Due.{Due as KeptDue}
 use Rattle.fond_cert.specs.declared.error.CertError.{CertError}
@@ -11,9 +11,9 @@ use Rattle.fond_cert.specs.declared.error.LineError.{LineError}
 use Rattle.fond_cert.specs.declared.error.LineError.TheVariants.{Refused as RefusedLine, NoMemory}
 use Rattle.fond_cert.specs.declared.line.Line.{Line}
 use Rattle.fond_cert.specs.Cutting.{IsCutOf}
-use Rattle.fond_cert.specs.Drafts.{draft_lines, IsDraftOf, IsGrown, HasLayersAlone, FitsDue}
-use Rattle.fond_cert.specs.Faults.{due_after}
-use Rattle.fond_cert.specs.Lines.{WrittenLine, PolicyHeader, RefusalHeader, EndLine}
+use Rattle.fond_cert.specs.Drafts.{draft_lines, IsDraftOf, IsGrown, header, IsWholeOf, FitsDue}
+use Rattle.fond_cert.specs.Faults.{Kind, due_after}
+use Rattle.fond_cert.specs.Lines.{WrittenLine, EndLine}
 use Rattle.fond_cert.specs.Spellings.{lines_text}
 use Rattle.fond_cert.specs.Stages.{due_of, like}
 
@@ -26,21 +26,19 @@ abbrev pub IsTaken : Task → KeptDue → Draft → List ℕ → KeptDue → Dra
 IsTaken task due before piece next after =
     (line : Line) × IsCutOf piece line × (due_after (due_of due) (like line) ≡ Some (due_of next)) × IsGrown task line before after
 
--- a text is that of a draft to which nothing is missing: a policy with its reach number, or a refusal
+-- a text is that of a draft to which nothing is missing
 abbrev pub IsWhole : Task → List ℕ → Draft → Type 0
-IsWhole task text draft =
-    (draft.current ≡ None)
-    × ((((reach : ℕ) × (draft.reach ≡ Some reach)) × (text ≡ lines_text (PolicyHeader ∷ (draft_lines task draft ++ EndLine ∷ []))))
-    ⊎ (HasLayersAlone draft × (text ≡ lines_text (RefusalHeader ∷ (draft_lines task draft ++ EndLine ∷ [])))))
+IsWhole task text draft = (draft.current ≡ None) × ((kind : Kind) × IsWholeOf kind draft × (text ≡ lines_text (header kind ∷ (draft_lines task draft ++ EndLine ∷ []))))
 
--- the certificate of a draft with this reach number, or the refusal if there is none
-abbrev pub cert_by : Draft → Option ℕ → Cert
-cert_by draft (Some reach) = Policy draft.layers draft.pairs draft.rules reach
-cert_by draft None = Refusal draft.layers
+-- the certificate of a draft with this reach number, or else with this start number, or else the refusal
+abbrev pub cert_by : Draft → Option ℕ → Option ℕ → Cert
+cert_by draft (Some reach) start = Policy draft.layers draft.pairs draft.rules reach
+cert_by draft None (Some start) = Covered draft.layers draft.pairs draft.rules draft.items start
+cert_by draft None None = Refusal draft.layers
 
 -- the certificate of a draft
 abbrev pub cert_of : Draft → Cert
-cert_of draft = cert_by draft draft.reach
+cert_of draft = cert_by draft draft.reach draft.start
 
 -- the error of a text is that of its line which begins at this byte
 abbrev pub IsPlaced : ℕ → LineError → CertError → Type 0

@@ -16,9 +16,12 @@ use Rattle.fond_game.specs.declared.rule.Target.TheVariants.{Goal, Rule as ToRul
 use Rattle.fond_game.specs.declared.rule.Targets.{Targets}
 use Rattle.fond_game.specs.declared.rule.Targets.TheVariants.{One, All}
 use Rattle.fond_game.specs.Layers.{CubeView}
+use Rattle.fond_cover.specs.declared.item.Item.{Item}
+use Rattle.fond_cover.specs.declared.item.Way.{Way}
+use Rattle.fond_cover.specs.declared.item.Way.TheVariants.{Goal as ToGoal, Rule as ByRule}
 use Rattle.fond_policy.specs.declared.cert.Cert.{Cert}
-use Rattle.fond_policy.specs.declared.cert.Cert.TheVariants.{Policy, Refusal}
-use Rattle.fond_cert.specs.Lines.{WrittenTarget, GoalWord, NumberWord, WrittenLiteral, WrittenLine, PolicyHeader, RefusalHeader, LayerLine, CubeLine, PairLine, FairRule, UnfairRule, ReachLine, EndLine, line_text}
+use Rattle.fond_policy.specs.declared.cert.Cert.TheVariants.{Policy, Refusal, Covered}
+use Rattle.fond_cert.specs.Lines.{WrittenTarget, GoalWord, NumberWord, WrittenLiteral, WrittenLine, PolicyHeader, RefusalHeader, CoverHeader, LayerLine, CubeLine, PairLine, FairRule, UnfairRule, ReachLine, GoalItem, RuleItem, StartLine, EndLine, line_text}
 
 -- the leaves of an atom: the names of its predicate and its objects
 abbrev pub atom_leaves : Labels → Atom → List (List ℕ)
@@ -62,11 +65,22 @@ targets_line action (All targets) literals = UnfairRule action (map written_targ
 abbrev pub rule_line : Task → Rule → WrittenLine
 rule_line task rule = targets_line (act_leaves task rule.act) rule.targets (written_cube task rule.cond)
 
+-- the line of a way and a cube
+abbrev pub way_line : Way → List WrittenLiteral → WrittenLine
+way_line ToGoal literals = GoalItem literals
+way_line (ByRule rule numbers) literals = RuleItem (decimal rule) (map decimal numbers) literals
+
+-- the line of an item
+abbrev pub item_line : Task → Item → WrittenLine
+item_line task item = way_line item.way (written_cube task item.cube)
+
 -- the lines of a certificate
 abbrev pub cert_lines : Task → Cert → List WrittenLine
 cert_lines task (Policy layers pairs rules reach) =
     PolicyHeader ∷ (flat_map (layer_lines task) layers ++ (map (pair_line task) pairs ++ (map (rule_line task) rules ++ (ReachLine (decimal reach) ∷ EndLine ∷ []))))
 cert_lines task (Refusal layers) = RefusalHeader ∷ (flat_map (layer_lines task) layers ++ (EndLine ∷ []))
+cert_lines task (Covered layers pairs rules items start) =
+    CoverHeader ∷ (flat_map (layer_lines task) layers ++ (map (pair_line task) pairs ++ (map (rule_line task) rules ++ (map (item_line task) items ++ (StartLine (decimal start) ∷ EndLine ∷ [])))))
 
 -- the text of lines, each with a line feed after it
 abbrev pub lines_text : List WrittenLine → List ℕ

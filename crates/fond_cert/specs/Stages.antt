@@ -1,17 +1,32 @@
 -- What is due, as the code keeps it, and the kinds of lines that are cut.
-use Rattle.std.specs.Prelude.{ℕ, ◌≡◌, ◌+◌, ◌^◌, nat_lt, [], true}
+use Rattle.std.specs.Prelude.{ℕ, ◌≡◌, ◌+◌, ◌^◌, nat_lt, Bool, List, [], true}
 use Rattle.fond_cert.specs.declared.due.Due.{Due as KeptDue}
-use Rattle.fond_cert.specs.declared.due.Due.TheVariants.{Header, Layers, Cubes, Pairs, Rules, End as EndOnly, Nothing}
+use Rattle.fond_cert.specs.declared.due.Due.TheVariants.{Header, Layers, Cubes, Pairs, Rules, Items, End as EndOnly, Nothing}
+use Rattle.fond_cert.specs.declared.due.Evidence.{Evidence as KeptEvidence}
+use Rattle.fond_cert.specs.declared.due.Evidence.TheVariants.{Reach as ReachOnly, Cover}
 use Rattle.fond_cert.specs.declared.due.Kind.{Kind as KeptKind}
 use Rattle.fond_cert.specs.declared.due.Kind.TheVariants.{Policy, Refusal}
 use Rattle.fond_cert.specs.declared.line.Line.{Line}
-use Rattle.fond_cert.specs.declared.line.Line.TheVariants.{PolicyHeader as CutPolicy, RefusalHeader as CutRefusal, Layer, Cube, Pair, FairRule as CutFair, UnfairRule as CutUnfair, Reach, End}
-use Rattle.fond_cert.specs.Lines.{GoalWord, WrittenLine, PolicyHeader, RefusalHeader, LayerLine, CubeLine, PairLine, FairRule, UnfairRule, ReachLine, EndLine}
-use Rattle.fond_cert.specs.Faults.{Kind, OfPolicy, OfRefusal, Due, HeaderDue, LayersDue, CubesDue, PairsDue, RulesDue, EndDue, NothingDue}
+use Rattle.fond_cert.specs.declared.line.Line.TheVariants.{PolicyHeader as CutPolicy, RefusalHeader as CutRefusal, CoverHeader as CutCover, Layer, Cube, Pair, FairRule as CutFair, UnfairRule as CutUnfair, Reach, GoalItem as CutGoal, RuleItem as CutItem, Start, End}
+use Rattle.fond_cert.specs.declared.word.WordKind.{WordKind}
+use Rattle.fond_cert.specs.declared.word.WordKind.TheVariants.{Target, Number}
+use Rattle.fond_cert.specs.Lines.{is_number, GoalWord, WrittenLine, PolicyHeader, RefusalHeader, CoverHeader, LayerLine, CubeLine, PairLine, FairRule, UnfairRule, ReachLine, GoalItem, RuleItem, StartLine, EndLine}
+use Rattle.fond_cert.specs.Parts.{is_target}
+use Rattle.fond_cert.specs.Faults.{Evidence, ByReach, ByCover, Kind, OfPolicy, OfRefusal, Due, HeaderDue, LayersDue, CubesDue, PairsDue, RulesDue, ItemsDue, EndDue, NothingDue}
+
+-- the test of a kind of words
+abbrev pub test_of : WordKind → List ℕ → Bool
+test_of Target word = is_target word
+test_of Number word = is_number word
+
+-- the evidence that is kept
+abbrev pub evidence_of : KeptEvidence → Evidence
+evidence_of ReachOnly = ByReach
+evidence_of Cover = ByCover
 
 -- the kind of certificate that is kept
 abbrev pub kind_of : KeptKind → Kind
-kind_of Policy = OfPolicy
+kind_of (Policy evidence) = OfPolicy (evidence_of evidence)
 kind_of Refusal = OfRefusal
 
 -- what is due, as it is kept
@@ -19,8 +34,9 @@ abbrev pub due_of : KeptDue → Due
 due_of Header = HeaderDue
 due_of (Layers kind) = LayersDue (kind_of kind)
 due_of (Cubes kind layers cubes) = CubesDue (kind_of kind) layers cubes
-due_of Pairs = PairsDue
-due_of (Rules rules) = RulesDue rules
+due_of (Pairs evidence) = PairsDue (evidence_of evidence)
+due_of (Rules evidence rules) = RulesDue (evidence_of evidence) rules
+due_of (Items items) = ItemsDue items
 due_of EndOnly = EndDue
 due_of Nothing = NothingDue
 
@@ -32,10 +48,14 @@ IsOneMore count more = (more ≡ count + 1) × (nat_lt (count + 1) (2 ^ 32) ≡ 
 abbrev pub like : Line → WrittenLine
 like CutPolicy = PolicyHeader
 like CutRefusal = RefusalHeader
+like CutCover = CoverHeader
 like Layer = LayerLine
 like (Cube literals) = CubeLine []
 like (Pair action outcome layer cube literals) = PairLine [] [] [] [] []
 like (CutFair action outcome target literals) = FairRule [] [] GoalWord []
 like (CutUnfair action targets literals) = UnfairRule [] [] []
 like (Reach count) = ReachLine []
+like (CutGoal literals) = GoalItem []
+like (CutItem rule items literals) = RuleItem [] [] []
+like (Start item) = StartLine []
 like End = EndLine

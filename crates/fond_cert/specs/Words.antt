@@ -4,7 +4,7 @@ use Rattle.std.specs.List.{filter_map}
 use Rattle.std.specs.Str.Parse.{digits_value}
 use Rattle.fond_task.specs.declared.task.Task.{Task}
 use Rattle.fond_task.specs.Numbers.{act_number, atom_number}
-use Rattle.fond_cert.specs.Lines.{group_text, WrittenLiteral, WrittenLine, CubeLine, PairLine, FairRule, UnfairRule, Piece, Fixed, ActionWord, AtomWord, Below, piece_text, line_pieces}
+use Rattle.fond_cert.specs.Lines.{group_text, WrittenLiteral, WrittenLine, CubeLine, PairLine, FairRule, UnfairRule, GoalItem, RuleItem, Piece, Fixed, ActionWord, AtomWord, Below, piece_text, line_pieces}
 
 -- this code, if a word names nothing
 abbrev pub unknown : ℕ → Option ℕ → Option ℕ
@@ -50,6 +50,8 @@ is_ordered task (CubeLine literals) = is_increasing (atom_numbers task literals)
 is_ordered task (PairLine action outcome layer cube literals) = is_increasing (atom_numbers task literals)
 is_ordered task (FairRule action outcome target literals) = is_increasing (atom_numbers task literals)
 is_ordered task (UnfairRule action targets literals) = is_increasing (atom_numbers task literals)
+is_ordered task (GoalItem literals) = is_increasing (atom_numbers task literals)
+is_ordered task (RuleItem rule items literals) = is_increasing (atom_numbers task literals)
 is_ordered task line = true
 
 -- a refusal by a word, or else code 1 at the first byte if the atoms are out of order

@@ -1,15 +1,15 @@
 //! Cutting parts off a line, from left to right. Each call takes time in the length of what it reads, and no memory.
 
-ghost use Rattle.fond_cert.specs.Checked.{AreTargetsText};
-ghost use Rattle.fond_cert.specs.Cutting.{IsFirst, IsLast, HasNoAction, HasNoNumber, HasNoTargetAfter, HasNoTargets, HasNoLiterals};
+ghost use Rattle.fond_cert.specs.Cutting.{IsFirst, IsLast, HasNoAction, HasNoNumber, HasNoTargetAfter, HasNoWords, HasNoLiterals};
 ghost use Rattle.fond_cert.specs.Lines.{is_number};
-ghost use Rattle.fond_cert.specs.Parts.{IsGroupText, AreLiterals, is_in_word, is_target, EndsWord, HasNoTarget};
+ghost use Rattle.fond_cert.specs.Parts.{IsGroupText, AreLiterals, is_in_word, is_target, AreWordsText, EndsWord, HasNoWord};
+ghost use Rattle.fond_cert.specs.Stages.{test_of};
 ghost use Rattle.std.specs.List.{list_all};
 ghost use Rattle.std.specs.Prelude.{◌≡◌, ◌≢◌, ◌++◌, ◌+◌, ◌<◌, ◌≤◌, List, ℕ, IsTrue, length, take, drop, MatchOption};
 
 use crate::part::Part;
 use crate::scan::{after, are_literals, group};
-use crate::word::{after_targets, is_number, is_target, word};
+use crate::word::{WordKind, after_words, is_number, is_target, word};
 
 /// The rest after the word, if it begins with the word.
 pub fn skip<'a>(rest: Part<'a>, word: &[u8]) -> Option<Part<'a>>
@@ -82,13 +82,14 @@ pub fn target_after<'a>(rest: Part<'a>, word: &[u8]) -> Option<(Part<'a>, Part<'
     }
 }
 
-/// All the targets after the word, at least one, and the rest.
-pub fn targets_after<'a>(rest: Part<'a>, word: &[u8]) -> Option<(Part<'a>, Part<'a>)>
-    ensures { MatchOption result (HasNoTargets rest.entry.text.now word.now)
-        (λ parts. AreTargetsText parts.0.text.now × (0 < length parts.0.text.now) × HasNoTarget parts.1.text.now × EndsWord parts.1.text.now × IsFirst rest.entry word.now parts.0 parts.1) }
+/// All the words of the kind after this text, at least one and each after a space, and the rest.
+pub fn words_after<'a>(kind: WordKind, rest: Part<'a>, start: &[u8]) -> Option<(Part<'a>, Part<'a>)>
+    ensures { MatchOption result (HasNoWords (test_of kind) rest.entry.text.now start.now)
+        (λ parts. AreWordsText (test_of kind) parts.0.text.now × (0 < length parts.0.text.now) × HasNoWord (test_of kind) parts.1.text.now × EndsWord parts.1.text.now
+        × IsFirst rest.entry start.now parts.0 parts.1) }
 {
-    let next = skip(rest, word)?;
-    let tail = after_targets(next.text);
+    let next = skip(rest, start)?;
+    let tail = after_words(kind, next.text);
     if tail.len() == next.text.len() {
         return None;
     }

@@ -1,16 +1,19 @@
 //! The parts of a certificate that were read so far.
 
+use fond_cover::items::Items;
 use fond_layers::layers::{Layer, Layers};
 use fond_rules::pairs::Pairs;
 use fond_rules::rules::Rules;
 
-/// The layers, pairs and rules that were read so far, and the reach number. The layer whose cubes are being read is kept
-/// apart until another line follows them.
+/// The layers, pairs, rules and items that were read so far, and the reach number or the start number. The layer whose cubes
+/// are being read is kept apart until another line follows them.
 #[derive(Drop)]
 pub struct Draft {
     pub layers: Layers,
     pub current: Option<Layer>,
     pub pairs: Pairs,
     pub rules: Rules,
+    pub items: Items,
     pub reach: Option<u64>,
+    pub start: Option<u32>,
 }

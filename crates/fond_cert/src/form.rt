@@ -2,13 +2,13 @@
 //! length of the line, and no memory.
 
 ghost use Rattle.fond_cert.specs.Cutting.{IsCutOf};
-ghost use Rattle.fond_cert.specs.Kinds.{HasNoLineOf, IsWord, IsCube, IsPair, IsFair, IsUnfair, IsReach, IsRule, HasParts, IsAny};
+ghost use Rattle.fond_cert.specs.Kinds.{HasNoLineOf, IsWord, IsCube, IsPair, IsFair, IsUnfair, IsReach, IsRule, IsGoalItem, IsRuleItem, IsItem, IsStart, IsLast, HasParts, IsAny};
 ghost use Rattle.std.specs.Prelude.{◌≡◌, MatchOption};
 
-use crate::cut::{action_after, literals_after, number_after, skip, target_after, targets_after};
+use crate::cut::{action_after, literals_after, number_after, skip, target_after, words_after};
 use crate::line::Line;
 use crate::part::Part;
-use crate::word::is_number;
+use crate::word::{WordKind, is_number};
 
 /// A line that is a fixed text.
 fn fixed<'a>(line: &[u8]) -> Option<Line<'a>>
@@ -18,6 +18,8 @@ fn fixed<'a>(line: &[u8]) -> Option<Line<'a>>
         Some(Line::PolicyHeader)
     } else if line == b"dualfond 1 refusal".as_slice() {
         Some(Line::RefusalHeader)
+    } else if line == b"dualfond 2 policy".as_slice() {
+        Some(Line::CoverHeader)
     } else if line == b"layer".as_slice() {
         Some(Line::Layer)
     } else if line == b"end".as_slice() {
@@ -78,7 +80,7 @@ fn unfair<'a>(line: Part<'a>) -> Option<Line<'a>>
     ensures { MatchOption result (HasNoLineOf IsUnfair line.entry.text.now) (IsCutOf line.entry.text.now) }
 {
     let (action, rest) = action_after(line, b"rule ")?;
-    let (targets, rest) = targets_after(rest, b" unfair")?;
+    let (targets, rest) = words_after(WordKind::Target, rest, b" unfair")?;
     let literals = literals_after(rest, b" :")?;
     Some(Line::UnfairRule {
         action,
@@ -100,6 +102,43 @@ fn reach<'a>(line: Part<'a>) -> Option<Line<'a>>
     }
 }
 
+/// An item of goals.
+fn goal_item<'a>(line: Part<'a>) -> Option<Line<'a>>
+    requires { line.at ≡ 0 }
+    ensures { MatchOption result (HasNoLineOf IsGoalItem line.entry.text.now) (IsCutOf line.entry.text.now) }
+{
+    let literals = literals_after(line, b"item goal :")?;
+    Some(Line::GoalItem { literals })
+}
+
+/// An item with a rule.
+fn rule_item<'a>(line: Part<'a>) -> Option<Line<'a>>
+    requires { line.at ≡ 0 }
+    ensures { MatchOption result (HasNoLineOf IsRuleItem line.entry.text.now) (IsCutOf line.entry.text.now) }
+{
+    let (rule, rest) = number_after(line, b"item ")?;
+    let (items, rest) = words_after(WordKind::Number, rest, b"")?;
+    let literals = literals_after(rest, b" :")?;
+    Some(Line::RuleItem {
+        rule,
+        items,
+        literals,
+    })
+}
+
+/// The start line.
+fn start<'a>(line: Part<'a>) -> Option<Line<'a>>
+    requires { line.at ≡ 0 }
+    ensures { MatchOption result (HasNoLineOf IsStart line.entry.text.now) (IsCutOf line.entry.text.now) }
+{
+    let item = skip(line, b"start ")?;
+    if is_number(item.text) {
+        Some(Line::Start { item })
+    } else {
+        None
+    }
+}
+
 /// A rule.
 fn rule<'a>(line: Part<'a>) -> Option<Line<'a>>
     requires { line.at ≡ 0 }
@@ -109,6 +148,31 @@ fn rule<'a>(line: Part<'a>) -> Option<Line<'a>>
         Some(rule) => Some(rule),
         None => unfair(line),
     }
+}
+
+/// An item.
+fn item<'a>(line: Part<'a>) -> Option<Line<'a>>
+    requires { line.at ≡ 0 }
+    ensures { MatchOption result (HasNoLineOf IsItem line.entry.text.now) (IsCutOf line.entry.text.now) }
+{
+    match goal_item(line) {
+        Some(item) => Some(item),
+        None => rule_item(line),
+    }
+}
+
+/// A line after the rules of a policy.
+fn last<'a>(line: Part<'a>) -> Option<Line<'a>>
+    requires { line.at ≡ 0 }
+    ensures { MatchOption result (HasNoLineOf IsLast line.entry.text.now) (IsCutOf line.entry.text.now) }
+{
+    if let Some(item) = item(line) {
+        return Some(item);
+    }
+    if let Some(start) = start(line) {
+        return Some(start);
+    }
+    reach(line)
 }
 
 /// A line with parts.
@@ -125,7 +189,7 @@ fn with_parts<'a>(line: Part<'a>) -> Option<Line<'a>>
     if let Some(rule) = rule(line) {
         return Some(rule);
     }
-    reach(line)
+    last(line)
 }
 
 /// The line by its parts, if the text has the form of one. Takes time in the length of the text, and no memory.

@@ -2,17 +2,22 @@
 //! memory of adding one item to a list.
 
 ghost use Rattle.fond_cert.specs.Cutting.{IsRightCut, IsRefusedBy};
-ghost use Rattle.fond_cert.specs.Drafts.{IsDraftOf, closed, with_open, with_pair, with_rule, with_reach, opened, all_layers, IsGrown, HasRoom};
+ghost use Rattle.fond_cert.specs.Drafts.{IsDraftOf, closed, with_open, with_pair, with_rule, with_item, with_reach, with_start, opened, all_layers, IsGrown, HasRoom};
 ghost use Rattle.fond_cert.specs.Refusals.{LineRefuses};
-ghost use Rattle.fond_cert.specs.declared.line.Line.TheVariants.{Cube as CubeParts, FairRule as FairParts, UnfairRule as UnfairParts};
+ghost use Rattle.fond_cert.specs.declared.line.Line.TheVariants.{Cube as CubeParts, FairRule as FairParts, UnfairRule as UnfairParts, GoalItem as GoalParts, RuleItem as ItemParts};
 ghost use Rattle.fond_game.specs.Layers.{CubeView};
 ghost use Rattle.std.specs.Prelude.{◌≡◌, ◌<◌, ◌-◌, ◌^◌, List, [], ◌∷◌, ◌++◌, length, None, Some, All, IfOk, IfErr, OnOk};
 
 use crate::draft::Draft;
 use crate::error::LineError;
-use crate::item::{read_fair, read_layer_cube, read_pair, read_reach, read_unfair};
+use crate::item::{
+    read_fair, read_goal_item, read_layer_cube, read_pair, read_reach, read_rule_item, read_start,
+    read_unfair,
+};
 use crate::line::Line;
 use crate::part::Part;
+use fond_cover::item::Item;
+use fond_cover::items::Items;
 use fond_game::rule::{Pair, Rule};
 use fond_layers::layers::{Layer, Layers};
 use fond_rules::pairs::Pairs;
@@ -25,14 +30,16 @@ use std::alloc::Global;
 impl Draft {
     /// A draft without parts. It takes no memory.
     pub fn new(alloc: Global) -> Draft
-        ensures { result ≡ record { layers = []; current = None; pairs = []; rules = []; reach = None } }
+        ensures { result ≡ record { layers = []; current = None; pairs = []; rules = []; items = []; reach = None; start = None } }
     {
         Draft {
             layers: Layers::new(alloc),
             current: None,
             pairs: Pairs::new(alloc),
             rules: Rules::new(alloc),
+            items: Items::new(alloc),
             reach: None,
+            start: None,
         }
     }
 
@@ -90,6 +97,17 @@ impl Draft {
         self.rules.push(rule)
     }
 
+    /// Adds an item.
+    fn add_item(&mut self, item: Item) -> Result<(), NoMemory>
+        requires few { length (all_layers self.old) < 2 ^ 32 }
+        requires few_cubes { All (λ (layer : List CubeView). length layer < 2 ^ 32) (all_layers self.old) }
+        requires room { length self.old.items < 2 ^ 32 - 1 }
+        ensures { OnOk result (self.new ≡ with_item self.old item) }
+    {
+        self.close()?;
+        self.items.push(item)
+    }
+
     /// Adds the reach number.
     fn add_reach(&mut self, reach: u64) -> Result<(), NoMemory>
         requires few { length (all_layers self.old) < 2 ^ 32 }
@@ -98,6 +116,17 @@ impl Draft {
     {
         self.close()?;
         self.reach = Some(reach);
+        Ok(())
+    }
+
+    /// Adds the start number.
+    fn add_start(&mut self, start: u32) -> Result<(), NoMemory>
+        requires few { length (all_layers self.old) < 2 ^ 32 }
+        requires few_cubes { All (λ (layer : List CubeView). length layer < 2 ^ 32) (all_layers self.old) }
+        ensures { OnOk result (self.new ≡ with_start self.old start) }
+    {
+        self.close()?;
+        self.start = Some(start);
         Ok(())
     }
 
@@ -157,6 +186,44 @@ impl Draft {
         Ok(())
     }
 
+    /// Adds the item of goals of a line, by the line's part.
+    fn take_goal_item(
+        &mut self,
+        alloc: Global,
+        index: &TaskIndex,
+        literals: Part,
+    ) -> Result<(), LineError>
+        requires cut { IsRightCut (GoalParts literals) }
+        requires room { length self.old.items < 2 ^ 32 - 1 }
+        requires few { length (all_layers self.old) < 2 ^ 32 }
+        requires few_cubes { All (λ (layer : List CubeView). length layer < 2 ^ 32) (all_layers self.old) }
+        ensures grown { OnOk result (IsGrown index.now (GoalParts literals.entry) self.old self.new) }
+        ensures wrong { IfErr result (LineRefuses (IsRefusedBy index.now (GoalParts literals.entry))) }
+    {
+        self.add_item(read_goal_item(alloc, index, literals)?)?;
+        Ok(())
+    }
+
+    /// Adds the item with a rule of a line, by the line's parts.
+    fn take_rule_item(
+        &mut self,
+        alloc: Global,
+        index: &TaskIndex,
+        rule: Part,
+        items: Part,
+        literals: Part,
+    ) -> Result<(), LineError>
+        requires cut { IsRightCut (ItemParts rule items literals) }
+        requires room { length self.old.items < 2 ^ 32 - 1 }
+        requires few { length (all_layers self.old) < 2 ^ 32 }
+        requires few_cubes { All (λ (layer : List CubeView). length layer < 2 ^ 32) (all_layers self.old) }
+        ensures grown { OnOk result (IsGrown index.now (ItemParts rule.entry items.entry literals.entry) self.old self.new) }
+        ensures wrong { IfErr result (LineRefuses (IsRefusedBy index.now (ItemParts rule.entry items.entry literals.entry))) }
+    {
+        self.add_item(read_rule_item(alloc, index, rule, items, literals)?)?;
+        Ok(())
+    }
+
     /// Adds what the line makes.
     pub fn add(&mut self, alloc: Global, index: &TaskIndex, line: Line) -> Result<(), LineError>
         requires cut { IsRightCut line }
@@ -167,7 +234,9 @@ impl Draft {
         ensures wrong { IfErr result (LineRefuses (IsRefusedBy index.now line.entry)) }
     {
         match line {
-            Line::PolicyHeader | Line::RefusalHeader | Line::End => self.close()?,
+            Line::PolicyHeader | Line::RefusalHeader | Line::CoverHeader | Line::End => {
+                self.close()?
+            }
             Line::Layer => self.add_layer(alloc)?,
             Line::Cube { literals } => self.take_cube(alloc, index, literals)?,
             Line::Pair {
@@ -189,6 +258,13 @@ impl Draft {
                 literals,
             } => self.take_unfair(alloc, index, action, targets, literals)?,
             Line::Reach { count } => self.add_reach(read_reach(index, count)?)?,
+            Line::GoalItem { literals } => self.take_goal_item(alloc, index, literals)?,
+            Line::RuleItem {
+                rule,
+                items,
+                literals,
+            } => self.take_rule_item(alloc, index, rule, items, literals)?,
+            Line::Start { item } => self.add_start(read_start(index, item)?)?,
         }
         Ok(())
     }

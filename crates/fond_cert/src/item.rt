@@ -4,19 +4,20 @@
 
 ghost use Rattle.fond_cert.specs.Checked.{ReadsAct, IsActRefused};
 ghost use Rattle.fond_cert.specs.Cutting.{IsRightCut, IsMade, IsRefusedBy};
-ghost use Rattle.fond_cert.specs.Items.{IsReadPair, IsReadRule};
+ghost use Rattle.fond_cert.specs.Items.{IsReadPair, IsReadRule, IsReadItem};
 ghost use Rattle.fond_cert.specs.Refusals.{LineRefuses};
-ghost use Rattle.fond_cert.specs.Lines.{CubeLine, ReachLine};
-ghost use Rattle.fond_cert.specs.Spellings.{written_cube, pair_line, rule_line};
-ghost use Rattle.fond_cert.specs.declared.line.Line.TheVariants.{Cube as CubeParts, Reach as ReachParts, Pair as PairParts, FairRule as FairParts, UnfairRule as UnfairParts};
+ghost use Rattle.fond_cert.specs.Lines.{CubeLine, ReachLine, StartLine};
+ghost use Rattle.fond_cert.specs.Spellings.{written_cube, pair_line, rule_line, item_line};
+ghost use Rattle.fond_cert.specs.declared.line.Line.TheVariants.{Cube as CubeParts, Reach as ReachParts, Pair as PairParts, FairRule as FairParts, UnfairRule as UnfairParts, GoalItem as GoalParts, RuleItem as ItemParts, Start as StartParts};
 ghost use Rattle.std.specs.Fmt.{decimal};
 ghost use Rattle.std.specs.Prelude.{◌≡◌, ◌<◌, ◌^◌, length, IfOk, IfErr};
 
 use crate::error::LineError;
 use crate::literal::read_cube;
 use crate::part::Part;
-use crate::target::{read_number, read_target, read_targets, too_large};
+use crate::target::{read_item_numbers, read_number, read_target, read_targets, too_large};
 use crate::word::number;
+use fond_cover::item::{Item, Way};
 use fond_game::rule::{Pair, Rule, Targets};
 use fond_state::cube::Cube;
 use fond_task::task_index::TaskIndex;
@@ -60,6 +61,16 @@ pub(crate) fn read_reach(index: &TaskIndex, count: Part) -> Result<u64, LineErro
         Some(reach) => Ok(reach),
         None => Err(too_large(count)),
     }
+}
+
+/// The number of the start line, by the line's part.
+pub(crate) fn read_start(index: &TaskIndex, item: Part) -> Result<u32, LineError>
+    requires { IsRightCut (StartParts item) }
+    ensures read { IfOk result (λ start. IsMade index.now (StartParts item.entry) (StartLine (decimal start))) }
+    ensures small { IfOk result (λ start. start < 2 ^ 32) }
+    ensures wrong { IfErr result (LineRefuses (IsRefusedBy index.now (StartParts item.entry))) }
+{
+    read_number(item)
 }
 
 /// The pair of a line, by the line's parts.
@@ -133,5 +144,43 @@ pub(crate) fn read_unfair(
         cond,
         act,
         targets: Targets::All(targets),
+    })
+}
+
+/// The item of goals of a line, by the line's part.
+pub(crate) fn read_goal_item(
+    alloc: Global,
+    index: &TaskIndex,
+    literals: Part,
+) -> Result<Item, LineError>
+    requires { IsRightCut (GoalParts literals) }
+    ensures read { IfOk result (λ item. IsReadItem index.now item × IsMade index.now (GoalParts literals.entry) (item_line index.now item)) }
+    ensures wrong { IfErr result (LineRefuses (IsRefusedBy index.now (GoalParts literals.entry))) }
+{
+    let cube = read_cube(alloc, index, literals)?;
+    Ok(Item {
+        cube,
+        way: Way::Goal,
+    })
+}
+
+/// The item with a rule of a line, by the line's parts.
+pub(crate) fn read_rule_item(
+    alloc: Global,
+    index: &TaskIndex,
+    rule: Part,
+    items: Part,
+    literals: Part,
+) -> Result<Item, LineError>
+    requires { IsRightCut (ItemParts rule items literals) }
+    ensures read { IfOk result (λ item. IsReadItem index.now item × IsMade index.now (ItemParts rule.entry items.entry literals.entry) (item_line index.now item)) }
+    ensures wrong { IfErr result (LineRefuses (IsRefusedBy index.now (ItemParts rule.entry items.entry literals.entry))) }
+{
+    let rule = read_number(rule)?;
+    let items = read_item_numbers(alloc, items)?;
+    let cube = read_cube(alloc, index, literals)?;
+    Ok(Item {
+        cube,
+        way: Way::Rule { rule, items },
     })
 }

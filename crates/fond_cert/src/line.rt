@@ -2,12 +2,13 @@
 
 use crate::part::Part;
 
-/// A line by its parts: each is a part of the line's text, and carries the byte at which it begins. The texts of targets
-/// and of literals begin with a space unless they are empty.
+/// A line by its parts: each is a part of the line's text, and carries the byte at which it begins. The texts of targets,
+/// of item numbers and of literals begin with a space unless they are empty.
 #[derive(Clone, Copy)]
 pub enum Line<'a> {
     PolicyHeader,
     RefusalHeader,
+    CoverHeader,
     Layer,
     Cube {
         literals: Part<'a>,
@@ -32,6 +33,17 @@ pub enum Line<'a> {
     },
     Reach {
         count: Part<'a>,
+    },
+    GoalItem {
+        literals: Part<'a>,
+    },
+    RuleItem {
+        rule: Part<'a>,
+        items: Part<'a>,
+        literals: Part<'a>,
+    },
+    Start {
+        item: Part<'a>,
     },
     End,
 }

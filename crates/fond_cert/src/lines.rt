@@ -74,7 +74,7 @@ fn add_lines(
     text: &[u8],
     draft: &mut Draft,
 ) -> Result<(), CertError>
-    requires { draft.old ≡ record { layers = []; current = None; pairs = []; rules = []; reach = None } }
+    requires { draft.old ≡ record { layers = []; current = None; pairs = []; rules = []; items = []; reach = None; start = None } }
     ensures read { OnOk result (IsDraftOf index.now draft.new × IsWhole index.now text.now draft.new) }
     ensures refused { IfErr result (CertRefuses (IsCertFault index.now text.now)) }
 {
@@ -97,7 +97,7 @@ fn add_lines(
 }
 
 /// What the lines of the text make. Takes time in the length of the text, and in the number of the task's atoms for each
-/// cube, pair and rule; memory for what the lines make.
+/// cube, pair, rule and item; memory for what the lines make.
 pub(crate) fn read_lines(alloc: Global, index: &TaskIndex, text: &[u8]) -> Result<Draft, CertError>
     ensures read { IfOk result (λ draft. IsDraftOf index.now draft × IsWhole index.now text.now draft) }
     ensures refused { IfErr result (CertRefuses (IsCertFault index.now text.now)) }

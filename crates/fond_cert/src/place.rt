@@ -1,10 +1,10 @@
 //! The lines that are allowed at a place of a certificate. Each call takes constant time, and no memory.
 
-ghost use Rattle.fond_cert.specs.Faults.{due_after, after_layers, HeaderDue, LayersDue, CubesDue, RulesDue, EndDue};
-ghost use Rattle.fond_cert.specs.Stages.{kind_of, due_of, like, IsOneMore};
+ghost use Rattle.fond_cert.specs.Faults.{due_after, after_layers, after_pairs, after_rules, HeaderDue, LayersDue, CubesDue, RulesDue, ItemsDue, EndDue};
+ghost use Rattle.fond_cert.specs.Stages.{evidence_of, kind_of, due_of, like, IsOneMore};
 ghost use Rattle.std.specs.Prelude.{◌≡◌, ◌+◌, ◌^◌, nat_lt, false, option_map, MatchOption};
 
-use crate::due::{Due, Kind};
+use crate::due::{Due, Evidence, Kind};
 use crate::line::Line;
 
 /// One more than the count, if it is still below 2^32.
@@ -18,17 +18,40 @@ fn one_more(count: u32) -> Option<u32>
     }
 }
 
-/// What is due after a line that may follow the layers.
-fn due_behind(kind: Kind, line: &Line) -> Option<Due>
-    ensures { option_map due_of result ≡ after_layers (kind_of kind) (like line.now) }
+/// What is due after a line that may follow the rules.
+fn due_after_rules(evidence: Evidence, line: &Line) -> Option<Due>
+    ensures { option_map due_of result ≡ after_rules (evidence_of evidence) (like line.now) }
 {
-    match kind {
-        Kind::Policy => match line {
-            Line::Pair { .. } => Some(Due::Pairs),
-            Line::FairRule { .. } | Line::UnfairRule { .. } => Some(Due::Rules { rules: 1 }),
+    match evidence {
+        Evidence::Reach => match line {
             Line::Reach { .. } => Some(Due::End),
             _ => None,
         },
+        Evidence::Cover => match line {
+            Line::GoalItem { .. } | Line::RuleItem { .. } => Some(Due::Items { items: 1 }),
+            Line::Start { .. } => Some(Due::End),
+            _ => None,
+        },
+    }
+}
+
+/// What is due after a line that may follow the layers or a pair of a policy.
+fn due_after_pairs(evidence: Evidence, line: &Line) -> Option<Due>
+    ensures { option_map due_of result ≡ after_pairs (evidence_of evidence) (like line.now) }
+{
+    match line {
+        Line::Pair { .. } => Some(Due::Pairs { evidence }),
+        Line::FairRule { .. } | Line::UnfairRule { .. } => Some(Due::Rules { evidence, rules: 1 }),
+        _ => due_after_rules(evidence, line),
+    }
+}
+
+/// What is due after a line that may follow the layers.
+fn due_after_layers(kind: Kind, line: &Line) -> Option<Due>
+    ensures { option_map due_of result ≡ after_layers (kind_of kind) (like line.now) }
+{
+    match kind {
+        Kind::Policy { evidence } => due_after_pairs(evidence, line),
         Kind::Refusal => match line {
             Line::End => Some(Due::Nothing),
             _ => None,
@@ -51,20 +74,32 @@ fn due_in_layers(kind: Kind, layers: u32, cubes: u32, line: &Line) -> Option<Due
             layers,
             cubes: one_more(cubes)?,
         }),
-        _ => due_behind(kind, line),
+        _ => due_after_layers(kind, line),
     }
 }
 
 /// What is due after a line that follows a rule.
-fn due_in_rules(rules: u32, line: &Line) -> Option<Due>
-    ensures { option_map due_of result ≡ due_after (RulesDue rules) (like line.now) }
+fn due_in_rules(evidence: Evidence, rules: u32, line: &Line) -> Option<Due>
+    ensures { option_map due_of result ≡ due_after (RulesDue (evidence_of evidence) rules) (like line.now) }
 {
     match line {
         Line::FairRule { .. } | Line::UnfairRule { .. } => Some(Due::Rules {
+            evidence,
             rules: one_more(rules)?,
         }),
-        Line::Reach { .. } => Some(Due::End),
-        _ => None,
+        _ => due_after_rules(evidence, line),
+    }
+}
+
+/// What is due after a line that follows an item.
+fn due_in_items(items: u32, line: &Line) -> Option<Due>
+    ensures { option_map due_of result ≡ due_after (ItemsDue items) (like line.now) }
+{
+    match line {
+        Line::GoalItem { .. } | Line::RuleItem { .. } => Some(Due::Items {
+            items: one_more(items)?,
+        }),
+        _ => due_after_rules(Evidence::Cover, line),
     }
 }
 
@@ -73,7 +108,16 @@ fn due_after_header(line: &Line) -> Option<Due>
     ensures { option_map due_of result ≡ due_after HeaderDue (like line.now) }
 {
     match line {
-        Line::PolicyHeader => Some(Due::Layers { kind: Kind::Policy }),
+        Line::PolicyHeader => Some(Due::Layers {
+            kind: Kind::Policy {
+                evidence: Evidence::Reach,
+            },
+        }),
+        Line::CoverHeader => Some(Due::Layers {
+            kind: Kind::Policy {
+                evidence: Evidence::Cover,
+            },
+        }),
         Line::RefusalHeader => Some(Due::Layers {
             kind: Kind::Refusal,
         }),
@@ -91,7 +135,7 @@ fn due_first(kind: Kind, line: &Line) -> Option<Due>
             layers: 1,
             cubes: 0,
         }),
-        _ => due_behind(kind, line),
+        _ => due_after_layers(kind, line),
     }
 }
 
@@ -117,8 +161,9 @@ pub(crate) fn next_due(due: Due, line: &Line) -> Option<Due>
             layers,
             cubes,
         } => due_in_layers(kind, layers, cubes, line),
-        Due::Pairs => due_behind(Kind::Policy, line),
-        Due::Rules { rules } => due_in_rules(rules, line),
+        Due::Pairs { evidence } => due_after_pairs(evidence, line),
+        Due::Rules { evidence, rules } => due_in_rules(evidence, rules, line),
+        Due::Items { items } => due_in_items(items, line),
         Due::End => due_after_end(line),
         Due::Nothing => None,
     }

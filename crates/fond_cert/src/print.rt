@@ -2,14 +2,16 @@
 
 ghost use Rattle.fond_policy.specs.Belongs.{Belongs};
 ghost use Rattle.fond_cert.specs.Items.{IsPairOf, IsRuleOf};
-ghost use Rattle.fond_cert.specs.Lines.{CubeLine, ReachLine};
-ghost use Rattle.fond_cert.specs.Printed.{fed, chosen_text, places_text, cond_text, pair_text, rule_text, layer_text, plan_text, policy_text, refusal_text};
+ghost use Rattle.fond_cert.specs.Lines.{CubeLine, ReachLine, StartLine};
+ghost use Rattle.fond_cert.specs.Printed.{fed, chosen_text, places_text, cond_text, pair_text, rule_text, layer_text, way_text, item_text, plan_text, policy_text, items_text, cover_text, refusal_text};
 ghost use Rattle.fond_cert.specs.Spellings.{written_cube, spelling};
 ghost use Rattle.std.specs.Fmt.{decimal};
 ghost use Rattle.std.specs.List.{flat_map};
 ghost use Rattle.std.specs.Prelude.{◌≡◌, ◌++◌, ℕ, List, All, codes, OnOk, OnErr};
 
-use crate::put::{put_act, put_cube, put_target, put_targets};
+use crate::put::{put_act, put_cube, put_item_numbers, put_spaced, put_target, put_targets};
+use fond_cover::item::{Item, Way};
+use fond_cover::items::Items;
 use fond_game::rule::{Pair, Rule, Targets};
 use fond_layers::layers::{Layer, Layers};
 use fond_policy::cert::Cert;
@@ -53,15 +55,6 @@ fn put_layers(task: &Task, layers: &Layers, out: &mut Vec<u8>) -> Result<(), NoM
         put_layer(task, layers.get(i), out)?;
     }
     Ok(())
-}
-
-/// Appends a number after a space.
-fn put_spaced(number: u32, out: &mut Vec<u8>) -> Result<(), NoMemory>
-    ensures ok { OnOk result (out.new.items ≡ out.old.items ++ (codes " " ++ decimal number)) }
-    ensures grew { (more : List ℕ) × (out.new.items ≡ out.old.items ++ more) }
-{
-    out.extend_from_slice(b" ")?;
-    put_number(out, number as u64)
 }
 
 /// Appends a condition at the end of a line.
@@ -163,25 +156,83 @@ fn put_reach(reach: u64, out: &mut Vec<u8>) -> Result<(), NoMemory>
     Ok(())
 }
 
-/// Appends the lines of pairs and rules, and the reach line.
+/// Appends the start line.
+fn put_start(start: u32, out: &mut Vec<u8>) -> Result<(), NoMemory>
+    ensures ok { OnOk result (out.new.items ≡ out.old.items ++ fed (StartLine (decimal start))) }
+    ensures grew { (more : List ℕ) × (out.new.items ≡ out.old.items ++ more) }
+{
+    out.extend_from_slice(b"start ")?;
+    put_number(out, start as u64)?;
+    out.extend_from_slice(b"\n")?;
+    Ok(())
+}
+
+/// Appends a way, after the word of its line.
+fn put_way(way: &Way, out: &mut Vec<u8>) -> Result<(), NoMemory>
+    ensures ok { OnOk result (out.new.items ≡ out.old.items ++ way_text way.now) }
+    ensures grew { (more : List ℕ) × (out.new.items ≡ out.old.items ++ more) }
+{
+    match way {
+        Way::Goal => {
+            out.extend_from_slice(b"goal")?;
+            Ok(())
+        }
+        Way::Rule { rule, items } => {
+            put_number(out, *rule as u64)?;
+            put_item_numbers(items, out)
+        }
+    }
+}
+
+/// Appends the line of an item.
+fn put_item(task: &Task, item: &Item, out: &mut Vec<u8>) -> Result<(), NoMemory>
+    ensures ok { OnOk result (out.new.items ≡ out.old.items ++ item_text task.now item.now) }
+    ensures grew { (more : List ℕ) × (out.new.items ≡ out.old.items ++ more) }
+{
+    out.extend_from_slice(b"item ")?;
+    put_way(&item.way, out)?;
+    put_cond(task, &item.cube, out)
+}
+
+/// Appends the lines of items.
+fn put_items(task: &Task, items: &Items, out: &mut Vec<u8>) -> Result<(), NoMemory>
+    ensures ok { OnOk result (out.new.items ≡ out.old.items ++ flat_map (item_text task.now) items.now) }
+    ensures grew { (more : List ℕ) × (out.new.items ≡ out.old.items ++ more) }
+{
+    for i in 0..items.len() {
+        put_item(task, items.get(i), out)?;
+    }
+    Ok(())
+}
+
+/// Appends the lines of items and the start line.
+fn put_cover(task: &Task, items: &Items, start: u32, out: &mut Vec<u8>) -> Result<(), NoMemory>
+    ensures ok { OnOk result (out.new.items ≡ out.old.items ++ items_text task.now items.now start) }
+    ensures grew { (more : List ℕ) × (out.new.items ≡ out.old.items ++ more) }
+{
+    put_items(task, items, out)?;
+    put_start(start, out)
+}
+
+/// Appends the lines of layers, pairs and rules.
 fn put_plan(
     task: &Task,
+    layers: &Layers,
     pairs: &Pairs,
     rules: &Rules,
-    reach: u64,
     out: &mut Vec<u8>,
 ) -> Result<(), NoMemory>
     requires pairs { All (IsPairOf task.now) pairs.now }
     requires rules { All (IsRuleOf task.now) rules.now }
-    ensures ok { OnOk result (out.new.items ≡ out.old.items ++ plan_text task.now pairs.now rules.now reach) }
+    ensures ok { OnOk result (out.new.items ≡ out.old.items ++ plan_text task.now layers.now pairs.now rules.now) }
     ensures grew { (more : List ℕ) × (out.new.items ≡ out.old.items ++ more) }
 {
+    put_layers(task, layers, out)?;
     put_pairs(task, pairs, out)?;
-    put_rules(task, rules, out)?;
-    put_reach(reach, out)
+    put_rules(task, rules, out)
 }
 
-/// Appends the lines of a policy.
+/// Appends the lines of a policy with a reach number.
 fn put_policy(
     task: &Task,
     layers: &Layers,
@@ -196,8 +247,30 @@ fn put_policy(
     ensures grew { (more : List ℕ) × (out.new.items ≡ out.old.items ++ more) }
 {
     out.extend_from_slice(b"dualfond 1 policy\n")?;
-    put_layers(task, layers, out)?;
-    put_plan(task, pairs, rules, reach, out)?;
+    put_plan(task, layers, pairs, rules, out)?;
+    put_reach(reach, out)?;
+    out.extend_from_slice(b"end\n")?;
+    Ok(())
+}
+
+/// Appends the lines of a policy with a cover.
+fn put_covered(
+    task: &Task,
+    layers: &Layers,
+    pairs: &Pairs,
+    rules: &Rules,
+    items: &Items,
+    start: u32,
+    out: &mut Vec<u8>,
+) -> Result<(), NoMemory>
+    requires pairs { All (IsPairOf task.now) pairs.now }
+    requires rules { All (IsRuleOf task.now) rules.now }
+    ensures ok { OnOk result (out.new.items ≡ out.old.items ++ cover_text task.now layers.now pairs.now rules.now items.now start) }
+    ensures grew { (more : List ℕ) × (out.new.items ≡ out.old.items ++ more) }
+{
+    out.extend_from_slice(b"dualfond 2 policy\n")?;
+    put_plan(task, layers, pairs, rules, out)?;
+    put_cover(task, items, start, out)?;
     out.extend_from_slice(b"end\n")?;
     Ok(())
 }
@@ -227,11 +300,18 @@ fn put_lines(task: &Task, cert: &Cert, out: &mut Vec<u8>) -> Result<(), NoMemory
             reach,
         } => put_policy(task, layers, pairs, rules, *reach, out),
         Cert::Refusal { layers } => put_refusal(task, layers, out),
+        Cert::Covered {
+            layers,
+            pairs,
+            rules,
+            items,
+            start,
+        } => put_covered(task, layers, pairs, rules, items, *start, out),
     }
 }
 
 /// Appends the text of a certificate, or nothing if memory runs out. Takes time in the length of the text, and in the
-/// number of the task's atoms for each cube, pair and rule; no memory but for the text.
+/// number of the task's atoms for each cube, pair, rule and item; no memory but for the text.
 pub fn print_cert(task: &Task, cert: &Cert, out: &mut Vec<u8>) -> Result<(), NoMemory>
     requires { Belongs task.now cert.now }
     ensures ok { OnOk result (out.new.items ≡ out.old.items ++ spelling task.now cert.now) }

@@ -2,11 +2,13 @@
 //! atoms for each cube.
 
 ghost use Rattle.fond_cert.specs.Cutting.{literals_text, target_text, targets_text};
-ghost use Rattle.fond_cert.specs.Lines.{group_text};
-ghost use Rattle.fond_cert.specs.Printed.{item_text, cube_text};
+ghost use Rattle.fond_cert.specs.Lines.{group_text, spaced};
+ghost use Rattle.fond_cert.specs.Printed.{atom_literal_text, cube_text};
 ghost use Rattle.fond_cert.specs.Spellings.{act_leaves, written_cube, written_target};
-ghost use Rattle.std.specs.Prelude.{◌≡◌, ◌++◌, ◌<◌, ℕ, List, length, map, OnOk};
+ghost use Rattle.std.specs.Fmt.{decimal};
+ghost use Rattle.std.specs.Prelude.{◌≡◌, ◌++◌, ◌<◌, ℕ, List, codes, length, map, OnOk};
 
+use fond_cover::item::ItemNumbers;
 use fond_game::rule::{Target, TargetList};
 use fond_state::cube::Cube;
 use fond_task::task::{Labels, Task};
@@ -22,7 +24,7 @@ fn put_literal(
     literal: Option<bool>,
     out: &mut Vec<u8>,
 ) -> Result<(), NoMemory>
-    ensures ok { OnOk result (out.new.items ≡ out.old.items ++ item_text labels.now atom.now literal) }
+    ensures ok { OnOk result (out.new.items ≡ out.old.items ++ atom_literal_text labels.now atom.now literal) }
     ensures grew { (more : List ℕ) × (out.new.items ≡ out.old.items ++ more) }
 {
     let Some(sign) = literal else {
@@ -37,7 +39,7 @@ fn put_literal(
 }
 
 /// Appends the literals of the cube, atom by atom.
-fn put_items(task: &Task, cube: &Cube, out: &mut Vec<u8>) -> Result<(), NoMemory>
+fn put_literals(task: &Task, cube: &Cube, out: &mut Vec<u8>) -> Result<(), NoMemory>
     ensures ok { OnOk result (out.new.items ≡ out.old.items ++ cube_text task.now cube.now) }
     ensures grew { (more : List ℕ) × (out.new.items ≡ out.old.items ++ more) }
 {
@@ -52,7 +54,7 @@ pub(crate) fn put_cube(task: &Task, cube: &Cube, out: &mut Vec<u8>) -> Result<()
     ensures ok { OnOk result (out.new.items ≡ out.old.items ++ literals_text (written_cube task.now cube.now)) }
     ensures grew { (more : List ℕ) × (out.new.items ≡ out.old.items ++ more) }
 {
-    put_items(task, cube, out)
+    put_literals(task, cube, out)
 }
 
 /// Appends the action of this number.
@@ -86,6 +88,26 @@ pub(crate) fn put_targets(targets: &TargetList, out: &mut Vec<u8>) -> Result<(),
     for target in targets.as_slice() {
         out.extend_from_slice(b" ")?;
         put_target(*target, out)?;
+    }
+    Ok(())
+}
+
+/// Appends a number after a space.
+pub(crate) fn put_spaced(number: u32, out: &mut Vec<u8>) -> Result<(), NoMemory>
+    ensures ok { OnOk result (out.new.items ≡ out.old.items ++ (codes " " ++ decimal number)) }
+    ensures grew { (more : List ℕ) × (out.new.items ≡ out.old.items ++ more) }
+{
+    out.extend_from_slice(b" ")?;
+    put_number(out, number as u64)
+}
+
+/// Appends the numbers of items, each after a space.
+pub(crate) fn put_item_numbers(items: &ItemNumbers, out: &mut Vec<u8>) -> Result<(), NoMemory>
+    ensures ok { OnOk result (out.new.items ≡ out.old.items ++ spaced (map decimal items.now)) }
+    ensures grew { (more : List ℕ) × (out.new.items ≡ out.old.items ++ more) }
+{
+    for item in items.as_slice() {
+        put_spaced(*item, out)?;
     }
     Ok(())
 }

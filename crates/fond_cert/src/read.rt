@@ -12,27 +12,44 @@ use crate::draft::Draft;
 use crate::error::CertError;
 use crate::lines::read_lines;
 use fond_policy::cert::Cert;
+use fond_rules::rules::Rules;
 use fond_task::task::Task;
 use fond_task::task_index::TaskIndex;
 use fond_text::fault::NoMemory;
 use std::alloc::Global;
 
+/// The rules, with an index of all of them.
+fn indexed(rules: Rules) -> Result<Rules, NoMemory>
+    ensures { IfOk result (λ indexed. indexed ≡ rules) }
+{
+    let mut indexed = rules;
+    indexed.index()?;
+    Ok(indexed)
+}
+
 /// The certificate of a draft, with an index of all its rules.
 fn finish(draft: Draft) -> Result<Cert, NoMemory>
     ensures { IfOk result (λ cert. cert ≡ cert_of draft) }
 {
-    let Some(reach) = draft.reach else {
+    if let Some(reach) = draft.reach {
+        return Ok(Cert::Policy {
+            layers: draft.layers,
+            pairs: draft.pairs,
+            rules: indexed(draft.rules)?,
+            reach,
+        });
+    }
+    let Some(start) = draft.start else {
         return Ok(Cert::Refusal {
             layers: draft.layers,
         });
     };
-    let mut rules = draft.rules;
-    rules.index()?;
-    Ok(Cert::Policy {
+    Ok(Cert::Covered {
         layers: draft.layers,
         pairs: draft.pairs,
-        rules,
-        reach,
+        rules: indexed(draft.rules)?,
+        items: draft.items,
+        start,
     })
 }
 
@@ -49,7 +66,7 @@ fn read_with(alloc: Global, index: &TaskIndex, text: &[u8]) -> Result<Cert, Cert
 
 /// The certificate that a text spells, or the text's first fault (docs/CERTIFICATES.md). Takes time linear in the length
 /// of the text, in that of the names of all actions and atoms of the task, and in the number of atoms for each cube,
-/// pair and rule; memory for the certificate and the names.
+/// pair, rule and item; memory for the certificate and the names.
 pub fn read_cert(alloc: Global, task: &Task, text: &[u8]) -> Result<Cert, CertError>
     ensures belongs { IfOk result (Belongs task.now) }
     ensures small { IfOk result HasSmallNumbers }

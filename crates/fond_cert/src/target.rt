@@ -1,10 +1,10 @@
 //! Reading numbers and targets.
 
 ghost use Rattle.fond_cert.specs.Refusals.{LineRefuses};
-ghost use Rattle.fond_cert.specs.Checked.{as_target, AreTargetsText, AreTargetsAt, IsTargetRefused, ReadsNumber, IsNumberRefused, ReadsTarget, IsTargetTooLarge};
+ghost use Rattle.fond_cert.specs.Checked.{as_target, AreTargetsAt, IsTargetRefused, AreNumbersAt, IsOneNumberRefused, ReadsNumber, IsNumberRefused, ReadsTarget, IsTargetTooLarge};
 ghost use Rattle.fond_cert.specs.declared.error.LineError.TheVariants.{Refused as RefusedLine};
 ghost use Rattle.fond_cert.specs.Lines.{is_number, target_piece};
-ghost use Rattle.fond_cert.specs.Parts.{is_target};
+ghost use Rattle.fond_cert.specs.Parts.{is_target, AreWordsText};
 ghost use Rattle.fond_cert.specs.Words.{piece_code};
 ghost use Rattle.fond_task.specs.declared.task.Task.{Task};
 ghost use Rattle.std.specs.Prelude.{◌≡◌, ◌+◌, ◌<◌, ◌≤◌, ◌^◌, Some, length, IsTrue, MatchOption, IfOk, IfErr};
@@ -14,6 +14,7 @@ use crate::error::LineError;
 use crate::part::Part;
 use crate::scan::after;
 use crate::word::{number, word};
+use fond_cover::item::ItemNumbers;
 use fond_game::rule::{Target, TargetList};
 use std::alloc::Global;
 
@@ -72,7 +73,7 @@ pub(crate) fn read_target(word: Part) -> Result<Target, LineError>
 
 /// The targets of the text, each after a space. The text begins at this byte of its line.
 fn targets_at(alloc: Global, text: &[u8], at: usize) -> Result<TargetList, LineError>
-    requires spelled { AreTargetsText text.now }
+    requires spelled { AreWordsText is_target text.now }
     requires within { at + length text.now < 2 ^ 64 }
     ensures read { IfOk result (λ targets. (task : Task) → AreTargetsAt task at text.now targets) }
     ensures wrong { IfErr result (λ error. (task : Task) → LineRefuses (IsTargetRefused task at text.now) error) }
@@ -95,9 +96,41 @@ fn targets_at(alloc: Global, text: &[u8], at: usize) -> Result<TargetList, LineE
 
 /// Targets. Takes time in the length of their text; memory for the targets.
 pub(crate) fn read_targets(alloc: Global, targets: Part) -> Result<TargetList, LineError>
-    requires { AreTargetsText targets.text.now }
+    requires { AreWordsText is_target targets.text.now }
     ensures read { IfOk result (λ read. (task : Task) → AreTargetsAt task targets.entry.at targets.entry.text.now read) }
     ensures wrong { IfErr result (λ error. (task : Task) → LineRefuses (IsTargetRefused task targets.entry.at targets.entry.text.now) error) }
 {
     targets_at(alloc, targets.text, targets.at)
+}
+
+/// The numbers of the text, each after a space. The text begins at this byte of its line.
+fn numbers_at(alloc: Global, text: &[u8], at: usize) -> Result<ItemNumbers, LineError>
+    requires spelled { AreWordsText is_number text.now }
+    requires within { at + length text.now < 2 ^ 64 }
+    ensures read { IfOk result (λ numbers. (task : Task) → AreNumbersAt task at text.now numbers) }
+    ensures wrong { IfErr result (λ error. (task : Task) → LineRefuses (IsOneNumberRefused task at text.now) error) }
+{
+    let mut numbers = ItemNumbers::new(alloc);
+    let mut rest = text;
+    while let Some(inner) = after(rest, b" ") {
+        let (word, further) = word(inner);
+        let Some(number) = short_number(word) else {
+            return Err(LineError::Refused {
+                code: 4,
+                at: at + (text.len() - inner.len()),
+            });
+        };
+        numbers.push(number)?;
+        rest = further;
+    }
+    Ok(numbers)
+}
+
+/// The numbers of items. Takes time in the length of their text; memory for the numbers.
+pub(crate) fn read_item_numbers(alloc: Global, items: Part) -> Result<ItemNumbers, LineError>
+    requires { AreWordsText is_number items.text.now }
+    ensures read { IfOk result (λ read. (task : Task) → AreNumbersAt task items.entry.at items.entry.text.now read) }
+    ensures wrong { IfErr result (λ error. (task : Task) → LineRefuses (IsOneNumberRefused task items.entry.at items.entry.text.now) error) }
+{
+    numbers_at(alloc, items.text, items.at)
 }

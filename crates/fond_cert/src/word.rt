@@ -7,10 +7,18 @@ ghost use Rattle.fond_cert.specs.Lines.{is_number};
 ghost use Rattle.std.specs.Char.{is_ascii_digit};
 ghost use Rattle.std.specs.List.{list_all};
 ghost use Rattle.fond_cert.specs.Lines.{spaced};
-ghost use Rattle.fond_cert.specs.Parts.{is_target, AreTargets, EndsWord, HasNoTarget, IsCut};
+ghost use Rattle.fond_cert.specs.Parts.{is_target, AreWords, EndsWord, HasNoWord, IsCut};
+ghost use Rattle.fond_cert.specs.Stages.{test_of};
 
 use crate::scan::{after, len_before};
 use fond_text::number::read_number;
+
+/// A kind of words of which a line has several.
+#[derive(Clone, Copy)]
+pub enum WordKind {
+    Target,
+    Number,
+}
 
 /// Whether all bytes are digits.
 fn are_digits(word: &[u8]) -> bool
@@ -54,22 +62,33 @@ pub fn is_target(word: &[u8]) -> bool
     word == b"goal".as_slice() || is_number(word)
 }
 
-/// The rest after a space and a target, if the text begins with them.
-fn after_target<'a>(text: &'a [u8]) -> Option<&'a [u8]>
-    ensures { MatchOption result (HasNoTarget text.now) (λ rest. (word : List ℕ) × IsTrue (is_target word) × EndsWord rest.now × (text.now ≡ codes " " ++ (word ++ rest.now))) }
+/// Whether the word is of the kind.
+fn is_of(kind: WordKind, word: &[u8]) -> bool
+    ensures { result ≡ test_of kind word.now }
 {
-    let (word, rest) = word(after(text, b" ")?);
-    if is_target(word) { Some(rest) } else { None }
+    match kind {
+        WordKind::Target => is_target(word),
+        WordKind::Number => is_number(word),
+    }
 }
 
-/// The rest after all the targets with which the text begins, each after a space.
-pub fn after_targets<'a>(text: &'a [u8]) -> &'a [u8]
-    ensures ended { HasNoTarget result.now }
-    ensures cut { (words : List (List ℕ)) × AreTargets words × (text.now ≡ spaced words ++ result.now) }
+/// The rest after a space and a word of the kind, if the text begins with them.
+fn after_word<'a>(kind: WordKind, text: &'a [u8]) -> Option<&'a [u8]>
+    ensures { MatchOption result (HasNoWord (test_of kind) text.now)
+        (λ rest. (word : List ℕ) × IsTrue (test_of kind word) × EndsWord rest.now × (text.now ≡ codes " " ++ (word ++ rest.now))) }
+{
+    let (word, rest) = word(after(text, b" ")?);
+    if is_of(kind, word) { Some(rest) } else { None }
+}
+
+/// The rest after all the words of the kind with which the text begins, each after a space.
+pub fn after_words<'a>(kind: WordKind, text: &'a [u8]) -> &'a [u8]
+    ensures ended { HasNoWord (test_of kind) result.now }
+    ensures cut { (words : List (List ℕ)) × AreWords (test_of kind) words × (text.now ≡ spaced words ++ result.now) }
     ensures ends { EndsWord text.now → EndsWord result.now }
 {
     let mut rest = text;
-    while let Some(next) = after_target(rest) {
+    while let Some(next) = after_word(kind, rest) {
         rest = next;
     }
     rest

@@ -1,11 +1,12 @@
 use Rattle.std.proofs.Common.{◌≡◌, ℕ, List, ◌++◌, length}
 use Rattle.fond_cert.specs.Lines.{spaced}
-use Rattle.fond_cert.specs.Parts.{AreTargets, EndsWord}
-use Rattle.fond_cert.proofs.word.after_targets.Given as goal
+use Rattle.fond_cert.specs.Parts.{AreWords, EndsWord}
+use Rattle.fond_cert.specs.Stages.{test_of}
+use Rattle.fond_cert.proofs.word.after_words.Given as goal
 
 abbrev pub invariant-loop-next : goal.invariant-loop-next
 invariant-loop-next l = record {
-  cut : (words : List (List ℕ)) × AreTargets words × (l.text ≡ spaced words ++ l.rest);
+  cut : (words : List (List ℕ)) × AreWords (test_of l.kind) words × (l.text ≡ spaced words ++ l.rest);
   ends : EndsWord l.text → EndsWord l.rest;
 }
 
