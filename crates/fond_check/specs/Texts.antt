@@ -5,15 +5,15 @@ use Rattle.std.specs.Option.{option_map_or}
 use Rattle.fond_task.specs.declared.task.Task.{Task}
 use Rattle.fond_task.specs.Texts.{action_text, state_text}
 use Rattle.fond_policy.specs.declared.cert.Cert.{Cert}
-use Rattle.fond_policy.specs.declared.cert.Cert.TheVariants.{Policy, Refusal}
+use Rattle.fond_policy.specs.declared.cert.Cert.TheVariants.{Refusal}
 use Rattle.fond_check.specs.declared.verdict.Verdict.{Verdict}
-use Rattle.fond_check.specs.declared.verdict.Verdict.TheVariants.{Accepted, Rule, Pair, LayerGoal, LayerAct, NoRule, Count, Outside}
+use Rattle.fond_check.specs.declared.verdict.Verdict.TheVariants.{Accepted, Rule, Pair, LayerGoal, LayerAct, NoRule, Count, Outside, Item, Start}
 
 -- the line for a certificate that is accepted: a refusal, or a policy that is lean or not
 abbrev pub accepted_text : Cert → Bool → List ℕ
 accepted_text (Refusal layers) lean = codes "accepted refusal\n"
-accepted_text (Policy layers pairs rules reach) true = codes "accepted policy lean\n"
-accepted_text (Policy layers pairs rules reach) false = codes "accepted policy plain\n"
+accepted_text policy true = codes "accepted policy lean\n"
+accepted_text policy false = codes "accepted policy plain\n"
 
 -- the text of the action of this number
 abbrev pub numbered_text : Task → ℕ → List ℕ
@@ -34,3 +34,5 @@ verdict_text task cert (Count true) = codes "rejected V5 more\n"
 verdict_text task cert (Count false) = codes "rejected V5 fewer\n"
 verdict_text task cert (NoRule state) = codes "rejected V4\n" ++ state_text task state
 verdict_text task cert Outside = codes "rejected V6\n"
+verdict_text task cert (Item number) = codes "rejected V7 item " ++ decimal number ++ codes "\n"
+verdict_text task cert Start = codes "rejected V8\n"

@@ -1,15 +1,22 @@
 //! Checking a certificate.
 
-ghost use Rattle.fond_policy.specs.Belongs.{Belongs, BelongAsLayers, BelongAsPairs, BelongAsRules};
+ghost use Rattle.fond_policy.specs.Belongs.{Belongs, BelongAsItems, BelongAsLayers, BelongAsPairs, BelongAsRules};
 ghost use Rattle.fond_policy.specs.Parts.{ArePartsSure};
-ghost use Rattle.fond_game.specs.Layers.{AreSureLayers};
-ghost use Rattle.fond_check.specs.Verdicts.{IsPolicyVerdict, IsRefusalVerdict, IsVerdict, of_spot};
+ghost use Rattle.fond_game.specs.Layers.{CubeView};
+ghost use Rattle.fond_game.specs.declared.rule.Pair.{Pair};
+ghost use Rattle.fond_cover.specs.Covers.{IsIn};
+ghost use Rattle.fond_cover.specs.Items.{firsts_of, AreSureItems};
+ghost use Rattle.fond_check.specs.Verdicts.{IsCoverVerdict, IsPartFault, IsPolicyVerdict, IsRefusalVerdict, IsVerdict, of_spot};
 ghost use Rattle.fond_policy.specs.Walks.{IsWalked};
-ghost use Rattle.std.specs.Prelude.{◌≡◌, length, IfOk};
+ghost use Rattle.std.specs.Prelude.{◌≡◌, List, length, IfOk, MatchOption};
 
-use crate::lean::are_lean;
+use crate::items::{first_bad_item, is_in_item};
+use crate::lean::{are_all_lean, are_lean};
 use crate::parts::{first_bad_layer, first_bad_pair, first_bad_rule};
 use crate::verdict::Verdict;
+use fond_cover::conditions::Conditions;
+use fond_cover::items::Items;
+use fond_cover::pad::CoverPad;
 use fond_layers::fault::Spot;
 use fond_layers::layers::Layers;
 use fond_policy::cert::Cert;
@@ -63,34 +70,35 @@ fn reach_verdict(
     }
 }
 
-/// The verdict on a policy whose layers are sure.
-fn plan_verdict(
+/// The verdict for the first layer, pair or rule that is not sure, if there is one.
+fn part_fault(
     alloc: Global,
     t: &Task,
     layers: &Layers,
     pairs: &Pairs,
     rules: &Rules,
-    reach: u64,
     pad: &mut Pad,
-) -> Result<Verdict, NoMemory>
+) -> Result<Option<Verdict>, NoMemory>
     requires layers_belong { BelongAsLayers t.now layers.now }
     requires pairs_belong { BelongAsPairs t.now pairs.now }
     requires rules_belong { BelongAsRules t.now rules.now }
-    requires layers_sure { AreSureLayers t.now layers.now }
     requires pad { pad.old ≡ length t.now.atoms }
-    ensures { IfOk result (IsPolicyVerdict t.now layers.now pairs.now rules.now reach) }
+    ensures same_pad { pad.new ≡ pad.old }
+    ensures first { IfOk result (λ found. MatchOption found (ArePartsSure t.now layers.now pairs.now rules.now) (IsPartFault t.now layers.now pairs.now rules.now)) }
 {
+    if let Some((layer, spot)) = first_bad_layer(alloc, t, layers)? {
+        return Ok(Some(layer_verdict(layer, spot)));
+    }
     if let Some(at) = first_bad_pair(t, layers, pairs, pad) {
-        return Ok(Verdict::Pair { at });
+        return Ok(Some(Verdict::Pair { at }));
     }
     if let Some(at) = first_bad_rule(t, pairs, rules, pad) {
-        return Ok(Verdict::Rule { at });
+        return Ok(Some(Verdict::Rule { at }));
     }
-    let walked = walk(alloc, t, pairs, rules, reach)?;
-    Ok(reach_verdict(t, layers, pairs, rules, reach, walked, pad))
+    Ok(None)
 }
 
-/// The verdict on a policy.
+/// The verdict on a policy with a reach number.
 fn check_policy(
     alloc: Global,
     t: &Task,
@@ -104,11 +112,66 @@ fn check_policy(
     requires rules_belong { BelongAsRules t.now rules.now }
     ensures { IfOk result (IsPolicyVerdict t.now layers.now pairs.now rules.now reach) }
 {
-    if let Some((layer, spot)) = first_bad_layer(alloc, t, layers)? {
-        return Ok(layer_verdict(layer, spot));
-    }
     let mut pad = Pad::new(alloc, t.atoms.len() as u32)?;
-    plan_verdict(alloc, t, layers, pairs, rules, reach, &mut pad)
+    if let Some(fault) = part_fault(alloc, t, layers, pairs, rules, &mut pad)? {
+        return Ok(fault);
+    }
+    let walked = walk(alloc, t, pairs, rules, reach)?;
+    Ok(reach_verdict(t, layers, pairs, rules, reach, walked, &mut pad))
+}
+
+/// The verdict for the first item that is not sure, or for the start item, if the initial state does not lie in it.
+fn item_fault(
+    t: &Task,
+    rules: &Rules,
+    items: &Items,
+    start: u32,
+    pad: &mut CoverPad,
+) -> Option<Verdict>
+    requires rules_belong { BelongAsRules t.now rules.now }
+    requires items_belong { BelongAsItems t.now items.now }
+    requires pad { pad.old ≡ length t.now.atoms }
+    ensures same_pad { pad.new ≡ pad.old }
+    ensures first { MatchOption result (AreSureItems t.now (firsts_of rules.now) items.now × IsIn items.now start t.now.init)
+        (λ fault. (layers : List (List CubeView)) (pairs : List Pair) → ArePartsSure t.now layers pairs rules.now → IsCoverVerdict t.now layers pairs rules.now items.now start fault) }
+{
+    if let Some(at) = first_bad_item(t, rules, items, pad) {
+        return Some(Verdict::Item { at });
+    }
+    if !is_in_item(items, start, &t.init) {
+        return Some(Verdict::Start);
+    }
+    None
+}
+
+/// The verdict on a policy with a cover.
+fn check_cover(
+    alloc: Global,
+    t: &Task,
+    layers: &Layers,
+    pairs: &Pairs,
+    rules: &Rules,
+    items: &Items,
+    start: u32,
+) -> Result<Verdict, NoMemory>
+    requires layers_belong { BelongAsLayers t.now layers.now }
+    requires pairs_belong { BelongAsPairs t.now pairs.now }
+    requires rules_belong { BelongAsRules t.now rules.now }
+    requires items_belong { BelongAsItems t.now items.now }
+    ensures { IfOk result (IsCoverVerdict t.now layers.now pairs.now rules.now items.now start) }
+{
+    let mut pad = Pad::new(alloc, t.atoms.len() as u32)?;
+    if let Some(fault) = part_fault(alloc, t, layers, pairs, rules, &mut pad)? {
+        return Ok(fault);
+    }
+    let mut cover_pad = CoverPad::new(alloc, t.atoms.len() as u32)?;
+    if let Some(fault) = item_fault(t, rules, items, start, &mut cover_pad) {
+        return Ok(fault);
+    }
+    cover_pad.index(&Conditions::new(rules))?;
+    Ok(Verdict::Accepted {
+        lean: are_all_lean(t, layers, pairs, rules, items, &mut pad, &mut cover_pad),
+    })
 }
 
 /// The verdict on a refusal.
@@ -126,8 +189,10 @@ fn check_refusal(alloc: Global, t: &Task, layers: &Layers) -> Result<Verdict, No
 }
 
 /// The verdict on a certificate: that it is correct, or its first fault. Tests each layer, pair and rule once for being
-/// sure, and walks through the states that the rules reach, breadth first, until they are more than the certificate says.
-/// A correct policy is also tested for being lean. Takes memory for the reached states.
+/// sure. If there is a reach number, it walks through the states that the rules reach, breadth first, until they are more
+/// than this number, and takes memory for them. If there is a cover, it tests each item once for being sure, and visits no
+/// state. A correct policy is also tested for being lean; with a cover, this takes memory in the number of literals of the
+/// conditions of the rules.
 pub fn check(alloc: Global, t: &Task, cert: &Cert) -> Result<Verdict, NoMemory>
     requires { Belongs t.now cert.now }
     ensures { IfOk result (IsVerdict t.now cert.now) }
@@ -140,5 +205,12 @@ pub fn check(alloc: Global, t: &Task, cert: &Cert) -> Result<Verdict, NoMemory>
             reach,
         } => check_policy(alloc, t, layers, pairs, rules, *reach),
         Cert::Refusal { layers } => check_refusal(alloc, t, layers),
+        Cert::Covered {
+            layers,
+            pairs,
+            rules,
+            items,
+            start,
+        } => check_cover(alloc, t, layers, pairs, rules, items, *start),
     }
 }

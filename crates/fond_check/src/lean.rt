@@ -1,6 +1,7 @@
-//! Whether all pairs and rules of a certificate are lean.
+//! Whether all pairs, rules and items of a certificate are lean.
 
-ghost use Rattle.fond_policy.specs.Parts.{AreLean};
+ghost use Rattle.fond_policy.specs.Parts.{AreAllLean, AreLean};
+ghost use Rattle.fond_cover.specs.Items.{firsts_of, AreItemsOver, AreLeanItems};
 ghost use Rattle.fond_game.specs.Rules.{IsLeanPair, IsLeanRule};
 ghost use Rattle.fond_game.specs.declared.rule.Pair.{Pair};
 ghost use Rattle.fond_game.specs.declared.rule.Rule.{Rule};
@@ -9,6 +10,10 @@ ghost use Rattle.fond_rules.specs.Belongs.{ArePairsOver, BelongTo};
 ghost use Rattle.std.specs.Prelude.{◌≡◌, ℕ, length, slice_get, Some, Contains, Decides};
 
 use crate::parts::is_lean_pair;
+use fond_cover::conditions::Conditions;
+use fond_cover::items::Items;
+use fond_cover::lean::lean_item;
+use fond_cover::pad::CoverPad;
 use fond_layers::layers::Layers;
 use fond_rules::pad::Pad;
 use fond_rules::pairs::Pairs;
@@ -65,4 +70,42 @@ pub(crate) fn are_lean(
     ensures decides { Decides result (AreLean t.now layers.now pairs.now rules.now) }
 {
     are_pairs_lean(t, layers, pairs, pad) && are_rules_lean(t, pairs, rules, pad)
+}
+
+/// Whether all items are lean. Takes the time of `lean_item` for each item.
+fn are_items_lean(t: &Task, rules: &Rules, items: &Items, pad: &mut CoverPad) -> bool
+    requires belong { BelongTo t.now rules.now }
+    requires over { AreItemsOver (length t.now.atoms) items.now }
+    requires pad { pad.old ≡ length t.now.atoms }
+    ensures same_pad { pad.new ≡ pad.old }
+    ensures decides { Decides result (AreLeanItems t.now (firsts_of rules.now) items.now) }
+{
+    let conditions = Conditions::new(rules);
+    for at in 0..items.len() {
+        if !lean_item(t, &conditions, items, at, pad) {
+            return false;
+        }
+    }
+    true
+}
+
+/// Whether all pairs, rules and items are lean. Takes the time of `are_lean`, and that of `lean_item` for each item.
+pub(crate) fn are_all_lean(
+    t: &Task,
+    layers: &Layers,
+    pairs: &Pairs,
+    rules: &Rules,
+    items: &Items,
+    pad: &mut Pad,
+    cover_pad: &mut CoverPad,
+) -> bool
+    requires over { AreOver (length t.now.atoms) layers.now }
+    requires pairs_over { ArePairsOver (length t.now.atoms) pairs.now }
+    requires belong { BelongTo t.now rules.now }
+    requires items_over { AreItemsOver (length t.now.atoms) items.now }
+    requires pad { pad.old ≡ length t.now.atoms }
+    requires cover_pad { cover_pad.old ≡ length t.now.atoms }
+    ensures { Decides result (AreAllLean t.now layers.now pairs.now rules.now items.now) }
+{
+    are_lean(t, layers, pairs, rules, pad) && are_items_lean(t, rules, items, cover_pad)
 }

@@ -4,6 +4,7 @@
 #![tactic(auto)]
 
 pub mod check;
+mod items;
 pub mod laws;
 mod lean;
 mod parts;

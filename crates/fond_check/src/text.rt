@@ -20,8 +20,10 @@ fn accepted_line(cert: &Cert, lean: bool) -> &'static [u8]
 {
     match cert {
         Cert::Refusal { .. } => b"accepted refusal\n".as_slice(),
-        Cert::Policy { .. } if lean => b"accepted policy lean\n".as_slice(),
-        Cert::Policy { .. } => b"accepted policy plain\n".as_slice(),
+        Cert::Policy { .. } | Cert::Covered { .. } if lean => {
+            b"accepted policy lean\n".as_slice()
+        }
+        Cert::Policy { .. } | Cert::Covered { .. } => b"accepted policy plain\n".as_slice(),
     }
 }
 
@@ -110,5 +112,7 @@ pub fn verdict_text(
         Verdict::Count { more: false } => Ok(Vec::from_slice(alloc, b"rejected V5 fewer\n")?),
         Verdict::NoRule { state } => state_lines(alloc, task, state),
         Verdict::Outside => Ok(Vec::from_slice(alloc, b"rejected V6\n")?),
+        Verdict::Item { at } => numbered_line(alloc, b"rejected V7 item ", u64::from(*at)),
+        Verdict::Start => Ok(Vec::from_slice(alloc, b"rejected V8\n")?),
     }
 }

@@ -1,0 +1,48 @@
+//! The first item of a certificate that is not sure, and whether a state lies in an item.
+
+ghost use Rattle.fond_check.specs.Verdicts.{IsFirstBadItem};
+ghost use Rattle.fond_cover.specs.Covers.{IsIn};
+ghost use Rattle.fond_cover.specs.Items.{firsts_of, AreItemsOver, AreSureItems};
+ghost use Rattle.fond_rules.specs.Belongs.{BelongTo};
+ghost use Rattle.std.specs.Prelude.{◌≡◌, length, Decides, MatchOption};
+
+use fond_cover::conditions::Conditions;
+use fond_cover::items::Items;
+use fond_cover::pad::CoverPad;
+use fond_cover::sure::sure_item;
+use fond_rules::rules::Rules;
+use fond_state::state::State;
+use fond_task::task::Task;
+
+/// The number of the first item that is not sure. Takes the time of `sure_item` for each item.
+pub(crate) fn first_bad_item(
+    t: &Task,
+    rules: &Rules,
+    items: &Items,
+    pad: &mut CoverPad,
+) -> Option<u32>
+    requires belong { BelongTo t.now rules.now }
+    requires over { AreItemsOver (length t.now.atoms) items.now }
+    requires pad { pad.old ≡ length t.now.atoms }
+    ensures same_pad { pad.new ≡ pad.old }
+    ensures first { MatchOption result (AreSureItems t.now (firsts_of rules.now) items.now) (IsFirstBadItem t.now rules.now items.now) }
+{
+    let conditions = Conditions::new(rules);
+    for at in 0..items.len() {
+        if !sure_item(t, &conditions, items, at, pad) {
+            return Some(at);
+        }
+    }
+    None
+}
+
+/// Whether there is an item of this number, and the state lies in its cube.
+pub(crate) fn is_in_item(items: &Items, number: u32, state: &State) -> bool
+    requires { AreItemsOver (length state.now) items.now }
+    ensures { Decides result (IsIn items.now number state.now) }
+{
+    if number >= items.len() {
+        return false;
+    }
+    items.get(number).cube.holds(state)
+}
