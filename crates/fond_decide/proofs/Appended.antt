@@ -198,6 +198,11 @@ stuck_full task from layers long stuck layer has cube one =
     let its = stuck.each layer has cube one in
     record { state = its.state; long = reachable_long task from long its.state its.reachable; full = its.full }
 
+-- stuck layers are over the atoms of the task
+pub stuck_over : (task : Task) (from : List Bool) (layers : LayerList) → length from ≡ length task.atoms → AreStuck task from layers → AreOver (length task.atoms) layers
+stuck_over task from layers long stuck = all_numbered (IsOver (length task.atoms)) layers (λ number layer at. all_numbered (λ (cube : CubeView). length cube ≡ length task.atoms) layer (λ i cube is.
+    full_long (length task.atoms) cube (stuck_full task from layers long stuck layer (Contains_numbered layers number layer at) cube (Contains_numbered layer i cube is))))
+
 -- an atom that has a literal is one of the cube's atoms
 literal_within : (cube : CubeView) (k : ℕ) (sign : Bool) → literal_at cube k ≡ Some sign → k < length cube
 literal_within [] k sign is = absurd (none-some sign is)

@@ -1,5 +1,6 @@
 -- Pairs that fit layers, and layers that are appended.
-use Rattle.std.proofs.Common.{◌≡◌, ℕ, List, [], ◌∷◌, ◌++◌, Some, length, slice_get, sym, ◌∙◌, subst, ⊎_elim}
+use Rattle.std.proofs.Common.{◌≡◌, ℕ, List, [], ◌∷◌, ◌++◌, Some, length, slice_get, sym, ◌∙◌, subst, ⊎_elim, arith}
+use Rattle.std.proofs.lemmas.Option.{slice_get_within}
 use Rattle.std.proofs.lemmas.List.Elements.{Contains-push_cases}
 use Rattle.fond_state.specs.Cubes.{without_literal}
 use Rattle.fond_task.specs.declared.task.Task.{Task}
@@ -61,3 +62,10 @@ module _ (task : Task) (old new : List (List CubeView)) (kept : (number : ℕ) (
         };
         small = one.small;
       }
+
+-- pairs that fit no layers fit any
+pub fitting_none : (task : Task) (old new : List (List CubeView)) → length old ≡ 0 → (pairs : List Pair) → AreFitting task old pairs → AreFitting task new pairs
+fitting_none task old new none pairs fit pair has =
+    let sure = (fit pair has).lean.sure in
+    let within = slice_get_within old pair.layer sure.layer sure.has_layer in
+    absurd (omega (arith, within, none))

@@ -13,3 +13,4 @@ pub mod Appended
 pub mod Walked
 pub mod Barred
 pub mod Right
+pub mod Turned

@@ -44,6 +44,14 @@ module _ {X : Type 0} where
       let one = element_at xs i within in
       subst P (sym (get_or_from_slice_get xs i one.0 d one.1)) (each i one.0 one.1)
 
+-- what holds of one item holds of each item of the list of it
+pub only_one : {X : Type 0} (P : X → Type 0) (x : X) → P x → All P (x ∷ [])
+only_one P x holds = all_numbered P (x ∷ []) at
+  where
+    at : (number : ℕ) (y : _) → slice_get (x ∷ []) number ≡ Some y → P y
+    at zero y is = subst P (same_Some x y is) holds
+    at (suc number) y is = absurd (none-some y is)
+
 -- a cube of layers over some atoms is over them
 pub over_cube : (atoms : ℕ) (layers : List (List CubeView)) (number : ℕ) (layer : List CubeView) (at : ℕ) (cube : CubeView) → AreOver atoms layers → slice_get layers number ≡ Some layer → slice_get layer at ≡ Some cube → length cube ≡ atoms
 over_cube atoms layers number layer at cube over has_layer has_cube =

@@ -1,14 +1,12 @@
 -- The certificates of what is found out are correct and lean.
-use Rattle.std.proofs.Common.{◌≡◌, ℕ, zero, suc, ◌<◌, ◌^◌, List, [], ◌∷◌, Some, length, slice_get, ap, subst, ◌∙◌, arith}
+use Rattle.std.proofs.Common.{◌≡◌, ℕ, ◌<◌, ◌^◌, List, [], ◌∷◌, Some, length, slice_get, arith}
 use Rattle.std.specs.Prelude.{All as Each}
-use Rattle.std.proofs.lemmas.List.{length-map}
-use Rattle.std.proofs.lemmas.Option.{none-some, same_Some, slice_get_within}
+use Rattle.std.proofs.lemmas.Option.{slice_get_within}
 use Rattle.fond_task.specs.declared.task.Act.{Act}
 use Rattle.fond_task.specs.declared.task.Task.{Task}
 use Rattle.fond_game.proofs.Lists.{Contains-here, Contains_numbered}
-use Rattle.fond_game.specs.Certificates.{LiesInLayers, ReachesCount}
+use Rattle.fond_game.specs.Certificates.{LiesInLayers}
 use Rattle.fond_game.specs.Layers.{CubeView}
-use Rattle.fond_game.specs.Policies.{selected}
 use Rattle.fond_game.specs.Rules.{AreMet, IsEarlier}
 use Rattle.fond_game.specs.declared.rule.Pair.{Pair}
 use Rattle.fond_game.specs.declared.rule.Rule.{Rule}
@@ -18,19 +16,19 @@ use Rattle.fond_game.specs.declared.rule.Targets.{Targets}
 use Rattle.fond_game.specs.declared.rule.Targets.TheVariants.{One, All}
 use Rattle.fond_layers.specs.Over.{IsOver}
 use Rattle.fond_rules.specs.Belongs.{HasTarget}
+use Rattle.fond_policy.specs.Belongs.{BelongAsRules}
 use Rattle.fond_policy.specs.Sizes.{AreSmallTargets, IsSmallPair, IsSmallTarget}
-use Rattle.fond_policy.specs.declared.cert.Cert.TheVariants.{Policy, Refusal}
+use Rattle.fond_policy.specs.declared.cert.Cert.TheVariants.{Refusal, Covered}
+use Rattle.fond_cover.specs.declared.item.Item.{Item}
+use Rattle.fond_covering.specs.Coverings.{IsCovering}
 use Rattle.fond_policy.proofs.Walking.{few_outcomes}
 use Rattle.fond_policy.specs.Parts.{AreSureRules}
-use Rattle.fond_policy.specs.Walks.{HasAllRuled}
-use Rattle.fond_explicit.specs.Answers.{AreStuck}
 use Rattle.fond_relax.specs.Stable.{IsHopelessBy}
 use Rattle.fond_relax.proofs.Hopeless.{stable_sure}
 use Rattle.fond_decide.specs.Decisions.{IsRightCert}
 use Rattle.fond_decide.specs.Drafts.{IsDraft, IsFitting}
 use Rattle.fond_decide.specs.declared.draft.Draft.{Draft}
-use Rattle.fond_decide.proofs.Lists.{all_numbered, element_at}
-use Rattle.fond_decide.proofs.Ready.{reachable_long}
+use Rattle.fond_decide.proofs.Lists.{all_numbered, element_at, only_one}
 use Rattle.fond_decide.proofs.Sure.{has_outcome}
 
 -- an action has an outcome, so targets that are met are at least one
@@ -63,64 +61,61 @@ module _ (task : Task) (draft : Draft) (is_draft : IsDraft task draft) where
   pub rules_sure : AreSureRules task draft.pairs draft.rules
   rules_sure number rule at = (is_draft.rules.lean number rule at).sure
 
-  -- the certificate of a draft whose rules hold in each state that they reach is correct and lean
-  pub right_policy : (reach : ℕ) → length draft.layers < 2 ^ 32 → Each (λ layer. length layer < 2 ^ 32) draft.layers → length draft.rules < 2 ^ 32 → reach < 2 ^ 64
-      → ReachesCount task (selected draft.rules) reach → HasAllRuled task draft.rules → IsRightCert task (Policy draft.layers draft.pairs draft.rules reach)
-  right_policy reach few few_cubes few_rules small counted ruled = record {
+  -- the rules of a draft belong to the task, if they are not too many
+  pub belong_as_rules : length draft.rules < 2 ^ 32 → BelongAsRules task draft.rules
+  belong_as_rules few_rules = record {
+    few = few_rules;
+    belong = is_draft.rules.belong;
+    targeted = all_numbered (λ (rule : Rule). HasTarget rule.targets) draft.rules (λ number rule at.
+        let sure = rules_sure number rule at in has_target task draft.rules number rule.cond sure.act rule.act rule.targets sure.has_act sure.met);
+  }
+
+  -- the certificate of a draft with items that cover what its rules reach is correct and lean
+  pub right_cover : (items : List Item) (start : ℕ) → length draft.layers < 2 ^ 32 → Each (λ layer. length layer < 2 ^ 32) draft.layers → length draft.rules < 2 ^ 32
+      → IsCovering task draft.rules items start → IsRightCert task (Covered draft.layers draft.pairs draft.rules items start)
+  right_cover items start few few_cubes few_rules covering = record {
     belongs = (
       record { few = few; few_cubes = few_cubes; over = is_draft.over },
       record {
         over = all_numbered (λ (pair : Pair). length pair.cond ≡ length task.atoms) draft.pairs (λ number pair at. (fitting_at number pair at).over);
         there = all_numbered (λ (pair : Pair). pair.act < length task.acts) draft.pairs (λ number pair at. let sure = (fitting_at number pair at).lean.sure in slice_get_within task.acts pair.act sure.act sure.has_act);
       },
-      record {
-        few = few_rules;
-        belong = is_draft.rules.belong;
-        targeted = all_numbered (λ (rule : Rule). HasTarget rule.targets) draft.rules (λ number rule at.
-            let sure = rules_sure number rule at in has_target task draft.rules number rule.cond sure.act rule.act rule.targets sure.has_act sure.met);
-      },
+      belong_as_rules few_rules,
+      covering.belong,
     );
     small = (
       all_numbered IsSmallPair draft.pairs (λ number pair at. (fitting_at number pair at).small),
       all_numbered (λ (rule : Rule). AreSmallTargets rule.targets) draft.rules (λ number rule at.
           let sure = rules_sure number rule at in small_targets task draft.rules few_rules number rule.cond sure.act rule.act rule.targets sure.has_act (slice_get_within draft.rules number rule at) sure.met),
-      small,
+      covering.small,
+      covering.small_start,
     );
     right = record {
-      layers_sure = is_draft.sure;
-      pairs_sure = λ pair has. (is_draft.pairs pair has).lean.sure;
-      rules_sure = rules_sure;
-      ruled = ruled;
-      counted = counted;
+      sure = record {
+        layers_sure = is_draft.sure;
+        pairs_sure = λ pair has. (is_draft.pairs pair has).lean.sure;
+        rules_sure = rules_sure;
+      };
+      items_sure = λ number item at. (covering.lean number item at).sure;
+      starts = covering.starts;
     };
     lean = record {
-      pairs_lean = λ pair has. (is_draft.pairs pair has).lean;
-      rules_lean = is_draft.rules.lean;
+      lean = record {
+        pairs_lean = λ pair has. (is_draft.pairs pair has).lean;
+        rules_lean = is_draft.rules.lean;
+      };
+      items_lean = covering.lean;
     };
   }
 
--- the certificate of stuck layers that have the initial state is correct
-pub right_refusal : (task : Task) (layers : List (List CubeView)) → length layers < 2 ^ 32 → Each (λ layer. length layer < 2 ^ 32) layers → AreStuck task task.init layers → LiesInLayers task.init layers → IsRightCert task (Refusal layers)
-right_refusal task layers few few_cubes stuck lies = record {
-  belongs = record {
-    few = few;
-    few_cubes = few_cubes;
-    over = all_numbered (IsOver (length task.atoms)) layers (λ number layer at. all_numbered (λ (cube : CubeView). length cube ≡ length task.atoms) layer (λ i cube is.
-        let full = stuck.each layer (Contains_numbered layers number layer at) cube (Contains_numbered layer i cube is) in
-        ap length full.full ∙ length-map full.state (λ value. Some value) ∙ reachable_long task task.init task.init_long full.state full.reachable));
-  };
-  small = tt;
-  right = record { layers_sure = stuck.sure; start = lies };
-  lean = tt;
-}
-
--- what holds of one item holds of each item of the list of it
-only_one : {X : Type 0} (P : X → Type 0) (x : X) → P x → Each P (x ∷ [])
-only_one P x holds = all_numbered P (x ∷ []) at
-  where
-    at : (number : ℕ) (y : _) → slice_get (x ∷ []) number ≡ Some y → P y
-    at zero y is = subst P (same_Some x y is) holds
-    at (suc number) y is = absurd (none-some y is)
+  -- the certificate of a draft is a correct refusal if the initial state lies in one of its layers
+  pub right_refusal : length draft.layers < 2 ^ 32 → Each (λ layer. length layer < 2 ^ 32) draft.layers → LiesInLayers task.init draft.layers → IsRightCert task (Refusal draft.layers)
+  right_refusal few few_cubes lies = record {
+    belongs = record { few = few; few_cubes = few_cubes; over = is_draft.over };
+    small = tt;
+    right = record { layers_sure = is_draft.sure; start = lies };
+    lean = tt;
+  }
 
 -- the certificate of the cube by which the initial state is hopeless is correct
 pub right_hopeless : (task : Task) (cube : CubeView) → IsHopelessBy task task.init cube → IsRightCert task (Refusal ((cube ∷ []) ∷ []))

@@ -48,6 +48,14 @@ module _ (rules : List Rule) (state : List Bool) where
       by None same never = absurd (false≢true never)
       by (Some n) same some = (n, selected_holds n same)
 
+  -- where one holds, one is selected
+  pub selects : HasRule rules state → is_some (selected_rule rules state) ≡ true
+  selects has = by (selected_rule rules state) refl
+    where
+      by : (o : Option ℕ) → selected_rule rules state ≡ o → is_some o ≡ true
+      by None same = absurd (selected_none same has)
+      by (Some n) same = refl
+
 -- where a rule held, it holds beside further rules
 pub holds_more : (rules more : List Rule) (state : List Bool) → HasRule rules state → HasRule (rules ++ more) state
 holds_more rules more state has = (has.0, record { rule = has.1.rule; numbered = push_keeps rules more has.0 has.1.rule has.1.numbered; lies = has.1.lies })

@@ -1,13 +1,16 @@
 -- What is reachable through reachable states.
-use Rattle.std.proofs.Common.{◌≡◌, ℕ, List, Bool, length, ⊎_elim}
+use Rattle.std.proofs.Common.{◌≡◌, ℕ, List, [], ◌∷◌, Bool, length, sym, ◌∙◌, subst, ⊎_elim}
+use Rattle.std.specs.Prelude.{Contains}
 use Rattle.fond_play.specs.Games.{start, onward}
 use Rattle.fond_task.specs.declared.task.Task.{Task}
-use Rattle.fond_game.proofs.Lists.{Contains_numbered}
+use Rattle.fond_explicit.proofs.Distinct.{nothing_in}
+use Rattle.fond_game.proofs.Lists.{Contains-cases, Contains_numbered}
 use Rattle.fond_explicit.specs.Answers.{IsPast as IsPastFrom, IsReachable}
 use Rattle.fond_decide.specs.Decisions.{IsPast}
 use Rattle.fond_policy.proofs.Walking.{added_grows, grown_cases}
 use Rattle.fond_store.specs.Stores.{Adds}
-use Rattle.fond_decide.specs.Walks.{AreReachable, IsStep}
+use Rattle.fond_decide.specs.Walks.{AreReachable, IsStep, IsTrail}
+use Rattle.fond_decide.specs.declared.sketched.Trail.{Trail}
 use Rattle.fond_decide.specs.declared.walk.Step.{Step}
 use Rattle.fond_decide.proofs.Ready.{reachable_long}
 
@@ -42,3 +45,19 @@ pub reachable_more : (task : Task) (old new : List (List Bool)) (state copy : Li
 reachable_more task old new state copy number same adds here all other has =
     let Is : List Bool → Type 0 = IsReachable task task.init in
     ⊎_elim (λ was. all other was) (λ is. is) (grown_cases Is old new (added_grows Is old new state copy number same adds here) other has)
+
+-- the only state of a list of the initial state is reachable
+pub first_reachable : (task : Task) (states : List (List Bool)) → states ≡ task.init ∷ [] → AreReachable task states
+first_reachable task states is = λ state has.
+    ⊎_elim
+    (λ (here : task.init ≡ state). subst (IsReachable task task.init) here start)
+    (λ later. absurd (nothing_in state later))
+    (Contains-cases state task.init [] (subst (λ (all : List (List Bool)). Contains all state) is has))
+
+-- a trail whose step has another reachable state, and another next state over the atoms, is one of the task
+pub still_trail : (task : Task) (before after : Trail) → IsTrail task before → after.states ≡ before.states → IsReachable task task.init after.step.state → length after.step.next ≡ length before.step.next → IsTrail task after
+still_trail task before after trail same here long = record {
+  reachable = subst (AreReachable task) (sym same) trail.reachable;
+  state_long = reachable_long task task.init task.init_long after.step.state here;
+  next_long = long ∙ trail.next_long;
+}

@@ -6,16 +6,17 @@ use Rattle.fond_game.specs.Policies.{game}
 use Rattle.fond_policy.specs.Belongs.{Belongs}
 use Rattle.fond_policy.specs.Sizes.{HasSmallNumbers}
 use Rattle.fond_policy.specs.declared.cert.Cert.{Cert}
-use Rattle.fond_policy.specs.declared.cert.Cert.TheVariants.{Policy, Refusal}
-use Rattle.fond_policy.specs.Parts.{AreLean, IsRight}
+use Rattle.fond_policy.specs.declared.cert.Cert.TheVariants.{Policy, Refusal, Covered}
+use Rattle.fond_policy.specs.Parts.{AreAllLean, IsRight}
 use Rattle.fond_relax.specs.Stable.{IsHopeless}
 use Rattle.fond_decide.specs.declared.decide.Decision.{Decision}
 use Rattle.fond_decide.specs.declared.decide.Decision.TheVariants.{Certified, Undecided}
 
--- the pairs and rules of a certificate are lean; a refusal has none
+-- a certificate is a refusal, or a policy with a cover whose pairs, rules and items are lean
 abbrev pub IsLean : Task → Cert → Type 0
-IsLean task (Policy layers pairs rules reach) = AreLean task layers pairs rules
 IsLean task (Refusal layers) = ⊤
+IsLean task (Covered layers pairs rules items start) = AreAllLean task layers pairs rules items
+IsLean task (Policy layers pairs rules reach) = ⊥
 
 -- a certificate belongs to a task, its numbers fit their types, and it is correct and lean
 pub record IsRightCert (task : Task) (cert : Cert) : Type 0 where

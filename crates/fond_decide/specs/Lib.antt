@@ -6,3 +6,7 @@ pub mod Plans
 pub mod Planners
 pub mod Walks
 pub mod Appends
+pub mod Turns
+pub mod Seeks
+pub mod Finds
+pub mod Ends

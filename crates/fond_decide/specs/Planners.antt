@@ -2,7 +2,7 @@
 use Rattle.fond_task.specs.declared.task.Task.{Task}
 use Rattle.fond_decide.specs.Drafts.{IsDraft}
 use Rattle.fond_decide.specs.Plans.{ArePlans}
-use Rattle.fond_decide.specs.declared.walk.Planner.{Planner}
+use Rattle.fond_decide.specs.declared.planner.Planner.{Planner}
 
 -- a planner is one of a task: its draft is, and so are its plans
 pub record IsPlanner (task : Task) (planner : Planner) : Type 0 where

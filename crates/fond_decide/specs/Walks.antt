@@ -7,11 +7,11 @@ use Rattle.fond_task.specs.Steps.{next_state}
 use Rattle.fond_task.specs.Truth.{is_true}
 use Rattle.fond_game.specs.Policies.{IsGoal}
 use Rattle.fond_game.specs.Certificates.{LiesInLayers}
-use Rattle.fond_game.specs.declared.rule.Pair.{Pair}
-use Rattle.fond_state.specs.Cubes.{LiesIn}
 use Rattle.fond_explicit.specs.Answers.{IsReachable}
+use Rattle.fond_weak.specs.Barred.{IsBarred}
 use Rattle.fond_decide.specs.Targets.{HasRule}
 use Rattle.fond_decide.specs.declared.draft.Draft.{Draft}
+use Rattle.fond_decide.specs.declared.sketched.Trail.{Trail}
 use Rattle.fond_decide.specs.declared.walk.Step.{Step}
 
 -- states are reachable from the initial state, by any actions
@@ -34,15 +34,11 @@ pub record IsStep (task : Task) (step : Step) : Type 0 where
   pub has_outcome : slice_get outset.act.outcomes step.outcome ≡ Some entries
   pub led : step.next ≡ next_state step.state entries
 
--- a pair bars an action in a state: it is of the action, and its condition holds in the state
-abbrev pub Bars : Pair → ℕ → List Bool → Type 0
-Bars pair act state = (pair.act ≡ act) × LiesIn state pair.cond
-
--- one of the pairs bars an action in a state
-pub record IsBarred (pairs : List Pair) (act : ℕ) (state : List Bool) : Type 0 where
-  pub pair : Pair
-  pub one : Contains pairs pair
-  pub bars : Bars pair act state
+-- a trail is one of the task: the states of its nodes are reachable, and those of its step are over the atoms
+pub record IsTrail (task : Task) (trail : Trail) : Type 0 where
+  pub reachable : AreReachable task trail.states
+  pub state_long : length trail.step.state ≡ length task.atoms
+  pub next_long : length trail.step.next ≡ length task.atoms
 
 -- the next state of a step is settled: a rule holds in it; or it lies in a layer, and a fresh pair bars the action of the step
 abbrev pub IsSettled : Task → Draft → Step → Type 0

@@ -1,20 +1,20 @@
 //! Deciding a task.
 
-ghost use Rattle.fond_policy.specs.Walks.{HasAllRuled};
+ghost use Rattle.fond_covering.specs.Coverings.{IsCovering};
 ghost use Rattle.fond_decide.specs.Decisions.{IsDecision, IsPast, IsRightCert};
 ghost use Rattle.fond_decide.specs.Drafts.{IsDraft};
+ghost use Rattle.fond_decide.specs.Ends.{IsEnd};
 ghost use Rattle.fond_decide.specs.Planners.{IsPlanner};
-ghost use Rattle.fond_explicit.specs.Answers.{AreStuck, AreWinning};
-ghost use Rattle.fond_game.specs.Certificates.{LiesInLayers, ReachesCount};
-ghost use Rattle.fond_game.specs.Policies.{selected};
+ghost use Rattle.fond_game.specs.Certificates.{LiesInLayers};
 ghost use Rattle.fond_relax.specs.Stable.{IsHopeless, IsHopelessBy};
 ghost use Rattle.std.specs.Prelude.{◌≡◌, ◌<◌, ◌≤◌, ◌^◌, None, All, length, IfOk, IfSome, OnOk};
 
 use crate::draft::Draft;
-use crate::plan::plan_of;
-use crate::walk::Planner;
-use fond_explicit::answer::{Choices, Solved};
-use fond_explicit::solve::solve;
+use crate::planner::Planner;
+use crate::walk::Round;
+use fond_cover::items::Items;
+use fond_covering::cover::{cover_by_states, take_items};
+use fond_covering::covering::Covering;
 use fond_layers::layers::{Layer, Layers};
 use fond_policy::cert::Cert;
 use fond_policy::reach::reach_count;
@@ -49,88 +49,131 @@ fn read_count(rules: &Rules)
     let _count = rules.len();
 }
 
-/// The refusal of stuck layers, one of which has the initial state.
-fn refusal_of(t: &Task, layers: Layers) -> Cert
-    requires stuck { AreStuck t.now t.now.init layers }
-    requires lies { LiesInLayers t.now.init layers }
+/// The refusal of a draft, in one of whose layers the initial state lies.
+fn refusal_of(t: &Task, draft: Draft) -> Cert
+    requires draft { IsDraft t.now draft }
+    requires lies { LiesInLayers t.now.init draft.layers }
     ensures { IsRightCert t.now result }
 {
-    read_sizes(&layers);
-    Cert::Refusal { layers }
+    read_sizes(&draft.layers);
+    Cert::Refusal {
+        layers: draft.layers,
+    }
 }
 
-/// The certificate of a draft whose rules reach this many states, and hold in each of them that is no goal.
-fn policy_of(t: &Task, draft: Draft, reach: u32) -> Cert
+/// The certificate of a draft with items that cover what its rules reach.
+fn policy_of(t: &Task, draft: Draft, covering: Covering) -> Cert
     requires draft { IsDraft t.now draft }
-    requires count { ReachesCount t.now (selected draft.rules) reach }
-    requires ruled { HasAllRuled t.now draft.rules }
+    requires covering { IsCovering t.now draft.rules covering.items covering.start }
     ensures { IsRightCert t.now result }
 {
     read_sizes(&draft.layers);
     read_count(&draft.rules);
-    Cert::Policy {
+    Cert::Covered {
         layers: draft.layers,
         pairs: draft.pairs,
         rules: draft.rules,
-        reach: u64::from(reach),
+        items: covering.items,
+        start: covering.start,
     }
 }
 
-/// The number of the states that the rules of a draft reach, if there are no fresh pairs, and a rule holds in each of these
-/// states that is no goal.
-fn finished(alloc: Global, t: &Task, draft: &mut Draft) -> Result<Option<u32>, NoMemory>
+/// A cover by all states that the rules of a draft reach, if a rule holds in each of them that is no goal.
+fn cover_by_walk(alloc: Global, t: &Task, draft: &Draft) -> Result<Option<Covering>, NoMemory>
+    requires { IsDraft t.now draft.now }
+    ensures { IfOk result (λ found. IfSome found (λ covering. IsCovering t.now draft.now.rules covering.items covering.start)) }
+{
+    read_count(&draft.rules);
+    let (_, ruled) = reach_count(alloc, t, &draft.pairs, &draft.rules)?;
+    if !ruled {
+        return Ok(None);
+    }
+    Ok(Some(cover_by_states(alloc, t, &draft.pairs, &draft.rules)?))
+}
+
+/// A cover of what the rules of a draft reach: these items, if they pass their test, or else one by all these states.
+fn cover_of(
+    alloc: Global,
+    t: &Task,
+    draft: &Draft,
+    sketched: Option<Items>,
+) -> Result<Option<Covering>, NoMemory>
+    requires { IsDraft t.now draft.now }
+    ensures { IfOk result (λ found. IfSome found (λ covering. IsCovering t.now draft.now.rules covering.items covering.start)) }
+{
+    let Some(items) = sketched else {
+        return cover_by_walk(alloc, t, draft);
+    };
+    read_count(&draft.rules);
+    if let Some(covering) = take_items(alloc, t, &draft.rules, items)? {
+        return Ok(Some(covering));
+    }
+    cover_by_walk(alloc, t, draft)
+}
+
+/// A cover of what the rules of a draft reach, if there are no fresh pairs, and a rule holds in each of these states that is no
+/// goal.
+fn finished(
+    alloc: Global,
+    t: &Task,
+    draft: &mut Draft,
+    sketched: Option<Items>,
+) -> Result<Option<Covering>, NoMemory>
     requires { IsDraft t.now draft.old }
     ensures draft { OnOk result (IsDraft t.now draft.new) }
-    ensures count { IfOk result (λ reach. IfSome reach (ReachesCount t.now (selected draft.new.rules))) }
-    ensures ruled { IfOk result (λ reach. IfSome reach (λ n. HasAllRuled t.now draft.new.rules)) }
+    ensures covered { IfOk result (λ found. IfSome found (λ covering. IsCovering t.now draft.new.rules covering.items covering.start)) }
 {
     if !draft.fresh.is_empty() {
         return Ok(None);
     }
     draft.rules.index()?;
-    let (reach, ruled) = reach_count(alloc, t, &draft.pairs, &draft.rules)?;
-    if !ruled {
-        return Ok(None);
-    }
-    Ok(Some(reach))
+    cover_of(alloc, t, draft, sketched)
 }
 
-/// A planner with one plan, of choices that win from the initial state, and without rules.
-fn planner_of(alloc: Global, t: &Task, choices: Choices) -> Result<Planner, NoMemory>
-    requires { AreWinning t.now t.now.init choices }
-    ensures { IfOk result (IsPlanner t.now) }
-{
-    let mut plans = Vec::new(alloc);
-    plans.push(plan_of(alloc, t, choices)?)?;
-    Ok(Planner {
-        draft: Draft::new(alloc, t),
-        plans,
-    })
+/// How the making of a policy ends.
+#[derive(Drop)]
+enum End {
+    /// The rules are a policy, and these items cover the states that it reaches.
+    Policy(Covering),
+    /// The initial state lies in a layer.
+    Refusal,
+    /// More states are reachable than the budget.
+    Past,
 }
 
 impl Planner {
-    /// Walks through the states that the rules reach, adding rules where none holds, and begins again without rules whenever
-    /// the walk barred an action, until a rule holds in each reached state that is no goal. Returns the number of these
-    /// states, or nothing if more than `budget` states are reachable. Memory is said to have run out after 2^32 - 1 rounds.
-    fn finish(&mut self, alloc: Global, t: &Task, budget: u32) -> Result<Option<u32>, NoMemory>
+    /// Makes rules in rounds, and begins again without rules whenever a round barred an action, until a rule holds in each reached
+    /// state that is no goal. Memory is said to have run out after 2^32 - 1 rounds.
+    fn finish(&mut self, alloc: Global, t: &Task, budget: u32) -> Result<End, NoMemory>
         requires few { budget ≤ 1000000 }
         requires planner { IsPlanner t.now self.old }
         ensures draft { OnOk result (IsDraft t.now self.new.draft) }
-        ensures count { IfOk result (λ reach. IfSome reach (ReachesCount t.now (selected self.new.draft.rules))) }
-        ensures ruled { IfOk result (λ reach. IfSome reach (λ n. HasAllRuled t.now self.new.draft.rules)) }
-        ensures past { IfOk result (λ reach. reach ≡ None → IsPast t.now budget) }
+        ensures end { IfOk result (IsEnd t.now budget self.new.draft) }
     {
         for _round in 0..u32::MAX {
-            if !self.walk(alloc, t, budget)? {
-                return Ok(None);
+            let sketched = match self.round(alloc, t, budget)? {
+                Round::Walked(items) => items,
+                Round::Lost => return Ok(End::Refusal),
+                Round::Past => return Ok(End::Past),
+            };
+            if let Some(covering) = finished(alloc, t, &mut self.draft, sketched)? {
+                return Ok(End::Policy(covering));
             }
-            if let Some(reach) = finished(alloc, t, &mut self.draft)? {
-                return Ok(Some(reach));
-            }
-            self.draft.heed_fresh(alloc, t)?;
+            self.begin_again(alloc, t)?;
         }
         Err(NoMemory)
     }
+}
+
+/// How many states are opened before the searching engine is asked: a task with no more is decided without it. An opponent makes
+/// plans worth less, so then more are opened.
+fn quick_budget(t: &Task, budget: u32) -> u32 {
+    for act in &t.acts {
+        if act.unfair {
+            return budget.min(50000);
+        }
+    }
+    budget.min(5000)
 }
 
 /// The refusal of a task whose initial state is hopeless by this cube. Its one layer is the cube.
@@ -145,44 +188,32 @@ fn hopeless_refusal(alloc: Global, t: &Task, cube: Cube) -> Result<Cert, NoMemor
     Ok(Cert::Refusal { layers })
 }
 
-/// Decides a task in which choices win from the initial state, by the rounds of `Planner::finish`.
-fn decide_won(alloc: Global, t: &Task, choices: Choices, budget: u32) -> Result<Decision, NoMemory>
-    requires few { budget ≤ 1000000 }
-    requires hope { ¬ IsHopeless t.now t.now.init }
-    requires winning { AreWinning t.now t.now.init choices }
-    ensures { IfOk result (IsDecision t.now budget) }
-{
-    let mut planner = planner_of(alloc, t, choices)?;
-    let Some(reach) = planner.finish(alloc, t, budget)? else {
-        return Ok(Decision::Undecided);
-    };
-    Ok(Decision::Certified(policy_of(t, planner.draft, reach)))
-}
-
-/// Decides a task whose initial state is not hopeless, by opening its states.
-fn decide_by_states(alloc: Global, t: &Task, budget: u32) -> Result<Decision, NoMemory>
+/// Decides a task whose initial state is not hopeless.
+fn decide_by_rounds(alloc: Global, t: &Task, budget: u32) -> Result<Decision, NoMemory>
     requires few { budget ≤ 1000000 }
     requires hope { ¬ IsHopeless t.now t.now.init }
     ensures { IfOk result (IsDecision t.now budget) }
 {
-    match solve(alloc, t, &t.init, budget)? {
-        Solved::Won(choices, _) => decide_won(alloc, t, choices, budget),
-        Solved::Lost(layers) => Ok(Decision::Certified(refusal_of(t, layers))),
-        Solved::Spent => Ok(Decision::Undecided),
+    let mut planner = Planner::new(alloc, t, quick_budget(t, budget));
+    match planner.finish(alloc, t, budget)? {
+        End::Policy(covering) => Ok(Decision::Certified(policy_of(t, planner.draft, covering))),
+        End::Refusal => Ok(Decision::Certified(refusal_of(t, planner.draft))),
+        End::Past => Ok(Decision::Undecided),
     }
 }
 
 /// Decides a task within a budget of opened states: a correct and lean certificate of a policy, or a correct one of
 /// unsolvability, or that more states are reachable than the budget. A hopeless initial state is refused without opening any.
-/// Takes the time of `estimate`, and then of `solve`, once for the initial state and once for each reached state without a rule
-/// that no earlier choices list and that lies in no layer that was kept, and that of a walk through the states that the policy
-/// reaches, once more after each walk that bars actions.
+/// Takes the time of `estimate`; then, for the initial state and for each reached state without a rule that no earlier choices list
+/// and that lies in no layer that was kept, that of `solve` with few states, of searches whose work is counted, and of `solve` with
+/// the budget only if these settle nothing; and that of a walk through the states that the policy reaches, once more after each
+/// walk that bars actions.
 pub fn decide(alloc: Global, t: &Task, budget: u32) -> Result<Decision, NoMemory>
     requires { budget ≤ 1000000 }
     ensures { IfOk result (IsDecision t.now budget) }
 {
     match estimate(alloc, t, &t.init)? {
         Guess::Never(cube) => Ok(Decision::Certified(hopeless_refusal(alloc, t, cube)?)),
-        Guess::Reach(_) => decide_by_states(alloc, t, budget),
+        Guess::Reach(_) => decide_by_rounds(alloc, t, budget),
     }
 }

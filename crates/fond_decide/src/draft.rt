@@ -76,14 +76,18 @@ impl Draft {
         Ok(())
     }
 
-    /// Appends layers that are stuck from some state.
-    pub(crate) fn learn(&mut self, alloc: Global, t: &Task, layers: &Layers) -> Result<(), NoMemory>
+    /// Appends layers that are stuck from some state. If there are none yet, they are taken as they are.
+    pub(crate) fn learn(&mut self, alloc: Global, t: &Task, layers: Layers) -> Result<(), NoMemory>
         requires draft { IsDraft t.now self.old }
-        requires stuck { (from : List Bool) × (length from ≡ length t.now.atoms) × AreStuck t.now from layers.now }
+        requires stuck { (from : List Bool) × (length from ≡ length t.now.atoms) × AreStuck t.now from layers }
         ensures draft { OnOk result (IsDraft t.now self.new) }
-        ensures has { OnOk result ((state : List Bool) → LiesInLayers state layers.now → LiesInLayers state self.new.layers) }
+        ensures has { OnOk result ((state : List Bool) → LiesInLayers state layers → LiesInLayers state self.new.layers) }
     {
-        append_layers(alloc, t, &mut self.layers, layers)?;
+        if self.layers.len() == 0 {
+            self.layers = layers;
+            return Ok(());
+        }
+        append_layers(alloc, t, &mut self.layers, &layers)?;
         Ok(())
     }
 

@@ -26,7 +26,7 @@ use std::alloc::Global;
 
 /// Adds a lean rule for a choice, which holds in its state. Memory is said to have run out after 2^32 - 2 rules. `next` is
 /// overwritten.
-fn add_rule(
+pub(crate) fn add_rule(
     alloc: Global,
     t: &Task,
     draft: &mut Draft,

@@ -2,23 +2,23 @@
 
 ghost use Rattle.fond_decide.specs.Drafts.{IsDraft, IsFitting};
 ghost use Rattle.fond_decide.specs.Decisions.{IsPast};
-ghost use Rattle.fond_decide.specs.Plans.{ArePlans, IsPlan};
-ghost use Rattle.fond_decide.specs.Targets.{HasRule};
+ghost use Rattle.fond_decide.specs.Finds.{IsBegun, IsRound};
 ghost use Rattle.fond_decide.specs.Planners.{IsPlanner};
-ghost use Rattle.fond_decide.specs.Walks.{AreReachable, Bars, IsBarred, IsOutset, IsSettled, IsStep};
-ghost use Rattle.fond_explicit.specs.Answers.{AreStuck, AreWinning, IsReachable};
+ghost use Rattle.fond_decide.specs.Walks.{AreReachable, IsOutset, IsSettled, IsStep};
+ghost use Rattle.fond_explicit.specs.Answers.{IsReachable};
 ghost use Rattle.fond_game.specs.Certificates.{LiesInLayers};
 ghost use Rattle.fond_game.specs.Policies.{IsGoal};
 ghost use Rattle.fond_game.specs.declared.rule.Pair.{Pair};
 ghost use Rattle.fond_layers.specs.Deads.{IsFirstDead};
 ghost use Rattle.fond_layers.specs.Over.{AreOver};
-ghost use Rattle.std.specs.Prelude.{◌≡◌, ◌≤◌, false, true, length, Contains, Decides, IfOk, OnOk};
+ghost use Rattle.fond_weak.specs.Barred.{Bars, IsBarred};
+ghost use Rattle.std.specs.Prelude.{◌≡◌, ◌<◌, ◌≤◌, false, true, length, Contains, IfOk, OnOk};
 
 use crate::draft::Draft;
-use crate::make::make_rules;
-use crate::plan::{Plan, plan_of};
-use fond_explicit::answer::{Choices, Solved};
-use fond_explicit::solve::solve;
+use crate::find::Found;
+use crate::planner::Planner;
+use crate::sketched::Sketched;
+use fond_cover::items::Items;
 use fond_game::rule::Pair;
 use fond_layers::layers::Layers;
 use fond_policy::walk::one_state;
@@ -29,19 +29,20 @@ use fond_task::step::apply_into;
 use fond_task::task::Task;
 use fond_task::truth::is_goal;
 use fond_text::fault::NoMemory;
+use fond_weak::barred::is_barred;
 use std::alloc::Global;
 
 /// A step of a walk: an outcome of an action leads from a state to the next one.
 #[derive(Drop)]
-struct Step {
-    state: State,
-    act: u32,
-    outcome: u32,
-    next: State,
+pub(crate) struct Step {
+    pub(crate) state: State,
+    pub(crate) act: u32,
+    pub(crate) outcome: u32,
+    pub(crate) next: State,
 }
 
 /// The step of a walk that has not begun: its states are the initial one.
-fn first_step(alloc: Global, t: &Task) -> Result<Step, NoMemory>
+pub(crate) fn first_step(alloc: Global, t: &Task) -> Result<Step, NoMemory>
     ensures state { IfOk result (λ step. step.state ≡ t.now.init) }
     ensures next { IfOk result (λ step. step.next ≡ t.now.init) }
 {
@@ -53,35 +54,35 @@ fn first_step(alloc: Global, t: &Task) -> Result<Step, NoMemory>
     })
 }
 
-/// A draft, and the plans from which its rules are made.
+/// What is found out about the initial state.
+#[derive(Clone, Copy)]
+enum Begun {
+    /// It is a goal, or a rule holds in it.
+    Ruled,
+    /// It lies in a layer.
+    Lost,
+    /// More states are reachable than the budget.
+    Past,
+}
+
+/// How a round ends.
 #[derive(Drop)]
-pub(crate) struct Planner {
-    pub(crate) draft: Draft,
-    pub(crate) plans: Vec<Plan>,
+pub(crate) enum Round {
+    /// No state without a rule is left to settle. If they were sketched, these items may cover the states that the rules reach.
+    Walked(Option<Items>),
+    /// The initial state lies in a layer.
+    Lost,
+    /// More states are reachable than the budget.
+    Past,
 }
 
-/// Whether the pair bars the action in the state.
-fn bars(pair: &Pair, act: u32, state: &State) -> bool
-    requires { length pair.now.cond ≡ length state.now }
-    ensures { Decides result (Bars pair.now act state.now) }
+/// How many states a walk goes through: 4,000,000, or as many as take 1 GiB for their truth values, but more than any budget.
+fn walk_limit(t: &Task) -> u32
+    ensures { 1000000 < result }
 {
-    if pair.act != act {
-        return false;
-    }
-    pair.cond.holds(state)
-}
-
-/// Whether one of the pairs bars the action in the state.
-fn is_barred(pairs: &[Pair], act: u32, state: &State) -> bool
-    requires { (pair : Pair) → Contains pairs.now pair → length pair.cond ≡ length state.now }
-    ensures { Decides result (IsBarred pairs.now act state.now) }
-{
-    for pair in pairs {
-        if bars(pair, act, state) {
-            return true;
-        }
-    }
-    false
+    let words = t.atoms.len() / 64 + 1;
+    let fitting = ((1usize << 27) / words).min(4000000) as u32;
+    fitting.max(1000001)
 }
 
 /// The pair that bars the action of a step in its state, whose next state lies in this cube of this layer.
@@ -132,54 +133,9 @@ fn bar(alloc: Global, t: &Task, draft: &mut Draft, step: &Step) -> Result<(), No
     Ok(())
 }
 
-/// Adds rules until one holds in the state, if it is one of a plan. Returns whether it is.
-fn make_found(
-    alloc: Global,
-    t: &Task,
-    draft: &mut Draft,
-    plans: &[Plan],
-    state: &State,
-) -> Result<bool, NoMemory>
-    requires draft { IsDraft t.now draft.old }
-    requires plans { ArePlans t.now plans.now }
-    ensures draft { OnOk result (IsDraft t.now draft.new) }
-    ensures ruled { IfOk result (λ found. found ≡ true → HasRule draft.new.rules state.now) }
-{
-    for plan in plans {
-        if let Some(number) = plan.states.find(state) {
-            make_rules(alloc, t, draft, plan, number as usize)?;
-            return Ok(true);
-        }
-    }
-    Ok(false)
-}
-
-/// Adds rules until one holds in a state from which the choices of a plan win.
-fn make_won(
-    alloc: Global,
-    t: &Task,
-    draft: &mut Draft,
-    plan: &Plan,
-    state: &State,
-) -> Result<(), NoMemory>
-    requires draft { IsDraft t.now draft.old }
-    requires plan { IsPlan t.now plan.now }
-    requires open { ¬ IsGoal t.now state.now }
-    requires winning { AreWinning t.now state.now plan.now.choices }
-    ensures draft { OnOk result (IsDraft t.now draft.new) }
-    ensures ruled { OnOk result (HasRule draft.new.rules state.now) }
-{
-    let Some(number) = plan.states.find(state) else {
-        unreachable!()
-    };
-    make_rules(alloc, t, draft, plan, number as usize)?;
-    Ok(())
-}
-
 impl Planner {
-    /// Finds out about the next state of a step, which is no goal and in which no rule holds: by a layer, by a plan, or by
-    /// solving the task from it. If it is won, rules are added until one holds in it; if it is lost, it lies in a layer
-    /// afterwards, and the action of the step is barred. Returns false only if more than `budget` states are reachable.
+    /// Finds out about the next state of a step, which is no goal and in which no rule holds. If it lies in a layer, the action of
+    /// the step is barred. Returns false only if more than `budget` states are reachable.
     fn settle(
         &mut self,
         alloc: Global,
@@ -195,19 +151,19 @@ impl Planner {
         ensures settled { IfOk result (λ within. within ≡ true → IsSettled t.now self.new.draft step.now) }
         ensures past { IfOk result (λ within. within ≡ false → IsPast t.now budget) }
     {
-        if self.draft.layers.dead(&step.next).is_some() {
-            bar(alloc, t, &mut self.draft, step)?;
-            return Ok(true);
+        match self.find(alloc, t, budget, &step.next)? {
+            Some(Found::Ruled) => Ok(true),
+            Some(Found::Dead) => {
+                bar(alloc, t, &mut self.draft, step)?;
+                Ok(true)
+            }
+            None => Ok(false),
         }
-        if make_found(alloc, t, &mut self.draft, self.plans.as_slice(), &step.next)? {
-            return Ok(true);
-        }
-        let within = self.solve_next(alloc, t, budget, step)?;
-        Ok(within)
     }
 
-    /// Finds out about the next state of a step, as `settle` does, by solving the task from it.
-    fn solve_next(
+    /// Settles the next state of a step if it is no goal and no rule holds in it. Returns false only if more than `budget` states
+    /// are reachable.
+    pub(crate) fn settle_next(
         &mut self,
         alloc: Global,
         t: &Task,
@@ -217,67 +173,21 @@ impl Planner {
         requires few { budget ≤ 1000000 }
         requires planner { IsPlanner t.now self.old }
         requires step { IsStep t.now step.now }
-        requires open { ¬ IsGoal t.now step.now.next }
         ensures planner { OnOk result (IsPlanner t.now self.new) }
-        ensures settled { IfOk result (λ within. within ≡ true → IsSettled t.now self.new.draft step.now) }
         ensures past { IfOk result (λ within. within ≡ false → IsPast t.now budget) }
     {
-        match solve(alloc, t, &step.next, budget)? {
-            Solved::Won(choices, _) => {
-                self.win(alloc, t, &step.next, choices)?;
-                Ok(true)
-            }
-            Solved::Lost(layers) => {
-                self.lose(alloc, t, step, &layers)?;
-                Ok(true)
-            }
-            Solved::Spent => Ok(false),
+        if is_goal(t, &step.next) {
+            return Ok(true);
         }
-    }
-
-    /// Adds rules until one holds in a state from which choices win, and keeps these as a plan.
-    fn win(
-        &mut self,
-        alloc: Global,
-        t: &Task,
-        state: &State,
-        choices: Choices,
-    ) -> Result<(), NoMemory>
-        requires planner { IsPlanner t.now self.old }
-        requires long { length state.now ≡ length t.now.atoms }
-        requires open { ¬ IsGoal t.now state.now }
-        requires winning { AreWinning t.now state.now choices }
-        ensures planner { OnOk result (IsPlanner t.now self.new) }
-        ensures ruled { OnOk result (HasRule self.new.draft.rules state.now) }
-    {
-        let plan = plan_of(alloc, t, choices)?;
-        make_won(alloc, t, &mut self.draft, &plan, state)?;
-        self.plans.push(plan)?;
-        Ok(())
-    }
-
-    /// Learns that the next state of a step is lost, by stuck layers that have it, and bars the action of the step.
-    fn lose(
-        &mut self,
-        alloc: Global,
-        t: &Task,
-        step: &Step,
-        layers: &Layers,
-    ) -> Result<(), NoMemory>
-        requires planner { IsPlanner t.now self.old }
-        requires step { IsStep t.now step.now }
-        requires stuck { AreStuck t.now step.now.next layers.now }
-        requires lies { LiesInLayers step.now.next layers.now }
-        ensures planner { OnOk result (IsPlanner t.now self.new) }
-        ensures settled { OnOk result (IsSettled t.now self.new.draft step.now) }
-    {
-        self.draft.learn(alloc, t, layers)?;
-        bar(alloc, t, &mut self.draft, step)?;
-        Ok(())
+        if self.draft.rules.select(&step.next).is_some() {
+            return Ok(true);
+        }
+        let within = self.settle(alloc, t, budget, step)?;
+        Ok(within)
     }
 
     /// Takes a step: adds its next state to the states unless it is a goal, and settles it if no rule holds in it. Returns
-    /// false only if more than `budget` states are reachable.
+    /// false only if more than `budget` states are reachable, which is also so if there are too many states to walk on.
     fn take(
         &mut self,
         alloc: Global,
@@ -297,14 +207,11 @@ impl Planner {
         if is_goal(t, &step.next) || states.find(&step.next).is_some() {
             return Ok(true);
         }
-        if states.len() == u32::MAX {
-            return Err(NoMemory);
+        if states.len() >= walk_limit(t) {
+            return Ok(false);
         }
         states.add(step.next.copy(alloc)?)?;
-        if self.draft.rules.select(&step.next).is_some() {
-            return Ok(true);
-        }
-        let within = self.settle(alloc, t, budget, step)?;
+        let within = self.settle_next(alloc, t, budget, step)?;
         Ok(within)
     }
 
@@ -338,6 +245,26 @@ impl Planner {
         Ok(true)
     }
 
+    /// Sets the action of a step to that of the first rule that holds in its state. Returns false if the state is a goal, or if no
+    /// rule holds in it.
+    pub(crate) fn set_act(&self, t: &Task, step: &mut Step) -> bool
+        requires planner { IsPlanner t.now self.now }
+        requires here { IsReachable t.now t.now.init step.old.state }
+        requires next_long { length step.old.next ≡ length t.now.atoms }
+        ensures same { step.new.state ≡ step.old.state }
+        ensures next { step.new.next ≡ step.old.next }
+        ensures outset { result ≡ true → IsOutset t.now step.new }
+    {
+        if is_goal(t, &step.state) {
+            return false;
+        }
+        let Some(rule) = self.draft.rules.select(&step.state) else {
+            return false;
+        };
+        step.act = self.draft.rules.get(rule).act;
+        true
+    }
+
     /// Takes the steps out of a state by the first rule that holds in it, unless it is a goal. Returns false only if more
     /// than `budget` states are reachable.
     fn visit(
@@ -359,29 +286,30 @@ impl Planner {
         ensures long { length step.new.next ≡ length step.old.next }
         ensures past { IfOk result (λ within. within ≡ false → IsPast t.now budget) }
     {
-        if is_goal(t, &step.state) {
+        if !self.set_act(t, step) {
             return Ok(true);
         }
-        let Some(rule) = self.draft.rules.select(&step.state) else {
-            return Ok(true);
-        };
-        step.act = self.draft.rules.get(rule).act;
         self.take_all(alloc, t, budget, step, states)
     }
 
-    /// Adds rules until one holds in the initial state, if it is no goal and one of a plan.
-    fn begin(&mut self, alloc: Global, t: &Task) -> Result<(), NoMemory>
-        requires { IsPlanner t.now self.old }
-        ensures { OnOk result (IsPlanner t.now self.new) }
+    /// Finds out about the initial state, if it is no goal and no rule holds in it.
+    fn begin(&mut self, alloc: Global, t: &Task, budget: u32) -> Result<Begun, NoMemory>
+        requires few { budget ≤ 1000000 }
+        requires planner { IsPlanner t.now self.old }
+        ensures planner { OnOk result (IsPlanner t.now self.new) }
+        ensures begun { IfOk result (IsBegun t.now budget self.new.draft) }
     {
         if is_goal(t, &t.init) {
-            return Ok(());
+            return Ok(Begun::Ruled);
         }
         if self.draft.rules.select(&t.init).is_some() {
-            return Ok(());
+            return Ok(Begun::Ruled);
         }
-        make_found(alloc, t, &mut self.draft, self.plans.as_slice(), &t.init)?;
-        Ok(())
+        match self.find(alloc, t, budget, &t.init)? {
+            Some(Found::Ruled) => Ok(Begun::Ruled),
+            Some(Found::Dead) => Ok(Begun::Lost),
+            None => Ok(Begun::Past),
+        }
     }
 
     /// Walks on from the states, which are reachable, as `walk` does. `step` is overwritten.
@@ -412,17 +340,52 @@ impl Planner {
         Ok(true)
     }
 
-    /// Walks through the states that the rules reach, and settles each in which no rule holds: rules are added, or a fresh
-    /// pair bars the action that led there. Returns false only if more than `budget` states are reachable.
-    pub(crate) fn walk(&mut self, alloc: Global, t: &Task, budget: u32) -> Result<bool, NoMemory>
+    /// Walks through all states that the rules reach from the initial state, as `round` does.
+    fn walk(&mut self, alloc: Global, t: &Task, budget: u32) -> Result<bool, NoMemory>
         requires few { budget ≤ 1000000 }
         requires planner { IsPlanner t.now self.old }
         ensures planner { OnOk result (IsPlanner t.now self.new) }
         ensures past { IfOk result (λ within. within ≡ false → IsPast t.now budget) }
     {
-        self.begin(alloc, t)?;
         let mut step = first_step(alloc, t)?;
         let mut states = one_state(alloc, &t.init)?;
         self.walk_on(alloc, t, budget, &mut step, &mut states)
+    }
+
+    /// Settles each state without a rule that the rules reach from the initial state, which is a goal or has a rule: along a sketch
+    /// of a cover, or in a walk through all these states if there is none, or too much to do for it.
+    fn settle_all(&mut self, alloc: Global, t: &Task, budget: u32) -> Result<Round, NoMemory>
+        requires few { budget ≤ 1000000 }
+        requires planner { IsPlanner t.now self.old }
+        ensures planner { OnOk result (IsPlanner t.now self.new) }
+        ensures round { IfOk result (IsRound t.now budget self.new.draft) }
+    {
+        if self.sketches {
+            match self.walk_sketch(alloc, t, budget)? {
+                Sketched::Walked(items) => return Ok(Round::Walked(items)),
+                Sketched::Past => return Ok(Round::Past),
+                Sketched::GaveUp => {}
+            }
+        }
+        if self.walk(alloc, t, budget)? {
+            Ok(Round::Walked(None))
+        } else {
+            Ok(Round::Past)
+        }
+    }
+
+    /// Makes rules for the initial state, and settles each state that the rules reach in which none holds: rules are added, or a
+    /// fresh pair bars the action that led there.
+    pub(crate) fn round(&mut self, alloc: Global, t: &Task, budget: u32) -> Result<Round, NoMemory>
+        requires few { budget ≤ 1000000 }
+        requires planner { IsPlanner t.now self.old }
+        ensures planner { OnOk result (IsPlanner t.now self.new) }
+        ensures round { IfOk result (IsRound t.now budget self.new.draft) }
+    {
+        match self.begin(alloc, t, budget)? {
+            Begun::Ruled => self.settle_all(alloc, t, budget),
+            Begun::Lost => Ok(Round::Lost),
+            Begun::Past => Ok(Round::Past),
+        }
     }
 }

@@ -1,0 +1,20 @@
+use Rattle.std.proofs.Common.{subst}
+use Rattle.fond_explicit.specs.Answers.{IsRight}
+use Rattle.fond_decide.proofs.Turned.{reached_long}
+use Rattle.fond_decide.proofs.Walked.{past_through}
+use Rattle.fond_decide.proofs.planner.Planner.find_by_states.Goals as goal
+
+pub solve-requires-clause-long : goal.solve-requires-clause-long
+solve-requires-clause-long c = reached_long c.args.t.now c.args.state.now c.requires.reachable
+
+pub win-requires-clause-long : goal.win-requires-clause-long
+win-requires-clause-long c = reached_long c.args.t.now c.args.state.now c.requires.reachable
+
+pub learn-requires-clause-stuck : goal.learn-requires-clause-stuck
+learn-requires-clause-stuck c =
+    (c.args.state.now, reached_long c.args.t.now c.args.state.now c.requires.reachable, (subst (IsRight c.args.t.now c.args.state.now c.args.budget) c.in-Lost.is c.in_ok-choices.ensures).0)
+
+pub returns-clause-past : goal.returns-clause-past
+returns-clause-past c = λ none.
+    past_through c.args.t.now c.args.state.now c.args.budget c.requires.reachable
+    (subst (IsRight c.args.t.now c.args.state.now c.args.budget) c.in-Spent.is c.in_ok-choices.ensures)

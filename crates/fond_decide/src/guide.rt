@@ -1,0 +1,161 @@
+//! The searching engine beside a draft. What it says is a hint and nothing else, so nothing is claimed of it.
+
+use crate::draft::Draft;
+use fond_guess::engine::{Engine, Hint};
+use fond_layers::layers::Layer;
+use fond_state::cube::Cube;
+use fond_state::state::State;
+use fond_task::task::Task;
+use fond_text::fault::NoMemory;
+use std::alloc::Global;
+
+/// How much searches may do: how many states each may expand, and how many updates of the relaxed task all may make.
+#[derive(Clone, Copy)]
+pub(crate) struct Effort {
+    pub(crate) states: u32,
+    pub(crate) work: u64,
+}
+
+/// How many of a draft's rules, pairs and layers the engine was told.
+#[derive(Clone, Copy)]
+struct Told {
+    rules: u32,
+    pairs: u64,
+    layers: u32,
+}
+
+/// The engine, once it is needed, what it was told, and what its searches may still do.
+#[derive(Drop)]
+pub(crate) struct Guide {
+    engine: Option<Engine>,
+    told: Told,
+    effort: Effort,
+}
+
+/// Tells the rules from this number on.
+fn tell_rules(engine: &mut Engine, draft: &Draft, from: u32) -> Result<(), NoMemory> {
+    for number in from..draft.rules.len() {
+        engine.add_rule(&draft.rules.get(number).cond)?;
+    }
+    Ok(())
+}
+
+/// Tells the pairs from this number on.
+fn tell_pairs(engine: &mut Engine, draft: &Draft, from: u64) -> Result<(), NoMemory> {
+    for number in from..draft.pairs.len() {
+        let pair = draft.pairs.get(number);
+        engine.add_pair(pair.act, &pair.cond)?;
+    }
+    Ok(())
+}
+
+/// Tells the cubes of a layer.
+fn tell_layer(engine: &mut Engine, layer: &Layer) -> Result<(), NoMemory> {
+    for cube in layer {
+        engine.add_dead(cube)?;
+    }
+    Ok(())
+}
+
+/// Tells the layers from this number on.
+fn tell_layers(engine: &mut Engine, draft: &Draft, from: u32) -> Result<(), NoMemory> {
+    for number in from..draft.layers.len() {
+        tell_layer(engine, draft.layers.get(number))?;
+    }
+    Ok(())
+}
+
+/// Tells what is new in the draft. Returns what was told by then.
+fn tell(engine: &mut Engine, draft: &Draft, told: Told) -> Result<Told, NoMemory> {
+    tell_rules(engine, draft, told.rules)?;
+    tell_pairs(engine, draft, told.pairs)?;
+    tell_layers(engine, draft, told.layers)?;
+    Ok(Told {
+        rules: draft.rules.len(),
+        pairs: draft.pairs.len(),
+        layers: draft.layers.len(),
+    })
+}
+
+impl Guide {
+    /// A guide without an engine. It takes no memory.
+    pub(crate) fn new() -> Guide {
+        Guide {
+            engine: None,
+            told: Told {
+                rules: 0,
+                pairs: 0,
+                layers: 0,
+            },
+            effort: Effort { states: 0, work: 0 },
+        }
+    }
+
+    /// Makes the engine, if there is none, and lets the next searches do this much.
+    pub(crate) fn allow(
+        &mut self,
+        alloc: Global,
+        t: &Task,
+        effort: Effort,
+    ) -> Result<(), NoMemory> {
+        if self.engine.is_none() {
+            self.engine = Some(Engine::new(alloc, t)?);
+        }
+        self.effort = effort;
+        Ok(())
+    }
+
+    /// Forgets the rules and the pairs.
+    pub(crate) fn forget_rules(&mut self) {
+        if let Some(engine) = &mut self.engine {
+            engine.forget_rules();
+        }
+        self.told.rules = 0;
+        self.told.pairs = 0;
+    }
+
+    /// Steps from the state to a goal or to a state in which a rule of the draft holds, if the engine finds some.
+    pub(crate) fn plan(
+        &mut self,
+        alloc: Global,
+        draft: &Draft,
+        from: &State,
+    ) -> Result<Hint, NoMemory> {
+        let Some(engine) = &mut self.engine else {
+            return Ok(Hint::Spent);
+        };
+        self.told = tell(engine, draft, self.told)?;
+        let before = engine.work();
+        let hint = engine.plan(alloc, from, self.effort.states, self.effort.work)?;
+        let done = engine.work().saturating_sub(before);
+        self.effort.work = self.effort.work.saturating_sub(done);
+        Ok(hint)
+    }
+
+    /// Searches go on in this outcome of the unfair action from now on.
+    pub(crate) fn respond(
+        &mut self,
+        state: &State,
+        act: u32,
+        outcome: u32,
+    ) -> Result<(), NoMemory> {
+        match &mut self.engine {
+            Some(engine) => engine.respond(state, act, outcome),
+            None => Ok(()),
+        }
+    }
+
+    /// A cube around the state from which no goal may be reachable, if the engine finds one.
+    pub(crate) fn dead_cube(
+        &mut self,
+        alloc: Global,
+        draft: &Draft,
+        state: &State,
+    ) -> Result<Option<Cube>, NoMemory> {
+        let Some(engine) = &mut self.engine else {
+            return Ok(None);
+        };
+        self.told = tell(engine, draft, self.told)?;
+        engine.dead_cube(alloc, state)
+    }
+}

@@ -1,0 +1,122 @@
+//! The planner: a policy in the making, and where its rules come from.
+
+ghost use Rattle.fond_decide.specs.Drafts.{IsDraft};
+ghost use Rattle.fond_decide.specs.Planners.{IsPlanner};
+ghost use Rattle.fond_decide.specs.Plans.{ArePlans};
+ghost use Rattle.fond_game.specs.Certificates.{LiesInLayers};
+ghost use Rattle.std.specs.Prelude.{◌≡◌, true, length, IfOk, OnOk};
+
+use crate::draft::Draft;
+use crate::guide::{Effort, Guide};
+use crate::plan::Plan;
+use fond_guess::engine::Hint;
+use fond_state::cube::Cube;
+use fond_state::state::State;
+use fond_task::task::Task;
+use fond_text::fault::NoMemory;
+use std::alloc::Global;
+
+/// A draft, the plans from which its rules are made, and a guide to plans. `quick` states are opened before
+/// the engine is asked, and `too_few` is the largest number of opened states that settled nothing for some state. `sketches` tells
+/// whether covers are still sketched.
+#[derive(Drop)]
+pub(crate) struct Planner {
+    pub(crate) draft: Draft,
+    pub(crate) plans: Vec<Plan>,
+    pub(crate) guide: Guide,
+    pub(crate) quick: u32,
+    pub(crate) too_few: u32,
+    pub(crate) sketches: bool,
+}
+
+impl Planner {
+    /// A planner without rules and plans.
+    pub(crate) fn new(alloc: Global, t: &Task, quick: u32) -> Planner
+        ensures { IsPlanner t.now result }
+    {
+        Planner {
+            draft: Draft::new(alloc, t),
+            plans: Vec::new(alloc),
+            guide: Guide::new(),
+            quick,
+            too_few: 0,
+            sketches: true,
+        }
+    }
+
+    /// Lets the next searches of the engine do this much.
+    pub(crate) fn allow(&mut self, alloc: Global, t: &Task, effort: Effort) -> Result<(), NoMemory>
+        requires { IsPlanner t.now self.old }
+        ensures { OnOk result (IsPlanner t.now self.new) }
+    {
+        self.guide.allow(alloc, t, effort)
+    }
+
+    /// What the engine says about plans from the state.
+    pub(crate) fn hint(&mut self, alloc: Global, t: &Task, from: &State) -> Result<Hint, NoMemory>
+        requires { IsPlanner t.now self.old }
+        ensures { OnOk result (IsPlanner t.now self.new) }
+    {
+        self.guide.plan(alloc, &self.draft, from)
+    }
+
+    /// The engine's searches go on in this outcome of the unfair action from now on.
+    pub(crate) fn respond(
+        &mut self,
+        t: &Task,
+        state: &State,
+        act: u32,
+        outcome: u32,
+    ) -> Result<(), NoMemory>
+        requires { IsPlanner t.now self.old }
+        ensures { OnOk result (IsPlanner t.now self.new) }
+    {
+        self.guide.respond(state, act, outcome)
+    }
+
+    /// What the engine says about a cube around the state from which no goal is reachable.
+    fn dead_cube(
+        &mut self,
+        alloc: Global,
+        t: &Task,
+        state: &State,
+    ) -> Result<Option<Cube>, NoMemory>
+        requires { IsPlanner t.now self.old }
+        ensures { OnOk result (IsPlanner t.now self.new) }
+    {
+        self.guide.dead_cube(alloc, &self.draft, state)
+    }
+
+    /// Appends a layer of one cube with the state, if one is found: the engine's, or that of a hopeless state. Returns whether one
+    /// is.
+    pub(crate) fn learn_dead(
+        &mut self,
+        alloc: Global,
+        t: &Task,
+        state: &State,
+    ) -> Result<bool, NoMemory>
+        requires planner { IsPlanner t.now self.old }
+        requires long { length state.now ≡ length t.now.atoms }
+        ensures planner { OnOk result (IsPlanner t.now self.new) }
+        ensures lies { IfOk result (λ learnt. learnt ≡ true → LiesInLayers state.now self.new.draft.layers) }
+    {
+        if let Some(cube) = self.dead_cube(alloc, t, state)? {
+            if self.draft.learn_cube(alloc, t, state, cube)? {
+                return Ok(true);
+            }
+        }
+        self.draft.learn_hopeless(alloc, t, state)
+    }
+
+    /// Heeds the fresh pairs of the draft, and drops all rules. If there are none, a sketch missed a state without a rule, and no
+    /// more are made.
+    pub(crate) fn begin_again(&mut self, alloc: Global, t: &Task) -> Result<(), NoMemory>
+        requires { IsPlanner t.now self.old }
+        ensures { OnOk result (IsPlanner t.now self.new) }
+    {
+        self.sketches = !self.draft.fresh.is_empty();
+        self.draft.heed_fresh(alloc, t)?;
+        self.guide.forget_rules();
+        Ok(())
+    }
+}
