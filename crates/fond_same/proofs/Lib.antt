@@ -17,6 +17,7 @@ pub mod OneTaskEffects
 pub mod OneTask
 pub mod OneTaskOfTexts
 pub mod SameActs
+pub mod SameItems
 pub mod SameParts
 pub mod SameStates
 pub mod SameTexts

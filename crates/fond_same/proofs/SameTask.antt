@@ -20,13 +20,18 @@ use Rattle.fond_game.specs.declared.rule.Rule.{Rule}
 use Rattle.fond_layers.specs.Over.{AreOver}
 use Rattle.fond_rules.specs.Belongs.{ArePairsOver}
 use Rattle.fond_rules.specs.Select.{AreOver as AreRulesOver}
-use Rattle.fond_policy.specs.Belongs.{BelongAsLayers, BelongAsPairs, BelongAsRules, Belongs}
+use Rattle.fond_policy.specs.Belongs.{BelongAsItems, BelongAsLayers, BelongAsPairs, BelongAsRules, Belongs}
 use Rattle.fond_policy.specs.declared.cert.Cert.{Cert}
-use Rattle.fond_policy.specs.declared.cert.Cert.TheVariants.{Policy, Refusal}
-use Rattle.fond_policy.specs.Parts.{AreLean, IsRight}
+use Rattle.fond_policy.specs.declared.cert.Cert.TheVariants.{Policy, Refusal, Covered}
+use Rattle.fond_policy.specs.Parts.{AreAllLean, AreLean, ArePartsSure, IsRight}
+use Rattle.fond_cover.specs.declared.item.Item.{Item}
+use Rattle.fond_cover.specs.Covers.{IsIn}
+use Rattle.fond_cover.specs.Items.{AreItemsOver, firsts_of}
+use Rattle.fond_relax.specs.Stable.{IsHopeless}
 use Rattle.fond_ground.proofs.Zips.{zip-length}
 use Rattle.fond_same.specs.Alike.{AreAlike, IsSameAct, IsSameEntry, IsSameTask}
 use Rattle.fond_same.proofs.SameActs.{sym_task}
+use Rattle.fond_same.proofs.SameItems.{same_hopeless, same_lean_item, same_way}
 use Rattle.fond_same.proofs.SameLists.{zip-both}
 use Rattle.fond_same.proofs.SameParts.{same_layers, same_lean_pair, same_lean_rule, same_pair, same_rule}
 use Rattle.fond_same.proofs.SameStates.{same_count, same_reach, same_reached_goal}
@@ -95,25 +100,49 @@ module _ (game other : Task) (same : IsSameTask game other) where
     targeted = belong.targeted;
   }
 
+  -- items belong to the same task
+  same_as_items : (items : List Item) → BelongAsItems game items → BelongAsItems other items
+  same_as_items items belong = record {
+    few = belong.few;
+    over = subst (λ (n : ℕ). AreItemsOver n items) (ap length same.atoms) belong.over;
+    numbered = belong.numbered;
+  }
+
   -- a certificate belongs to the same task
   same_belongs : (cert : Cert) → Belongs game cert → Belongs other cert
   same_belongs (Policy layers pairs rules reach) belongs = (same_as_layers layers belongs.0, same_as_pairs pairs belongs.1, same_as_rules rules belongs.2)
   same_belongs (Refusal layers) belongs = same_as_layers layers belongs
+  same_belongs (Covered layers pairs rules items start) belongs = (same_as_layers layers belongs.0, same_as_pairs pairs belongs.1, same_as_rules rules belongs.2, same_as_items items belongs.3)
+
+  -- layers, pairs and rules are sure in the same task
+  same_parts : (layers : List (List CubeView)) (pairs : List Pair) (rules : List Rule) → ArePartsSure game layers pairs rules → ArePartsSure other layers pairs rules
+  same_parts layers pairs rules sure = record {
+    layers_sure = same_layers game other same layers sure.layers_sure;
+    pairs_sure = λ pair has. same_pair game other same layers pair (sure.pairs_sure pair has);
+    rules_sure = λ number rule at. same_rule game other same pairs rules number rule (sure.rules_sure number rule at);
+  }
 
   -- a certificate is correct in the same task
   same_right : (cert : Cert) → IsRight game cert → IsRight other cert
-  same_right (Policy layers pairs rules reach) right = record {
-    layers_sure = same_layers game other same layers right.layers_sure;
-    pairs_sure = λ pair has. same_pair game other same layers pair (right.pairs_sure pair has);
-    rules_sure = λ number rule at. same_rule game other same pairs rules number rule (right.rules_sure number rule at);
-    ruled = λ state reached open_.
-        let was = same_reach other game (sym_task game other same) (selected rules) state reached in
-        right.ruled state was (λ goal. open_ (same_reached_goal game other same (selected rules) state was goal));
-    counted = same_count game other same (selected rules) reach right.counted;
-  }
+  same_right (Policy layers pairs rules reach) right =
+      let sure = same_parts layers pairs rules (record { layers_sure = right.layers_sure; pairs_sure = right.pairs_sure; rules_sure = right.rules_sure }) in
+      record {
+        layers_sure = sure.layers_sure;
+        pairs_sure = sure.pairs_sure;
+        rules_sure = sure.rules_sure;
+        ruled = λ state reached open_.
+            let was = same_reach other game (sym_task game other same) (selected rules) state reached in
+            right.ruled state was (λ goal. open_ (same_reached_goal game other same (selected rules) state was goal));
+        counted = same_count game other same (selected rules) reach right.counted;
+      }
   same_right (Refusal layers) right = record {
     layers_sure = same_layers game other same layers right.layers_sure;
     start = subst (λ (state : List Bool). LiesInLayers state layers) same.init right.start;
+  }
+  same_right (Covered layers pairs rules items start) right = record {
+    sure = same_parts layers pairs rules right.sure;
+    items_sure = λ number item at. same_way game other same (firsts_of rules) items item.cube item.way (right.items_sure number item at);
+    starts = subst (λ (state : List Bool). IsIn items start state) same.init right.starts;
   }
 
   -- pairs and rules are lean in the same task
@@ -123,6 +152,13 @@ module _ (game other : Task) (same : IsSameTask game other) where
     rules_lean = λ number rule at. same_lean_rule game other same pairs rules number rule (lean.rules_lean number rule at);
   }
 
+  -- pairs, rules and items are lean in the same task
+  same_items_lean : (layers : List (List CubeView)) (pairs : List Pair) (rules : List Rule) (items : List Item) → AreAllLean game layers pairs rules items → AreAllLean other layers pairs rules items
+  same_items_lean layers pairs rules items lean = record {
+    lean = same_lean layers pairs rules lean.lean;
+    items_lean = λ number item at. same_lean_item game other same (firsts_of rules) items number item (lean.items_lean number item at);
+  }
+
 -- what a certificate is in a ground task, it is in one that is the same but for forms
 pub alike : (game other : Task) → IsSameTask game other → AreAlike game other
 alike game other same = record {
@@ -130,4 +166,6 @@ alike game other same = record {
   belongs = same_belongs game other same;
   right = same_right game other same;
   lean = same_lean game other same;
+  items_lean = same_items_lean game other same;
+  hopeless = λ hopeless. subst (IsHopeless other) same.init (same_hopeless game other same game.init hopeless);
 }

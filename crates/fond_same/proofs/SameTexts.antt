@@ -8,9 +8,9 @@ use Rattle.fond_task.specs.declared.task.Labels.{Labels}
 use Rattle.fond_task.specs.declared.task.Task.{Task}
 use Rattle.fond_game.specs.Layers.{CubeView}
 use Rattle.fond_policy.specs.declared.cert.Cert.{Cert}
-use Rattle.fond_policy.specs.declared.cert.Cert.TheVariants.{Policy, Refusal}
-use Rattle.fond_cert.specs.Lines.{WrittenLiteral, WrittenLine, PolicyHeader, RefusalHeader, LayerLine, CubeLine, PairLine, ReachLine, EndLine}
-use Rattle.fond_cert.specs.Spellings.{act_leaves, action_leaves, cert_lines, lines_text, spelling, targets_line, written_cube, written_literal}
+use Rattle.fond_policy.specs.declared.cert.Cert.TheVariants.{Policy, Refusal, Covered}
+use Rattle.fond_cert.specs.Lines.{WrittenLiteral, WrittenLine, PolicyHeader, RefusalHeader, CoverHeader, LayerLine, CubeLine, PairLine, ReachLine, StartLine, EndLine}
+use Rattle.fond_cert.specs.Spellings.{act_leaves, action_leaves, cert_lines, lines_text, spelling, targets_line, way_line, written_cube, written_literal}
 use Rattle.fond_same.specs.Alike.{IsSameAct, IsSameTask}
 
 module _ (labels : Labels) where
@@ -33,11 +33,17 @@ lines_of leaves literals (Policy layers pairs rules reach) =
     ++ (map (λ pair. PairLine (leaves pair.act) (decimal pair.outcome) (decimal pair.layer) (decimal pair.cube) (literals pair.cond)) pairs
     ++ (map (λ rule. targets_line (leaves rule.act) rule.targets (literals rule.cond)) rules ++ (ReachLine (decimal reach) ∷ EndLine ∷ []))))
 lines_of leaves literals (Refusal layers) = RefusalHeader ∷ (flat_map (λ layer. LayerLine ∷ map (λ cube. CubeLine (literals cube)) layer) layers ++ (EndLine ∷ []))
+lines_of leaves literals (Covered layers pairs rules items start) =
+    CoverHeader ∷ (flat_map (λ layer. LayerLine ∷ map (λ cube. CubeLine (literals cube)) layer) layers
+    ++ (map (λ pair. PairLine (leaves pair.act) (decimal pair.outcome) (decimal pair.layer) (decimal pair.cube) (literals pair.cond)) pairs
+    ++ (map (λ rule. targets_line (leaves rule.act) rule.targets (literals rule.cond)) rules
+    ++ (map (λ item. way_line item.way (literals item.cube)) items ++ (StartLine (decimal start) ∷ EndLine ∷ [])))))
 
 -- those are the lines of a certificate in a task
 lines_are : (task : Task) (cert : Cert) → cert_lines task cert ≡ lines_of (act_leaves task) (written_cube task) cert
 lines_are task (Policy layers pairs rules reach) = refl
 lines_are task (Refusal layers) = refl
+lines_are task (Covered layers pairs rules items start) = refl
 
 -- a certificate is spelled alike in the same task
 pub same_spelling : (game other : Task) → IsSameTask game other → (cert : Cert) → spelling game cert ≡ spelling other cert

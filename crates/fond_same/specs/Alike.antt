@@ -12,7 +12,9 @@ use Rattle.fond_game.specs.Layers.{CubeView}
 use Rattle.fond_policy.specs.Belongs.{Belongs}
 use Rattle.fond_cert.specs.Spellings.{spelling}
 use Rattle.fond_policy.specs.declared.cert.Cert.{Cert}
-use Rattle.fond_policy.specs.Parts.{AreLean, IsRight}
+use Rattle.fond_policy.specs.Parts.{AreAllLean, AreLean, IsRight}
+use Rattle.fond_cover.specs.declared.item.Item.{Item}
+use Rattle.fond_relax.specs.Stable.{IsHopeless}
 
 -- two forms have the same value on every cube
 abbrev pub HaveSameValues : Form → Form → Type 0
@@ -39,10 +41,12 @@ pub record IsSameTask (game other : Task) : Type 0 where
   pub goal : HaveSameValues game.goal other.goal
   pub labels : game.labels ≡ other.labels
 
--- each certificate has the same text in both ground tasks; and if it belongs to the first, is correct there or lean there, it is
--- so in the second
+-- each certificate has the same text in both ground tasks; if it belongs to the first, is correct there or lean there, it is so in
+-- the second; and if the initial state of the first is hopeless, so is that of the second
 pub record AreAlike (game other : Task) : Type 0 where
   pub spelled : (cert : Cert) → spelling game cert ≡ spelling other cert
   pub belongs : (cert : Cert) → Belongs game cert → Belongs other cert
   pub right : (cert : Cert) → IsRight game cert → IsRight other cert
   pub lean : (layers : List (List CubeView)) (pairs : List Pair) (rules : List Rule) → AreLean game layers pairs rules → AreLean other layers pairs rules
+  pub items_lean : (layers : List (List CubeView)) (pairs : List Pair) (rules : List Rule) (items : List Item) → AreAllLean game layers pairs rules items → AreAllLean other layers pairs rules items
+  pub hopeless : IsHopeless game game.init → IsHopeless other other.init
