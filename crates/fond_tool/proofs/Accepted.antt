@@ -1,5 +1,6 @@
 -- `check` accepts correct certificates, and what `plan` prints.
 use Rattle.std.proofs.Common.{inl, inr, ◌≡◌, ◌∙◌, ◌⊎◌, ℕ, Bool, true, List, [], ◌∷◌, refl, sym, ap, subst}
+use Rattle.std.specs.Prelude.{⊤}
 use Rattle.fond_ast.specs.declared.task.LiftedTask.{LiftedTask}
 use Rattle.fond_task.specs.declared.task.Task.{Task}
 use Rattle.fond_cert.proofs.OneCert.{one_cert}
@@ -8,29 +9,36 @@ use Rattle.fond_cert.proofs.OwnLines.{cert_leads}
 use Rattle.fond_cert.specs.Faults.{IsCertFault}
 use Rattle.fond_cert.specs.Spellings.{cert_lines}
 use Rattle.fond_policy.specs.declared.cert.Cert.{Cert}
-use Rattle.fond_policy.specs.declared.cert.Cert.TheVariants.{Policy, Refusal}
+use Rattle.fond_policy.specs.declared.cert.Cert.TheVariants.{Policy, Refusal, Covered}
 use Rattle.fond_check.proofs.Accepted.{right_accepted}
 use Rattle.fond_policy.specs.Parts.{IsRight}
 use Rattle.fond_check.specs.Verdicts.{IsVerdict}
-use Rattle.fond_check.specs.declared.verdict.Verdict.TheVariants.{Accepted}
+use Rattle.fond_check.specs.declared.verdict.Verdict.{Verdict}
+use Rattle.fond_check.specs.declared.verdict.Verdict.TheVariants.{Accepted, Rule, Pair, LayerGoal, LayerAct, NoRule, Count, Outside, Item, Start}
 use Rattle.fond_front.specs.declared.texts.TaskTexts.{TaskTexts}
 use Rattle.fond_same.proofs.OneTaskOfTexts.{texts_have_one_task_lem}
 use Rattle.fond_same.proofs.SameGround.{ground_of_same}
 use Rattle.fond_same.proofs.SameTask.{alike, same_ground}
 use Rattle.fond_same.specs.Alike.{AreAlike}
 use Rattle.fond_tool.specs.Certified.{DescribeGround, IsCertText, TaskReply}
-use Rattle.fond_tool.specs.Checks.{AnswersCheck, CheckReply, IsFault, verdict_reply}
-use Rattle.fond_tool.specs.Laws.{CorrectAreAccepted, IsCertStatus, PlannedAreAccepted, SmallTasksAreDecided, accepted_reply}
+use Rattle.fond_tool.specs.Checks.{AnswersCheck, CheckReply, IsFault, verdict_reply, verdict_status}
+use Rattle.fond_tool.specs.Laws.{CorrectAreAccepted, HopelessTasksAreRefused, IsCertStatus, MigratedAreAccepted, PlannedAreAccepted, SmallTasksAreDecided, accepted_reply}
 use Rattle.fond_bridge.proofs.Between.{ground-tasks-agree}
 use Rattle.fond_ground.specs.Grounds.{IsGroundOf}
 use Rattle.fond_meaning.specs.Solutions.{IsSolvable, More}
+use Rattle.fond_game.specs.Solutions as games
+use Rattle.fond_game.proofs.Forced.{refusals_exclude}
+use Rattle.fond_relax.specs.Stable.{IsHopeless}
+use Rattle.fond_decide.proofs.Right.{right_hopeless}
 use Rattle.fond_tool.specs.Commands.{CommandReply}
+use Rattle.fond_tool.specs.Migrations.{AnswersMigrate, IsCoverText, MigrateReply}
 use Rattle.fond_tool.specs.Plans.{AnswersPlan}
 use Rattle.fond_tool.specs.Tasks.{Describe}
 use Rattle.fond_tool.specs.declared.words.Command.TheVariants.{Plan}
 use Rattle.fond_tool.specs.Replies.{Reply}
 use Rattle.fond_tool.proofs.Refused.{not_refused}
-use Rattle.fond_tool.specs.declared.status.Status.TheVariants.{Done, Unsolvable}
+use Rattle.fond_tool.specs.declared.status.Status.{Status}
+use Rattle.fond_tool.specs.declared.status.Status.TheVariants.{Done, Unsolvable, Refused, Rejected}
 
 module _ (task : LiftedTask) (game : Task) where
   -- the text of a correct certificate is accepted
@@ -72,10 +80,11 @@ correct texts task game cert text reply described is right answers =
 
 module _ (texts : TaskTexts) (task : LiftedTask) (game : Task) (described : DescribeGround texts task game) where
   planned_by : (budget : ℕ) (printed reply : Reply) → AnswersPlan task game budget printed → IsCertStatus printed.status → CheckReply texts printed.text reply → reply ≡ accepted_reply printed.status
-  planned_by budget printed reply (AnswersPlan.policy layers pairs rules reach text is right lean solves has) status answers =
-      let found = reply_to texts task game (Policy layers pairs rules reach) text reply described is right answers in
-      let is_lean : found.2 ≡ true = found.3.1.1 (found.1.lean layers pairs rules lean) in
-      found.4 ∙ ap (λ (b : Bool). verdict_reply found.0 (Policy layers pairs rules reach) (Accepted b)) is_lean
+  planned_by budget printed reply (AnswersPlan.policy layers pairs rules items start text is right lean solves has) status answers =
+      let cert = Covered layers pairs rules items start in
+      let found = reply_to texts task game cert text reply described is right answers in
+      let is_lean : found.2 ≡ true = found.3.1.1 (found.1.items_lean layers pairs rules items lean) in
+      found.4 ∙ ap (λ (b : Bool). verdict_reply found.0 cert (Accepted b)) is_lean
   planned_by budget printed reply (AnswersPlan.unsolvable layers text is right none) status answers = (reply_to texts task game (Refusal layers) text reply described is right answers).4
   planned_by budget printed reply (AnswersPlan.undecided more hope) status answers = absurd status
 
@@ -104,7 +113,7 @@ module _ (texts : TaskTexts) (task : LiftedTask) (budget : ℕ) (described : Des
 
   -- a task with the same ground task agrees
   decided_by : (other : LiftedTask) (game : Task) (reply : Reply) → IsGroundOf other game → IsGroundOf task game → AnswersPlan other game budget reply → Decided reply
-  decided_by other game reply is same (AnswersPlan.policy layers pairs rules reach text cert right lean solves has) =
+  decided_by other game reply is same (AnswersPlan.policy layers pairs rules items start text cert right lean solves has) =
       inl (refl, (ground-tasks-agree task game same).solvable.0 ((ground-tasks-agree other game is).solvable.1 has))
   decided_by other game reply is same (AnswersPlan.unsolvable layers text cert right none) =
       inr (refl, λ solvable. none ((ground-tasks-agree other game is).solvable.0 ((ground-tasks-agree task game same).solvable.1 solvable)))
@@ -118,3 +127,65 @@ module _ (texts : TaskTexts) (task : LiftedTask) (budget : ℕ) (described : Des
 
 pub decided : SmallTasksAreDecided
 decided texts task budget reply described few answers = small_decided texts task budget described few reply answers
+
+-- the refusal by the cube of a hopeless state is correct, so the task is not solvable
+not_solvable : (game : Task) → IsHopeless game game.init → ¬ games.IsSolvable game
+not_solvable game hopeless = refusals_exclude game ((hopeless.0 ∷ []) ∷ []) (right_hopeless game hopeless.0 hopeless.1).right
+
+module _ (texts : TaskTexts) (task : LiftedTask) (game : Task) (described : DescribeGround texts task game) (hopeless : IsHopeless game game.init) where
+  hopeless_by : (other : LiftedTask) (another : Task) (budget : ℕ) (reply : Reply) → DescribeGround texts other another → AnswersPlan other another budget reply → reply.status ≡ Unsolvable
+  hopeless_by other another budget reply also (AnswersPlan.policy layers pairs rules items start text cert right lean solves has) =
+      let agree = both_alike texts task other game another described also in
+      absurd (not_solvable another (agree.hopeless hopeless) ((ground-tasks-agree other another also.1).solvable.1 has))
+  hopeless_by other another budget reply also (AnswersPlan.unsolvable layers text cert right none) = refl
+  hopeless_by other another budget reply also (AnswersPlan.undecided more hope) = absurd (hope ((both_alike texts task other game another described also).hopeless hopeless))
+
+  hopeless_reply : (budget : ℕ) (reply : Reply) → TaskReply texts (λ task game. AnswersPlan task game budget) reply → reply.status ≡ Unsolvable
+  hopeless_reply budget reply (TaskReply.refused fault refusal) = absurd (not_refused texts task fault described.0 refusal)
+  hopeless_reply budget reply (TaskReply.answered other another same also answers) = hopeless_by other another budget reply also answers
+
+pub hopeless_refused : HopelessTasksAreRefused
+hopeless_refused texts task game budget reply described hopeless answers = hopeless_reply texts task game described hopeless budget reply answers
+
+-- whether a status is that of a job that is done
+abbrev is_done : Status → Type 0
+is_done Done = ⊤
+is_done status = ⊥
+
+rejected_done : ¬ Rejected ≡ Done
+rejected_done same = subst is_done (sym same) tt
+
+refused_done : ¬ Refused ≡ Done
+refused_done same = subst is_done (sym same) tt
+
+fault_done : (verdict : Verdict) → IsFault verdict → ¬ verdict_status verdict ≡ Done
+fault_done (Accepted lean) fault same = fault
+fault_done (LayerGoal layer cube) fault same = rejected_done same
+fault_done (LayerAct layer cube act) fault same = rejected_done same
+fault_done (Pair number) fault same = rejected_done same
+fault_done (Rule number) fault same = rejected_done same
+fault_done (Count more) fault same = rejected_done same
+fault_done (NoRule state) fault same = rejected_done same
+fault_done Outside fault same = rejected_done same
+fault_done (Item number) fault same = rejected_done same
+fault_done Start fault same = rejected_done same
+
+-- the text of a cover is accepted
+cover_accepted : (texts : TaskTexts) (task : LiftedTask) (game : Task) (read : Cert) (text : List ℕ) (reply : Reply) → DescribeGround texts task game → IsCoverText game read text → CheckReply texts text reply → reply.status ≡ Done
+cover_accepted texts task game (Policy layers pairs rules reach) text reply described covers answers = correct texts task game (Covered layers pairs rules covers.0 covers.1) text reply described covers.2 covers.3 answers
+cover_accepted texts task game (Refusal layers) text reply described covers answers = absurd covers
+cover_accepted texts task game (Covered layers pairs rules items start) text reply described covers answers = absurd covers
+
+migrated_by : (texts : TaskTexts) (task : LiftedTask) (game : Task) (cert : List ℕ) (written reply : Reply) → DescribeGround texts task game → AnswersMigrate game cert written → written.status ≡ Done → CheckReply texts written.text reply
+    → reply.status ≡ Done
+migrated_by texts task game cert written reply described (AnswersMigrate.bad_cert code byte fault) status answers = absurd (rejected_done status)
+migrated_by texts task game cert written reply described (AnswersMigrate.rejected read verdict spelled found fault) status answers = absurd (fault_done verdict fault status)
+migrated_by texts task game cert written reply described (AnswersMigrate.covered read text spelled right to_cover covers) status answers = cover_accepted texts task game read text reply described covers answers
+migrated_by texts task game cert written reply described (AnswersMigrate.kept read spelled right other) status answers = correct texts task game read cert reply described spelled right answers
+
+migrated_of : (texts : TaskTexts) (cert : List ℕ) (written reply : Reply) → MigrateReply texts cert written → written.status ≡ Done → CheckReply texts written.text reply → reply.status ≡ Done
+migrated_of texts cert written reply (TaskReply.refused fault refusal) status answers = absurd (refused_done status)
+migrated_of texts cert written reply (TaskReply.answered task game same described answered) status answers = migrated_by texts task game cert written reply described answered status answers
+
+pub migrated : MigratedAreAccepted
+migrated given other domain problem side cert written reply answered status answers = migrated_of (record { domain = domain; problem = problem; side = side }) cert written reply answered status answers

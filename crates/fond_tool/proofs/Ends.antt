@@ -8,16 +8,17 @@ use Rattle.fond_meaning.specs.Truths.{holds}
 use Rattle.fond_tool.specs.declared.status.Status.{Status}
 use Rattle.fond_tool.specs.declared.status.Status.TheVariants.{Done, Unsolvable, Undecided, Refused, BadWords, ReadFault, WriteFault, Rejected, Stopped, NoMemory}
 use Rattle.fond_tool.specs.declared.words.Command.{Command}
-use Rattle.fond_tool.specs.declared.words.Command.TheVariants.{Succ, Run, Check, Plan}
+use Rattle.fond_tool.specs.declared.words.Command.TheVariants.{Succ, Run, Check, Plan, Migrate}
 use Rattle.fond_tool.specs.Commands.{CommandReply}
 use Rattle.fond_tool.specs.Ends.{ToolReply, Ends, Writes}
 use Rattle.fond_tool.specs.Fetches.{Reads}
 use Rattle.fond_tool.specs.Replies.{Reply}
 use Rattle.fond_task.specs.declared.task.Task.{Task}
 use Rattle.fond_check.specs.declared.verdict.Verdict.{Verdict}
-use Rattle.fond_check.specs.declared.verdict.Verdict.TheVariants.{Accepted, Rule, Pair, LayerGoal, LayerAct, NoRule, Count, Outside}
+use Rattle.fond_check.specs.declared.verdict.Verdict.TheVariants.{Accepted, Rule, Pair, LayerGoal, LayerAct, NoRule, Count, Outside, Item, Start}
 use Rattle.fond_tool.specs.Certified.{TaskReply}
 use Rattle.fond_tool.specs.Checks.{AnswersCheck, CheckReply, verdict_status}
+use Rattle.fond_tool.specs.Migrations.{AnswersMigrate, MigrateReply}
 use Rattle.fond_tool.specs.Plans.{AnswersPlan}
 use Rattle.fond_tool.specs.Runs.{AnswersRun, RunReply}
 use Rattle.fond_tool.specs.Successors.{AnswersAction, AnswersWord, SuccReply}
@@ -62,6 +63,8 @@ fault_status (Rule number) = refl
 fault_status (Count more) = refl
 fault_status (NoRule state) = refl
 fault_status Outside = refl
+fault_status (Item number) = refl
+fault_status Start = refl
 
 judged_status : {task : LiftedTask} {game : Task} {cert : List ℕ} {reply : Reply} → AnswersCheck task game cert reply → is_reply_status reply.status ≡ true
 judged_status (AnswersCheck.bad_cert code byte fault) = refl
@@ -73,13 +76,23 @@ check_status (TaskReply.refused fault first) = refl
 check_status (TaskReply.answered task game reply of answers) = judged_status answers
 
 planned_status : {task : LiftedTask} {game : Task} {budget : ℕ} {reply : Reply} → AnswersPlan task game budget reply → is_reply_status reply.status ≡ true
-planned_status (AnswersPlan.policy layers pairs rules reach text is right lean solves has) = refl
+planned_status (AnswersPlan.policy layers pairs rules items start text is right lean solves has) = refl
 planned_status (AnswersPlan.unsolvable layers text is right none) = refl
 planned_status (AnswersPlan.undecided more hope) = refl
 
 task_plan_status : {texts : TaskTexts} {budget : ℕ} {reply : Reply} → TaskReply texts (λ task game. AnswersPlan task game budget) reply → is_reply_status reply.status ≡ true
 task_plan_status (TaskReply.refused fault first) = refl
 task_plan_status (TaskReply.answered task game reply of answers) = planned_status answers
+
+migrated_status : {game : Task} {cert : List ℕ} {reply : Reply} → AnswersMigrate game cert reply → is_reply_status reply.status ≡ true
+migrated_status (AnswersMigrate.bad_cert code byte fault) = refl
+migrated_status (AnswersMigrate.rejected read verdict spelled found fault) = fault_status verdict
+migrated_status (AnswersMigrate.covered read text spelled right to_cover covers) = refl
+migrated_status (AnswersMigrate.kept read spelled right other) = refl
+
+migrate_status : {texts : TaskTexts} {cert : List ℕ} {reply : Reply} → MigrateReply texts cert reply → is_reply_status reply.status ≡ true
+migrate_status (TaskReply.refused fault first) = refl
+migrate_status (TaskReply.answered task game reply of answers) = migrated_status answers
 
 command_status : (command : Command) (given contents : List (List ℕ)) (reply : Reply) → CommandReply command given contents reply → is_reply_status reply.status ≡ true
 command_status Succ (d ∷ p ∷ action ∷ []) (domain ∷ problem ∷ []) reply h = succ_status h
@@ -103,6 +116,12 @@ command_status Check given (domain ∷ problem ∷ []) reply h = absurd h
 command_status Check given (domain ∷ problem ∷ side ∷ []) reply h = absurd h
 command_status Check given (domain ∷ problem ∷ side ∷ cert ∷ []) reply h = check_status h
 command_status Check given (domain ∷ problem ∷ side ∷ cert ∷ other ∷ others) reply h = absurd h
+command_status Migrate given [] reply h = absurd h
+command_status Migrate given (domain ∷ []) reply h = absurd h
+command_status Migrate given (domain ∷ problem ∷ []) reply h = absurd h
+command_status Migrate given (domain ∷ problem ∷ side ∷ []) reply h = absurd h
+command_status Migrate given (domain ∷ problem ∷ side ∷ cert ∷ []) reply h = migrate_status h
+command_status Migrate given (domain ∷ problem ∷ side ∷ cert ∷ other ∷ others) reply h = absurd h
 command_status Plan [] contents reply h = absurd h
 command_status Plan (d ∷ []) contents reply h = absurd h
 command_status Plan (d ∷ p ∷ []) contents reply h = absurd h

@@ -4,8 +4,10 @@ mod Checks
 mod Ends
 mod Fitting
 mod Lists
+mod Migrated
 mod Planned
 mod Refused
 mod Rejections
 mod Runs
 mod Solvable
+mod Stuck

@@ -4,12 +4,12 @@ use Rattle.fond_ast.specs.declared.task.LiftedTask.{LiftedTask}
 use Rattle.fond_bridge.proofs.Between.{ground-tasks-agree}
 use Rattle.fond_cert.specs.Spellings.{spelling}
 use Rattle.fond_policy.specs.declared.cert.Cert.{Cert}
-use Rattle.fond_policy.specs.declared.cert.Cert.TheVariants.{Policy, Refusal}
+use Rattle.fond_policy.specs.declared.cert.Cert.TheVariants.{Policy, Refusal, Covered}
 use Rattle.fond_decide.specs.Decisions.{IsDecision, IsRightCert}
 use Rattle.fond_decide.specs.declared.decide.Decision.{Decision}
 use Rattle.fond_decide.specs.declared.decide.Decision.TheVariants.{Certified, Undecided}
 use Rattle.fond_game.proofs.Forced.{refusals_exclude}
-use Rattle.fond_game.proofs.Ranks.{ranks_exclude}
+use Rattle.fond_policy.proofs.Covered.{covers_solve}
 use Rattle.fond_game.specs.Policies.{selected}
 use Rattle.fond_ground.specs.Grounds.{IsGroundOf}
 use Rattle.fond_task.specs.declared.task.Task.{Task}
@@ -20,10 +20,12 @@ use Rattle.fond_tool.proofs.Solvable.{solvable}
 
 module _ (task : LiftedTask) (game : Task) (budget : ℕ) (is : IsGroundOf task game) where
   certified : (cert : Cert) → IsRightCert game cert → AnswersPlan task game budget (record { text = spelling game cert; status = cert_status cert })
-  certified (Policy layers pairs rules reach) right =
-      AnswersPlan.policy layers pairs rules reach (spelling game (Policy layers pairs rules reach)) (right.belongs, right.small, refl) right.right right.lean
-      (((ground-tasks-agree task game is).solution (selected rules)).0 (ranks_exclude game layers pairs rules reach right.right))
-      ((ground-tasks-agree task game is).solvable.0 (solvable game (selected rules) reach right.right.counted (ranks_exclude game layers pairs rules reach right.right)))
+  certified (Covered layers pairs rules items start) right =
+      let solves = covers_solve game layers pairs rules items start right.right in
+      AnswersPlan.policy layers pairs rules items start (spelling game (Covered layers pairs rules items start)) (right.belongs, right.small, refl) right.right right.lean
+      (((ground-tasks-agree task game is).solution (selected rules)).0 solves)
+      ((ground-tasks-agree task game is).solvable.0 (solvable game (selected rules) solves))
+  certified (Policy layers pairs rules reach) right = absurd right.lean
   certified (Refusal layers) right =
       AnswersPlan.unsolvable layers (spelling game (Refusal layers)) (right.belongs, right.small, refl) right.right
       (λ solvable. refusals_exclude game layers right.right ((ground-tasks-agree task game is).solvable.1 solvable))

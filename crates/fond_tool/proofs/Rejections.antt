@@ -1,12 +1,15 @@
 -- Rejections of what a command read, by the errors that they come from.
-use Rattle.std.proofs.Common.{◌≡◌, Result, Ok, Err, IfErr, IfSome, IsErrAnd, Option, Some, None, sym, subst}
+use Rattle.std.proofs.Common.{◌≡◌, ℕ, Result, Ok, Err, IfErr, IfSome, IsErrAnd, Option, Some, None, sym, subst}
 use Rattle.fond_text.specs.declared.fault.Fault.{Fault}
 use Rattle.fond_text.specs.declared.fault.FrontError.{FrontError}
 use Rattle.fond_text.specs.declared.fault.FrontError.TheVariants as front
 use Rattle.fond_text.specs.Faults.{Refuses}
+use Rattle.fond_cert.specs.Refusals.{CertRefuses}
+use Rattle.fond_cert.specs.declared.error.CertError.{CertError}
+use Rattle.fond_cert.specs.declared.error.CertError.TheVariants as cert
 use Rattle.fond_tool.specs.declared.rejection.Rejection.{Rejection}
-use Rattle.fond_tool.specs.Rejections.{Rejects, reply_to, of_files}
-use Rattle.fond_tool.specs.Replies.{Reply, fault_reply}
+use Rattle.fond_tool.specs.Rejections.{Rejects, reply_to, of_files, of_cert}
+use Rattle.fond_tool.specs.Replies.{Reply, fault_reply, cert_reply}
 
 -- a call that hands an error on is rejected as the error is
 pub rejected_by : {T : Type 0} (result : Result T Rejection) (rejection : Rejection) (holds : Reply → Type 0) → IsErrAnd result (λ r. r ≡ rejection) → Rejects holds rejection → IfErr result (Rejects holds)
@@ -17,6 +20,11 @@ rejected_by (Err r) rejection holds is h = subst (Rejects holds) (sym is) h
 pub files_rejected : (holds : Reply → Type 0) (faulty : Fault → Type 0) → ((fault : Fault) → faulty fault → holds (fault_reply fault)) → (error : FrontError) → Refuses faulty error → Rejects holds (of_files error)
 files_rejected holds faulty gives (front.Refused fault) h = gives fault h
 files_rejected holds faulty gives front.NoMemory h = tt
+
+-- a certificate that is refused is so with a fault of which this holds
+pub cert_rejected : (holds : Reply → Type 0) (faulty : ℕ → ℕ → Type 0) → ((code byte : ℕ) → faulty code byte → holds (cert_reply code byte)) → (error : CertError) → CertRefuses faulty error → Rejects holds (of_cert error)
+cert_rejected holds faulty gives (cert.Refused code byte) h = gives code byte h
+cert_rejected holds faulty gives cert.NoMemory h = tt
 
 -- the answer to a rejection has what its reply has
 pub replied : (holds : Reply → Type 0) (rejection : Rejection) (reply : Reply) → Rejects holds rejection → reply_to rejection ≡ Some reply → holds reply

@@ -7,13 +7,9 @@ use Rattle.fond_bridge.specs.Games.{IsState}
 use Rattle.fond_bridge.specs.Stands.{stands}
 use Rattle.fond_bridge.proofs.Between.{ground-tasks-play, texts-agree, traces-stand}
 use Rattle.fond_bridge.proofs.Places.{same_tests}
-use Rattle.fond_cert.specs.declared.error.CertError.{CertError}
-use Rattle.fond_cert.specs.declared.error.CertError.TheVariants as cert_error
-use Rattle.fond_cert.specs.Refusals.{CertRefuses}
 use Rattle.fond_policy.specs.Belongs.{Belongs}
-use Rattle.fond_cert.specs.Faults.{IsCertFault}
 use Rattle.fond_policy.specs.declared.cert.Cert.{Cert}
-use Rattle.fond_policy.specs.declared.cert.Cert.TheVariants.{Policy, Refusal}
+use Rattle.fond_policy.specs.declared.cert.Cert.TheVariants.{Policy, Refusal, Covered}
 use Rattle.fond_rules.specs.Belongs.{BelongTo}
 use Rattle.fond_exec.specs.Traces as steps
 use Rattle.fond_game.specs.declared.rule.Rule.{Rule}
@@ -28,7 +24,7 @@ use Rattle.fond_task.specs.Truth.{is_true}
 use Rattle.fond_task.proofs.Indices.{length-by_index}
 use Rattle.fond_tool.specs.declared.status.Status.TheVariants.{Done, Stopped}
 use Rattle.fond_tool.specs.GroundRuns.{ground_reply}
-use Rattle.fond_tool.specs.Rejections.{Rejects, of_cert, of_script}
+use Rattle.fond_tool.specs.Rejections.{Rejects, of_script}
 use Rattle.fond_tool.specs.Replies.{Reply, trace_reply}
 use Rattle.fond_tool.specs.Certified.{IsCertText, rules_of}
 use Rattle.fond_tool.specs.Runs.{AnswersRun}
@@ -58,17 +54,13 @@ reply_alike task game lines last is state = λ i. record {
 -- the rules of a certificate of a task belong to it
 pub rules_belong : (game : Task) (cert : Cert) → Belongs game cert → BelongTo game (rules_of cert)
 rules_belong game (Policy layers pairs rules reach) belongs = belongs.2.belong
+rules_belong game (Covered layers pairs rules items start) belongs = belongs.2.belong
 rules_belong game (Refusal layers) belongs = record {
   over = All-nil (λ (rule : Rule). length rule.cond ≡ length game.atoms);
   there = All-nil (λ (rule : Rule). rule.act < length game.acts);
 }
 
 module _ (task : LiftedTask) (game : Task) (is : IsGroundOf task game) (cert script : List ℕ) where
-  -- a certificate with a fault is rejected with it
-  pub cert_rejected : (error : CertError) → CertRefuses (IsCertFault game cert) error → Rejects (AnswersRun task game cert script) (of_cert error)
-  cert_rejected (cert_error.Refused code byte) fault = AnswersRun.bad_cert code byte fault
-  cert_rejected cert_error.NoMemory fault = tt
-
   module _ (read : Cert) (spelled_as : IsCertText game read cert) where
     -- a script with a fault is rejected with it
     pub script_rejected : (error : ScriptError) → ScriptRefuses (IsScriptFault script) error → Rejects (AnswersRun task game cert script) (of_script error)

@@ -9,7 +9,7 @@ use Rattle.fond_policy.specs.Belongs.{Belongs}
 use Rattle.fond_policy.specs.Sizes.{HasSmallNumbers}
 use Rattle.fond_cert.specs.Spellings.{spelling}
 use Rattle.fond_policy.specs.declared.cert.Cert.{Cert}
-use Rattle.fond_policy.specs.declared.cert.Cert.TheVariants.{Policy, Refusal}
+use Rattle.fond_policy.specs.declared.cert.Cert.TheVariants.{Policy, Refusal, Covered}
 use Rattle.fond_ground.specs.Grounds.{IsGroundOf}
 use Rattle.fond_bridge.specs.Solutions.{rules_policy}
 use Rattle.fond_front.specs.declared.texts.TaskTexts.{TaskTexts}
@@ -28,12 +28,14 @@ IsCertText game cert text = Belongs game cert × HasSmallNumbers cert × (text �
 abbrev pub rules_of : Cert → List Rule
 rules_of (Policy layers pairs rules reach) = rules
 rules_of (Refusal layers) = []
+rules_of (Covered layers pairs rules items start) = rules
 
 -- what a certificate claims of a task with this ground task: that its rules are a solution, or that no finite map from states
 -- to actions is one
 abbrev pub Claim : LiftedTask → Task → Cert → Type 0
 Claim task game (Policy layers pairs rules reach) = IsSolution task (rules_policy task game rules)
 Claim task game (Refusal layers) = ¬ IsSolvable task
+Claim task game (Covered layers pairs rules items start) = IsSolution task (rules_policy task game rules)
 
 -- the reply of a command that works on a task: a refusal of its files, or an answer in the task that they describe
 pub data TaskReply (texts : TaskTexts) (Answers : LiftedTask → Task → Reply → Type 0) : Reply → Type 0 where

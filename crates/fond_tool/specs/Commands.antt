@@ -1,8 +1,9 @@
 -- What each command replies.
 use Rattle.std.specs.Prelude.{ℕ, List, [], ◌∷◌}
 use Rattle.fond_tool.specs.declared.words.Command.{Command}
-use Rattle.fond_tool.specs.declared.words.Command.TheVariants.{Succ, Run, Check, Plan}
+use Rattle.fond_tool.specs.declared.words.Command.TheVariants.{Succ, Run, Check, Plan, Migrate}
 use Rattle.fond_tool.specs.Checks.{CheckReply}
+use Rattle.fond_tool.specs.Migrations.{MigrateReply}
 use Rattle.fond_tool.specs.Plans.{PlanReply}
 use Rattle.fond_tool.specs.Replies.{Reply}
 use Rattle.fond_tool.specs.Runs.{RunReply}
@@ -15,4 +16,5 @@ CommandReply Succ (d ∷ p ∷ action ∷ []) (domain ∷ problem ∷ []) = Succ
 CommandReply Run given (domain ∷ problem ∷ side ∷ cert ∷ script ∷ []) = RunReply (record { domain = domain; problem = problem; side = side }) cert script
 CommandReply Check given (domain ∷ problem ∷ side ∷ cert ∷ []) = CheckReply (record { domain = domain; problem = problem; side = side }) cert
 CommandReply Plan (d ∷ p ∷ u ∷ budget ∷ []) (domain ∷ problem ∷ side ∷ []) = PlanReply (record { domain = domain; problem = problem; side = side }) budget
+CommandReply Migrate given (domain ∷ problem ∷ side ∷ cert ∷ []) = MigrateReply (record { domain = domain; problem = problem; side = side }) cert
 CommandReply command given contents = λ reply. ⊥

@@ -4,7 +4,7 @@ use Rattle.std.specs.Fmt.{decimal}
 use Rattle.fond_task.specs.declared.task.Task.{Task}
 use Rattle.fond_cert.specs.Spellings.{spelling}
 use Rattle.fond_policy.specs.declared.cert.Cert.{Cert}
-use Rattle.fond_policy.specs.declared.cert.Cert.TheVariants.{Policy, Refusal}
+use Rattle.fond_policy.specs.declared.cert.Cert.TheVariants.{Refusal}
 use Rattle.fond_decide.specs.declared.decide.Decision.{Decision}
 use Rattle.fond_decide.specs.declared.decide.Decision.TheVariants.{Certified, Undecided as IsUndecided}
 use Rattle.fond_tool.specs.Replies.{Reply, line_reply}
@@ -13,8 +13,8 @@ use Rattle.fond_tool.specs.declared.status.Status.TheVariants.{Done, Unsolvable,
 
 -- the status to end with after a certificate is printed
 abbrev pub cert_status : Cert → Status
-cert_status (Policy layers pairs rules reach) = Done
 cert_status (Refusal layers) = Unsolvable
+cert_status policy = Done
 
 -- the reply to a decision: the text of its certificate, or `undecided` with the budget
 abbrev pub decision_reply : Task → ℕ → Decision → Reply

@@ -4,15 +4,21 @@ use Rattle.fond_ast.specs.declared.task.LiftedTask.{LiftedTask}
 use Rattle.fond_task.specs.declared.task.Task.{Task}
 use Rattle.fond_policy.specs.declared.cert.Cert.{Cert}
 use Rattle.fond_policy.specs.Parts.{IsRight}
+use Rattle.fond_relax.specs.Stable.{IsHopeless}
 use Rattle.fond_front.specs.declared.texts.TaskTexts.{TaskTexts}
-use Rattle.fond_meaning.specs.Solutions.{IsSolvable, More}
+use Rattle.fond_meaning.specs.Solutions.{IsSolution, IsSolvable, More, initial}
+use Rattle.fond_meaning.specs.States.{State}
+use Rattle.fond_game.specs.declared.rule.Rule.{Rule}
+use Rattle.fond_bridge.specs.Solutions.{rules_policy}
+use Rattle.fond_bridge.specs.Traces.{Trace}
 use Rattle.fond_tool.specs.Certified.{DescribeGround, IsCertText, TaskReply}
 use Rattle.fond_tool.specs.Checks.{CheckReply}
 use Rattle.fond_tool.specs.Commands.{CommandReply}
 use Rattle.fond_tool.specs.Plans.{AnswersPlan}
+use Rattle.fond_tool.specs.Stuck.{EndsStuck}
 use Rattle.fond_tool.specs.Tasks.{Describe}
 use Rattle.fond_tool.specs.Replies.{Reply, line_reply}
-use Rattle.fond_tool.specs.declared.words.Command.TheVariants.{Check, Plan}
+use Rattle.fond_tool.specs.declared.words.Command.TheVariants.{Check, Migrate, Plan}
 use Rattle.fond_tool.specs.declared.status.Status.{Status}
 use Rattle.fond_tool.specs.declared.status.Status.TheVariants.{Done, Unsolvable}
 
@@ -43,3 +49,18 @@ PlannedAreAccepted = (given other : List (List ℕ)) (domain problem side : List
 abbrev pub SmallTasksAreDecided : Type 0
 SmallTasksAreDecided = (texts : TaskTexts) (task : LiftedTask) (budget : ℕ) (reply : Reply) → Describe texts task → ¬ More task budget → TaskReply texts (λ task game. AnswersPlan task game budget) reply
     → ((reply.status ≡ Done) × IsSolvable task) ⊎ ((reply.status ≡ Unsolvable) × (¬ IsSolvable task))
+
+-- if three texts describe a task whose initial state is hopeless, each reply of `plan` is a refusal, whatever the budget is
+abbrev pub HopelessTasksAreRefused : Type 0
+HopelessTasksAreRefused = (texts : TaskTexts) (task : LiftedTask) (game : Task) (budget : ℕ) (reply : Reply) → DescribeGround texts task game → IsHopeless game game.init
+    → TaskReply texts (λ task game. AnswersPlan task game budget) reply → reply.status ≡ Unsolvable
+
+-- for the same three files, the reply of `check` to a certificate that `migrate` writes is that it is accepted
+abbrev pub MigratedAreAccepted : Type 0
+MigratedAreAccepted = (given other : List (List ℕ)) (domain problem side cert : List ℕ) (migrated reply : Reply) → CommandReply Migrate given (domain ∷ problem ∷ side ∷ cert ∷ []) migrated → migrated.status ≡ Done
+    → CommandReply Check other (domain ∷ problem ∷ side ∷ migrated.text ∷ []) reply → reply.status ≡ Done
+
+-- no trace of rules that are a solution ends with the line `stuck`, whatever the numbers are
+abbrev pub SolutionsNeverStick : Type 0
+SolutionsNeverStick = (task : LiftedTask) (game : Task) (rules : List Rule) (numbers lines : List ℕ) (last : State) → IsSolution task (rules_policy task game rules)
+    → (trace : Trace task game rules (initial task) numbers lines last) → ¬ EndsStuck trace

@@ -7,11 +7,13 @@ pub mod Ends
 pub mod Fetches
 pub mod GroundRuns
 pub mod Laws
+pub mod Migrations
 pub mod Numbers
 pub mod Plans
 pub mod Rejections
 pub mod Replies
 pub mod Runs
+pub mod Stuck
 pub mod Successors
 pub mod Tasks
 pub mod Words

@@ -7,9 +7,10 @@ use Rattle.fond_task.specs.declared.task.Task.{Task}
 use Rattle.fond_game.specs.declared.rule.Pair.{Pair}
 use Rattle.fond_game.specs.declared.rule.Rule.{Rule}
 use Rattle.fond_game.specs.Layers.{CubeView}
-use Rattle.fond_game.specs.Certificates.{IsRightPolicy, IsRightRefusal}
-use Rattle.fond_policy.specs.declared.cert.Cert.TheVariants.{Policy, Refusal}
-use Rattle.fond_policy.specs.Parts.{AreLean}
+use Rattle.fond_game.specs.Certificates.{IsRightRefusal}
+use Rattle.fond_cover.specs.declared.item.Item.{Item}
+use Rattle.fond_policy.specs.declared.cert.Cert.TheVariants.{Refusal, Covered}
+use Rattle.fond_policy.specs.Parts.{AreAllLean, IsRightCover}
 use Rattle.fond_relax.specs.Stable.{IsHopeless}
 use Rattle.fond_bridge.specs.Solutions.{rules_policy}
 use Rattle.fond_front.specs.declared.texts.TaskTexts.{TaskTexts}
@@ -18,12 +19,14 @@ use Rattle.fond_tool.specs.Certified.{IsCertText, TaskReply}
 use Rattle.fond_tool.specs.Replies.{Reply, line_reply}
 use Rattle.fond_tool.specs.declared.status.Status.TheVariants.{Done, Unsolvable, Undecided}
 
--- what `plan` replies in a task with this ground task: the text of a correct policy certificate, whose pairs and rules are
--- lean, and whose rules are a solution of the task, which then is solvable; the text of a correct refusal, and the task has
--- no solution; or `undecided`, and more states are reachable than the budget, and the initial state is not hopeless
+-- what `plan` replies in a task with this ground task: the text of a correct policy certificate with a cover, whose pairs,
+-- rules and items are lean, and whose rules are a solution of the task, which then is solvable; the text of a correct refusal,
+-- and the task has no solution; or `undecided`, and more states are reachable than the budget, and the initial state is not
+-- hopeless
 pub data AnswersPlan (task : LiftedTask) (game : Task) (budget : ℕ) : Reply → Type 0 where
-  policy : (layers : List (List CubeView)) (pairs : List Pair) (rules : List Rule) (reach : ℕ) (text : List ℕ) → IsCertText game (Policy layers pairs rules reach) text
-      → IsRightPolicy game layers pairs rules reach → AreLean game layers pairs rules → IsSolution task (rules_policy task game rules) → IsSolvable task → AnswersPlan task game budget (record { text = text; status = Done })
+  policy : (layers : List (List CubeView)) (pairs : List Pair) (rules : List Rule) (items : List Item) (start : ℕ) (text : List ℕ) → IsCertText game (Covered layers pairs rules items start) text
+      → IsRightCover game layers pairs rules items start → AreAllLean game layers pairs rules items → IsSolution task (rules_policy task game rules) → IsSolvable task
+      → AnswersPlan task game budget (record { text = text; status = Done })
   unsolvable : (layers : List (List CubeView)) (text : List ℕ) → IsCertText game (Refusal layers) text → IsRightRefusal game layers → ¬ IsSolvable task
       → AnswersPlan task game budget (record { text = text; status = Unsolvable })
   undecided : More task budget → ¬ IsHopeless game game.init → AnswersPlan task game budget (line_reply (codes "undecided " ++ decimal budget) Undecided)

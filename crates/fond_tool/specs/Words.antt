@@ -2,7 +2,7 @@
 use Rattle.std.specs.Prelude.{◌≡◌, ◌≢◌, ℕ, List, [], ◌∷◌, take, codes}
 use Rattle.std.specs.List.{AllZip}
 use Rattle.fond_tool.specs.declared.words.Command.{Command}
-use Rattle.fond_tool.specs.declared.words.Command.TheVariants.{Succ, Run, Check, Plan}
+use Rattle.fond_tool.specs.declared.words.Command.TheVariants.{Succ, Run, Check, Plan, Migrate}
 use Rattle.fond_tool.specs.declared.words.WordKind.{WordKind}
 use Rattle.fond_tool.specs.declared.words.WordKind.TheVariants.{File, Action, Budget}
 use Rattle.fond_succ.specs.Actions.{IsAction}
@@ -14,6 +14,7 @@ word_of Succ = codes "succ"
 word_of Run = codes "run"
 word_of Check = codes "check"
 word_of Plan = codes "plan"
+word_of Migrate = codes "migrate"
 
 -- the kinds of the words after it: the names of files come first
 abbrev pub kinds_of : Command → List WordKind
@@ -21,6 +22,7 @@ kinds_of Succ = File ∷ File ∷ Action ∷ []
 kinds_of Run = File ∷ File ∷ File ∷ File ∷ File ∷ []
 kinds_of Check = File ∷ File ∷ File ∷ File ∷ []
 kinds_of Plan = File ∷ File ∷ File ∷ Budget ∷ []
+kinds_of Migrate = File ∷ File ∷ File ∷ File ∷ []
 
 -- how many of those words are names of files
 abbrev pub file_count : Command → ℕ
@@ -28,6 +30,7 @@ file_count Succ = 2
 file_count Run = 5
 file_count Check = 4
 file_count Plan = 3
+file_count Migrate = 4
 
 -- a word is of a kind: any word that is not empty is the name of a file
 abbrev pub IsOfKind : WordKind → List ℕ → Type 0

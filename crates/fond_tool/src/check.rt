@@ -32,14 +32,26 @@ fn status_of(verdict: &Verdict) -> Status
     }
 }
 
+/// The answer of a verdict on a certificate.
+pub fn answer_of(
+    alloc: Global,
+    game: &Task,
+    cert: &Cert,
+    verdict: &Verdict,
+) -> Result<Answer, NoMemory>
+    ensures { IfOk result (λ answer. answer ≡ verdict_reply game.now cert.now verdict.now) }
+{
+    let text = verdict_text(alloc, game, cert, verdict)?;
+    Ok(Answer::new(text, status_of(verdict)))
+}
+
 /// The answer to a certificate: the verdict on it.
 fn verdict_answer(alloc: Global, game: &Task, cert: &Cert) -> Result<Answer, NoMemory>
     requires { Belongs game.now cert.now }
     ensures { IfOk result (λ answer. (verdict : Verdict) × IsVerdict game.now cert.now verdict × (answer ≡ verdict_reply game.now cert.now verdict)) }
 {
     let verdict = check(alloc, game, cert)?;
-    let text = verdict_text(alloc, game, cert, &verdict)?;
-    Ok(Answer::new(text, status_of(&verdict)))
+    answer_of(alloc, game, cert, &verdict)
 }
 
 /// The answer to the text of a certificate of a task, or why it is none.

@@ -9,6 +9,7 @@ ghost use Rattle.std.specs.Prelude.{◌≡◌, length, IfOk, IfErr};
 use crate::answer::Answer;
 use crate::check::check_cert;
 use crate::fetch::Content;
+use crate::migrate::migrate;
 use crate::plan::plan;
 use crate::rejection::Rejection;
 use crate::run::run;
@@ -66,6 +67,10 @@ pub fn do_command(
         Command::Plan => {
             let texts = task_texts(alloc, domain, problem, contents[2].bytes())?;
             plan(alloc, &texts, &words[3])
+        }
+        Command::Migrate => {
+            let texts = task_texts(alloc, domain, problem, contents[2].bytes())?;
+            migrate(alloc, &texts, contents[3].bytes())
         }
     }
 }

@@ -1,6 +1,6 @@
 //! The laws of replies, each the contract of a function with an empty body.
 
-ghost use Rattle.fond_tool.specs.Laws.{CorrectAreAccepted, PlannedAreAccepted, SmallTasksAreDecided};
+ghost use Rattle.fond_tool.specs.Laws.{CorrectAreAccepted, HopelessTasksAreRefused, MigratedAreAccepted, PlannedAreAccepted, SmallTasksAreDecided, SolutionsNeverStick};
 
 /// `check` accepts the text of each correct certificate of the task that its files describe.
 pub fn correct_are_accepted()
@@ -16,4 +16,19 @@ pub fn planned_are_accepted()
 /// solvable.
 pub fn small_tasks_are_decided()
     ensures { SmallTasksAreDecided }
+{}
+
+/// `plan` refuses each task whose initial state is hopeless, whatever its budget is.
+pub fn hopeless_tasks_are_refused()
+    ensures { HopelessTasksAreRefused }
+{}
+
+/// `check` accepts each certificate that `migrate` writes for the same files.
+pub fn migrated_are_accepted()
+    ensures { MigratedAreAccepted }
+{}
+
+/// `run` never prints `stuck` for rules that are a solution. Those of a policy that `check` accepts are one.
+pub fn solutions_never_stick()
+    ensures { SolutionsNeverStick }
 {}

@@ -8,6 +8,7 @@ mod check;
 mod commands;
 mod fetch;
 pub mod laws;
+mod migrate;
 mod plan;
 mod rejection;
 mod run;

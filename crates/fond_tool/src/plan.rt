@@ -35,6 +35,7 @@ fn status_of(cert: &Cert) -> Status
     match cert {
         Cert::Policy { .. } => Status::Done,
         Cert::Refusal { .. } => Status::Unsolvable,
+        Cert::Covered { .. } => Status::Done,
     }
 }
 

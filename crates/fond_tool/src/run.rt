@@ -50,6 +50,7 @@ fn rules_of(alloc: Global, cert: Cert) -> Rules
     match cert {
         Cert::Policy { rules, .. } => rules,
         Cert::Refusal { .. } => Rules::new(alloc),
+        Cert::Covered { rules, .. } => rules,
     }
 }
 

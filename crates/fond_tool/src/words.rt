@@ -19,6 +19,7 @@ pub enum Command {
     Run,
     Check,
     Plan,
+    Migrate,
 }
 
 /// What a word after a command's own has to be.
@@ -44,7 +45,7 @@ const RUN: [WordKind; 5] = [
     WordKind::File,
 ];
 
-/// The kinds of the words of `check`.
+/// The kinds of the words of `check` and of `migrate`.
 const CHECK: [WordKind; 4] = [
     WordKind::File,
     WordKind::File,
@@ -70,6 +71,7 @@ impl Command {
             b"run" => Some(Command::Run),
             b"check" => Some(Command::Check),
             b"plan" => Some(Command::Plan),
+            b"migrate" => Some(Command::Migrate),
             _ => None,
         }
     }
@@ -83,6 +85,7 @@ impl Command {
             Command::Run => &RUN,
             Command::Check => &CHECK,
             Command::Plan => &PLAN,
+            Command::Migrate => &CHECK,
         }
     }
 
@@ -95,6 +98,7 @@ impl Command {
             Command::Run => 5,
             Command::Check => 4,
             Command::Plan => 3,
+            Command::Migrate => 4,
         }
     }
 }

@@ -1,7 +1,8 @@
 use Rattle.fond_tool.specs.Checks.{AnswersCheck}
 use Rattle.fond_tool.specs.Rejections.{of_cert}
-use Rattle.fond_tool.proofs.Checks.{cert_rejected, judged}
-use Rattle.fond_tool.proofs.Rejections.{rejected_by}
+use Rattle.fond_cert.specs.Faults.{IsCertFault}
+use Rattle.fond_tool.proofs.Checks.{judged}
+use Rattle.fond_tool.proofs.Rejections.{cert_rejected, rejected_by}
 use Rattle.fond_tool.proofs.check.certified_verdict.Goals as goal
 
 pub returns-in_err-cert-clause-rejected : goal.returns-in_err-cert-clause-rejected
@@ -10,7 +11,7 @@ returns-in_err-cert-clause-rejected c =
     let game = c.args.files.now.game.value in
     let error = c.in_err-cert.field-0.0 in
     rejected_by _ (of_cert error) (AnswersCheck task game c.args.cert.now) c.from_residual.ensures.1
-    (cert_rejected task game c.args.cert.now error (rw c.deref-game.ensures at c.in_err-cert.ensures.refused))
+    (cert_rejected (AnswersCheck task game c.args.cert.now) (IsCertFault game c.args.cert.now) AnswersCheck.bad_cert error (rw c.deref-game.ensures at c.in_err-cert.ensures.refused))
 
 pub returns-clause-replied : goal.returns-clause-replied
 returns-clause-replied c =

@@ -2,8 +2,9 @@ use Rattle.std.proofs.Common.{sym, subst}
 use Rattle.fond_rules.specs.Belongs.{BelongTo}
 use Rattle.fond_tool.specs.Rejections.{of_cert, of_script}
 use Rattle.fond_tool.specs.Runs.{AnswersRun}
-use Rattle.fond_tool.proofs.Rejections.{rejected_by}
-use Rattle.fond_tool.proofs.Runs.{cert_rejected, rules_belong, script_rejected, traced}
+use Rattle.fond_cert.specs.Faults.{IsCertFault}
+use Rattle.fond_tool.proofs.Rejections.{cert_rejected, rejected_by}
+use Rattle.fond_tool.proofs.Runs.{rules_belong, script_rejected, traced}
 use Rattle.fond_tool.proofs.run.certified_trace.Goals as goal
 
 pub returns-in_err-cert-clause-rejected : goal.returns-in_err-cert-clause-rejected
@@ -12,7 +13,7 @@ returns-in_err-cert-clause-rejected c =
     let game = c.args.files.now.game.value in
     let error = c.in_err-cert.field-0.0 in
     rejected_by _ (of_cert error) (AnswersRun task game c.args.cert.now c.args.script.now) c.from_residual.ensures.1
-    (cert_rejected task game c.requires c.args.cert.now c.args.script.now error (rw c.deref-game.ensures at c.in_err-cert.ensures.refused))
+    (cert_rejected (AnswersRun task game c.args.cert.now c.args.script.now) (IsCertFault game c.args.cert.now) AnswersRun.bad_cert error (rw c.deref-game.ensures at c.in_err-cert.ensures.refused))
 
 pub returns-in_err-numbers-clause-rejected : goal.returns-in_err-numbers-clause-rejected
 returns-in_err-numbers-clause-rejected c =

@@ -1,0 +1,37 @@
+-- No trace of a solution gets stuck.
+use Rattle.std.proofs.Common.{◌≡◌, ℕ, List, Some, slice_get, subst}
+use Rattle.fond_ast.specs.declared.task.LiftedTask.{LiftedTask}
+use Rattle.fond_play.specs.Games.{start, onward}
+use Rattle.fond_meaning.proofs.Come.{outcomes-come-next}
+use Rattle.fond_meaning.specs.Outcomes.{Literal, outcomes, state_after}
+use Rattle.fond_meaning.specs.Solutions.{IsNext, IsSolution, Reach}
+use Rattle.fond_meaning.specs.States.{State}
+use Rattle.fond_text.specs.declared.atom.GroundAction.{GroundAction}
+use Rattle.fond_task.specs.declared.task.Task.{Task}
+use Rattle.fond_game.proofs.Lists.{Contains-map, Contains_numbered}
+use Rattle.fond_game.specs.declared.rule.Rule.{Rule}
+use Rattle.fond_bridge.specs.Solutions.{rules_policy}
+use Rattle.fond_bridge.specs.Traces.{Choose, Trace}
+use Rattle.fond_tool.specs.Laws.{SolutionsNeverStick}
+use Rattle.fond_tool.specs.Stuck.{EndsStuck}
+
+module _ (task : LiftedTask) (game : Task) (rules : List Rule) (solves : IsSolution task (rules_policy task game rules)) where
+  -- an outcome of the chosen action leads to a state that may come next
+  comes_next : (state : State) (action : GroundAction) (choices : List (List Literal)) (number : ℕ) (outcome : List Literal) → Choose task game rules state action choices → slice_get choices number ≡ Some outcome
+      → IsNext task state action (state_after state outcome)
+  comes_next state action choices number outcome choose at =
+      let all = outcomes action.objects choose.schema.effect in
+      let here : slice_get all number ≡ Some outcome = subst (λ (cs : List (List Literal)). slice_get cs number ≡ Some outcome) choose.choices_are at in
+      (outcomes-come-next task state action choose.schema choose.numbered choose.applicable (state_after state outcome)).1
+      (Contains-map (state_after state) all outcome (Contains_numbered all number outcome here))
+
+  never : (state : State) (numbers lines : List ℕ) (last : State) → Reach task (rules_policy task game rules) state → (trace : Trace task game rules state numbers lines last) → ¬ EndsStuck trace
+  never state numbers lines last reached (Trace.goal at left is) stuck = stuck
+  never state numbers lines last reached (Trace.ended at open_) stuck = stuck
+  never state numbers lines last reached (Trace.stuck at number left open_ none) stuck = let choice = solves.acts at reached open_ in none choice.0 choice.1 choice.2
+  never state numbers lines last reached (Trace.past at number left action choices open_ choose over) stuck = stuck
+  never state numbers lines last reached (Trace.took at number left rule action choices outcome text end open_ selects choose here later) stuck =
+      never (state_after at outcome) left text end (onward at action (state_after at outcome) reached open_ choose.chosen (comes_next at action choices number outcome choose here)) later stuck
+
+pub never_stuck : SolutionsNeverStick
+never_stuck task game rules numbers lines last solves trace = never task game rules solves _ numbers lines last start trace
