@@ -19,6 +19,7 @@ fn policy_rules(alloc: Global, game: &Task) -> Result<Rules, CertError> {
     match read_cert(alloc, game, POLICY)? {
         Cert::Policy { rules, .. } => Ok(rules),
         Cert::Refusal { .. } => Ok(Rules::new(alloc)),
+        Cert::Covered { rules, .. } => Ok(rules),
     }
 }
 

@@ -9,6 +9,7 @@ use fond_meaning::laws::{
     outcomes_come_next, states_are_their_atoms, successors_are_outcomes, truth_is_local,
     truth_is_tested, tuples_lie_in_ranges,
 };
+use fond_policy::laws::covers_are_solutions;
 use fond_reader::laws::{clean_domains_are_read, clean_problems_are_read};
 use fond_relax::laws::stable_cubes_are_sure;
 use fond_rules::laws::{earlier_rules_decide, selected_rule_is_policy};
@@ -57,6 +58,7 @@ fn laws_of_meaning_can_be_called() {
 #[test]
 fn laws_of_games_can_be_called() {
     ranks_exclude_traps();
+    covers_are_solutions();
     layers_force();
     refusals_hold();
     stable_cubes_are_sure();

@@ -7,6 +7,8 @@ mod check_tests;
 #[cfg(test)]
 mod coin;
 #[cfg(test)]
+mod cover_tests;
+#[cfg(test)]
 mod decide_tests;
 #[cfg(test)]
 mod edge_tests;
@@ -48,3 +50,5 @@ mod task_tests;
 mod text_tests;
 #[cfg(test)]
 mod tree_tests;
+#[cfg(test)]
+mod weak_tests;

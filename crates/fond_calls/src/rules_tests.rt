@@ -45,6 +45,20 @@ fn the_first_rule_that_holds_is_selected(rt: HostRuntime) -> Result<(), Fail> {
 }
 
 #[test]
+fn the_first_rule_that_is_not_contradicted_is_found(rt: HostRuntime) -> Result<(), Fail> {
+    let rules = rules(rt.alloc())?;
+    let mut cube = Cube::new(rt.alloc(), 1)?;
+    if rules.are_over(cube.len()) {
+        assert_eq!(rt; rules.first_beside(&cube), Some(0));
+        cube.put_literal(0, false);
+        assert_eq!(rt; rules.first_beside(&cube), Some(1));
+    } else {
+        assert!(rt; false);
+    }
+    Ok(())
+}
+
+#[test]
 fn a_pair_bars_its_action(rt: HostRuntime) -> Result<(), Fail> {
     let mut cond = Cube::new(rt.alloc(), 1)?;
     cond.put_literal(0, true);

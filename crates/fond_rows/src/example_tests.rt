@@ -126,7 +126,7 @@ const EXAMPLES: [([&str; 3], u8, &str); 15] = [
 #[test]
 fn examples_are_planned(rt: HostRuntime) -> Result<(), Fail> {
     for (files, status, verdict) in EXAMPLES {
-        check_plan(&rt, rt.alloc(), files, status, verdict)?;
+        check_plan(&rt, rt.alloc(), files, "2000", status, verdict)?;
     }
     Ok(())
 }

@@ -10,6 +10,8 @@ mod atom_tests;
 #[cfg(test)]
 mod check_tests;
 #[cfg(test)]
+mod cover_tests;
+#[cfg(test)]
 mod cut_tests;
 #[cfg(test)]
 mod domain_tests;
@@ -19,6 +21,8 @@ mod example_tests;
 mod ground_tests;
 #[cfg(test)]
 mod line_tests;
+#[cfg(test)]
+mod migrate_tests;
 #[cfg(test)]
 mod name_tests;
 #[cfg(test)]

@@ -2,10 +2,13 @@
 
 use crate::rows::{BLOCKS, BLOCKS_P, COIN, COIN_P, Row, check, check_plan, check_with};
 use crate::tasks::{
-    COIN_FILES, DETOUR_FILES, FROST_FILES, MIX_FILES, PIT_FILES, SWAP_FILES, UNFAIR_FILES,
-    WON_FILES,
+    COIN_FILES, DETOUR_FILES, FROST_FILES, LAMPS_FILES, MIX_FILES, PIT_FILES, SWAP_FILES,
+    UNFAIR_FILES, WON_FILES,
 };
-use fond_tool::laws::{correct_are_accepted, planned_are_accepted, small_tasks_are_decided};
+use fond_tool::laws::{
+    correct_are_accepted, hopeless_tasks_are_refused, migrated_are_accepted, planned_are_accepted,
+    small_tasks_are_decided, solutions_never_stick,
+};
 use std::test::Fail;
 
 const IDLE_FILES: [&str; 3] = [
@@ -45,21 +48,21 @@ const ROWS: [(&str, [&str; 3], &str, u8, &str); 14] = [
         WON_FILES,
         "1",
         0,
-        "dualfond 1 policy\nreach 1\nend\n",
+        "dualfond 2 policy\nitem goal : +(heads)\nstart 0\nend\n",
     ),
     (
         "a coin",
         COIN_FILES,
         "10",
         0,
-        "dualfond 1 policy\nrule (flip) fair 0 goal :\nreach 2\nend\n",
+        "dualfond 2 policy\nrule (flip) fair 0 goal :\nitem 0 1 0 :\nitem goal : +(heads)\nstart 0\nend\n",
     ),
     (
         "a coin in capital letters, with a constant",
         UPPER_FILES,
         "10",
         0,
-        "dualfond 1 policy\nrule (flip c1) fair 0 goal :\nreach 2\nend\n",
+        "dualfond 2 policy\nrule (flip c1) fair 0 goal :\nitem 0 1 0 :\nitem goal : +(heads c1)\nstart 0\nend\n",
     ),
     (
         "an object of another type",
@@ -73,7 +76,7 @@ const ROWS: [(&str, [&str; 3], &str, u8, &str); 14] = [
         FROST_FILES,
         "100",
         0,
-        "dualfond 1 policy\nlayer\ncube +(ice) +(pit) -(g)\ncube -(ice) +(pit) -(g)\npair (step) 1 0 0 : +(ice) -(g)\nrule (step) fair 0 goal : -(ice) -(pit)\nrule (salt) fair 0 0 : +(ice) -(pit)\nreach 3\nend\n",
+        "dualfond 2 policy\nlayer\ncube +(ice) +(pit) -(g)\ncube -(ice) +(pit) -(g)\npair (step) 1 0 0 : +(ice) -(g)\nrule (step) fair 0 goal : -(ice) -(pit)\nrule (salt) fair 0 0 : +(ice) -(pit)\nitem 0 1 2 : -(ice) -(pit)\nitem goal : +(g)\nitem 1 0 : +(ice) -(pit)\nstart 0\nend\n",
     ),
     (
         "an opponent who never shows heads",
@@ -169,7 +172,7 @@ fn a_failing_write_is_a_write_fault(rt: HostRuntime) -> Result<(), Fail> {
 }
 
 /// The files of tasks, the status of `plan`, and the text of `check` for what it prints.
-const PLANNED: [([&str; 3], u8, &str); 9] = [
+const PLANNED: [([&str; 3], u8, &str); 10] = [
     (COIN_FILES, 0, "accepted policy lean\n"),
     (MIX_FILES, 0, "accepted policy lean\n"),
     (DETOUR_FILES, 0, "accepted policy lean\n"),
@@ -179,12 +182,13 @@ const PLANNED: [([&str; 3], u8, &str); 9] = [
     (UNFAIR_FILES, 1, "accepted refusal\n"),
     (FAR_FILES, 1, "accepted refusal\n"),
     ([BLOCKS, BLOCKS_P, ""], 0, "accepted policy lean\n"),
+    (LAMPS_FILES, 0, "accepted policy lean\n"),
 ];
 
 #[test]
 fn plans_are_accepted(rt: HostRuntime) -> Result<(), Fail> {
     for (files, status, verdict) in PLANNED {
-        check_plan(&rt, rt.alloc(), files, status, verdict)?;
+        check_plan(&rt, rt.alloc(), files, "1000", status, verdict)?;
     }
     Ok(())
 }
@@ -194,4 +198,7 @@ fn laws_of_replies_can_be_called() {
     correct_are_accepted();
     planned_are_accepted();
     small_tasks_are_decided();
+    hopeless_tasks_are_refused();
+    migrated_are_accepted();
+    solutions_never_stick();
 }

@@ -35,8 +35,8 @@ pub const RUN: [&str; 6] = ["run", "domain", "problem", "side", "cert", "script"
 /// The words of `check` over four files.
 pub const CHECK: [&str; 5] = ["check", "domain", "problem", "side", "cert"];
 
-/// The words of `plan` over three files, with a budget.
-pub const PLAN: [&str; 5] = ["plan", "domain", "problem", "side", "2000"];
+/// The words of `migrate` over four files.
+pub const MIGRATE: [&str; 5] = ["migrate", "domain", "problem", "side", "cert"];
 
 /// A worked example: the words, the files of the shelf by name and text, and the status and the text of the answer.
 #[derive(Clone, Copy)]
@@ -236,16 +236,18 @@ pub fn check_bytes(
     Ok(())
 }
 
-/// `plan` answers these files with this status, and `check` its text with this one.
+/// `plan` answers these files and this budget with this status, and `check` its text with this one.
 pub fn check_plan(
     rt: &impl Abort,
     alloc: Global,
     [domain, problem, side]: [&str; 3],
+    budget: &str,
     status: u8,
     verdict: &str,
 ) -> Result<(), Fail> {
     let task = [("domain", domain), ("problem", problem), ("side", side)];
-    let planned = answer_to(alloc, &PLAN, shelf_files(alloc, &task)?, None, None)?;
+    let words = ["plan", "domain", "problem", "side", budget];
+    let planned = answer_to(alloc, &words, shelf_files(alloc, &task)?, None, None)?;
     assert_eq!(rt; planned.status, status, "{domain}");
     let mut files = shelf_files(alloc, &task)?;
     let name = Word::copy(alloc, b"cert").map_err(|_| "name")?;

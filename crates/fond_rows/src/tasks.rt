@@ -72,3 +72,10 @@ pub fn check_all(
     }
     Ok(())
 }
+
+/// A walk past twelve lamps that do not matter, of which more than 4,096 states are reachable.
+pub const LAMPS_FILES: [&str; 3] = [
+    "(define (domain demo) (:types place lamp) (:constants l0 - lamp)\n(:predicates (at ?p - place) (easy ?p ?q - place) (hard ?p ?q - place) (lit ?l - lamp))\n(:action walk :parameters (?p ?q - place) :precondition (and (at ?p) (easy ?p ?q))\n :effect (oneof (and (not (at ?p)) (at ?q)) (and)))\n(:action carry :parameters (?p ?q - place) :precondition (and (at ?p) (hard ?p ?q))\n :effect (oneof (and (not (at ?p)) (at ?q)) (and (not (at ?p)) (at ?q) (lit l0))))\n(:action press :parameters (?l - lamp) :effect (oneof (lit ?l) (not (lit ?l)))))\n",
+    "(define (problem demo) (:domain demo) (:objects p0 p1 p2 p3 p4 p5 p6 p7 p8 p9 p10 p11 p12 - place l0 l1 l2 l3 l4 l5 l6 l7 l8 l9 l10 l11 - lamp)\n(:init (at p0) (easy p0 p1) (easy p1 p2) (easy p2 p3) (easy p3 p4) (easy p4 p5) (easy p5 p6) (easy p6 p7) (easy p7 p8) (easy p8 p9) (easy p9 p10) (easy p10 p11) (easy p11 p12)) (:goal (at p12)))\n",
+    "carry\n",
+];
