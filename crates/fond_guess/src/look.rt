@@ -12,8 +12,11 @@ const ROUNDS: u32 = 1_000;
 
 impl Search {
     /// Takes a step from the current state, the one of this number, if it applies and leads to a new state, which becomes
-    /// the current one. Returns its number, or `NONE`.
+    /// the current one. Returns its number, or `NONE`. A step that was taken already, which is `NONE`, is not taken again.
     fn follow(&mut self, known: &Known, from: u32, number: u32) -> Result<u32, NoMemory> {
+        if number == NONE {
+            return Ok(NONE);
+        }
         let step = known.moves.step(number);
         if known.moves.is_unfair(step.act) || !known.moves.applies(step.act, &self.current) {
             return Ok(NONE);
