@@ -1,18 +1,19 @@
 //! The pairs of atoms that may be true together: those of the initial state, and those that actions lead to from pairs that
 //! may be (Haslum and Geffner, *Admissible heuristics for optimal planning*, 2000). The atoms that may be true together
-//! with one of them are a row of bits, so an action is followed for all pairs at once.
+//! with one of them are a row of bits, so an action is followed for all pairs at once. It is followed again only once the row of
+//! an atom that it needs has grown.
 
 use crate::applicable::sure_masks;
 use crate::condition::Mask;
 use crate::effect::Effect;
-use crate::index::{copy_words, put_bit, size, word_at};
+use crate::index::{at, copy_words, put, put_bit, size, word_at};
 use crate::moves::{Move, Moves};
 use fond_task::task::Task;
 use fond_text::fault::NoMemory;
 use std::alloc::Global;
 
 /// The most words of rows that are read. Past it, all atoms count as true together.
-const MOST: u64 = 50_000_000;
+const MOST: u64 = 100_000_000;
 
 /// The rows of the atoms.
 #[derive(Drop)]
@@ -24,6 +25,10 @@ pub struct Together {
     before: Vec<u64>,
     after: Vec<u64>,
     adds: Vec<u64>,
+    /// The rounds in which the row of each atom last grew, and in which each action was last followed.
+    grown: Vec<u32>,
+    followed: Vec<u32>,
+    now: u32,
     left: u64,
     changed: bool,
 }
@@ -46,6 +51,9 @@ impl Together {
             before: vec![in alloc; 0; width]?,
             after: vec![in alloc; 0; width]?,
             adds: vec![in alloc; 0; width]?,
+            grown: vec![in alloc; 0; moves.atoms as usize]?,
+            followed: vec![in alloc; 0; moves.acts.len()]?,
+            now: 1,
             left,
             changed: false,
         })
@@ -114,6 +122,8 @@ impl Together {
             put_bit(row, one, true);
         }
         put_bit(&mut self.reached, one, true);
+        put(&mut self.grown, one, self.now);
+        put(&mut self.grown, other, self.now);
         self.changed = true;
     }
 
@@ -163,15 +173,55 @@ impl Together {
         }
     }
 
+    /// The last round in which the row of an atom grew that the mask needs to be true.
+    fn grown_under(&self, mask: Mask) -> u32 {
+        let mut last = 0;
+        let mut bits = mask.value;
+        for _ in 0..64 {
+            if bits == 0 {
+                return last;
+            }
+            let bit = bits.trailing_zeros();
+            bits &= bits.wrapping_sub(1);
+            last = last.max(at(
+                &self.grown,
+                mask.word.saturating_mul(64).saturating_add(bit),
+            ));
+        }
+        last
+    }
+
+    /// Whether more may be true where the action's precondition holds than when it was last followed.
+    fn is_due(&self, act: u32, one: &Move) -> bool {
+        let mut last = 0;
+        let mut positive = 0;
+        for mask in sure_masks(&one.needs) {
+            last = last.max(self.grown_under(*mask));
+            positive |= mask.value;
+        }
+        positive == 0 || last >= at(&self.followed, act)
+    }
+
+    /// Follows all outcomes of an action, if more may be true before it than when it was last followed.
+    fn take(&mut self, act: u32, one: &Move) {
+        if self.left == 0 || !self.is_due(act, one) {
+            return;
+        }
+        put(&mut self.followed, act, self.now);
+        if !self.meet(one) {
+            return;
+        }
+        for effect in &one.effects {
+            self.follow(effect);
+        }
+    }
+
     /// Follows all actions once. Returns whether more pairs may be true together than before.
     fn round(&mut self, moves: &Moves) -> bool {
         self.changed = false;
-        for one in &moves.acts {
-            if self.left > 0 && self.meet(one) {
-                for effect in &one.effects {
-                    self.follow(effect);
-                }
-            }
+        self.now = self.now.saturating_add(1);
+        for (act, one) in moves.acts.iter().enumerate() {
+            self.take(size(act), one);
         }
         self.changed
     }
