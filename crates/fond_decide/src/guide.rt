@@ -1,6 +1,7 @@
 //! The searching engine beside a draft. What it says is a hint and nothing else, so nothing is claimed of it.
 
 use crate::draft::Draft;
+use fond_game::rule::{Target, Targets};
 use fond_guess::engine::{Engine, Hint};
 use fond_layers::layers::Layer;
 use fond_state::cube::Cube;
@@ -32,10 +33,33 @@ pub(crate) struct Guide {
     effort: Effort,
 }
 
+/// Tells a target of the rule that was told last.
+fn tell_target(engine: &mut Engine, target: Target) -> Result<(), NoMemory> {
+    match target {
+        Target::Goal => Ok(()),
+        Target::Rule(number) => engine.add_target(number),
+    }
+}
+
+/// Tells the targets of the rule that was told last.
+fn tell_targets(engine: &mut Engine, targets: &Targets) -> Result<(), NoMemory> {
+    match targets {
+        Targets::One { outcome: _, target } => tell_target(engine, *target),
+        Targets::All(list) => {
+            for target in list {
+                tell_target(engine, *target)?;
+            }
+            Ok(())
+        }
+    }
+}
+
 /// Tells the rules from this number on.
 fn tell_rules(engine: &mut Engine, draft: &Draft, from: u32) -> Result<(), NoMemory> {
     for number in from..draft.rules.len() {
-        engine.add_rule(&draft.rules.get(number).cond)?;
+        let rule = draft.rules.get(number);
+        engine.add_rule(&rule.cond)?;
+        tell_targets(engine, &rule.targets)?;
     }
     Ok(())
 }
@@ -130,6 +154,13 @@ impl Guide {
         let done = engine.work().saturating_sub(before);
         self.effort.work = self.effort.work.saturating_sub(done);
         Ok(hint)
+    }
+
+    /// An action leads from the state to the one from which the next search begins.
+    pub(crate) fn leave(&mut self, state: &State) {
+        if let Some(engine) = &mut self.engine {
+            engine.leave(state);
+        }
     }
 
     /// Searches go on in this outcome of the unfair action from now on.

@@ -74,6 +74,14 @@ impl Planner {
         self.guide.respond(state, act, outcome)
     }
 
+    /// An action leads from the state to the one from which the engine's next search begins: rules near to the state are aimed at.
+    pub(crate) fn leave(&mut self, t: &Task, state: &State)
+        requires { IsPlanner t.now self.old }
+        ensures { IsPlanner t.now self.new }
+    {
+        self.guide.leave(state);
+    }
+
     /// What the engine says about a cube around the state from which no goal is reachable.
     fn dead_cube(
         &mut self,

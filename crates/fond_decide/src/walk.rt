@@ -151,6 +151,7 @@ impl Planner {
         ensures settled { IfOk result (λ within. within ≡ true → IsSettled t.now self.new.draft step.now) }
         ensures past { IfOk result (λ within. within ≡ false → IsPast t.now budget) }
     {
+        self.leave(t, &step.state);
         match self.find(alloc, t, budget, &step.next)? {
             Some(Found::Ruled) => Ok(true),
             Some(Found::Dead) => {

@@ -2,7 +2,7 @@
 //! in a state.
 
 use fond_heuristic::condition::{Mask, all_hold, copy_mentioned};
-use fond_heuristic::index::{Literal, bit_of, has, put_bit, size, word_at};
+use fond_heuristic::index::{Literal, NONE, bit_of, has, put_bit, size, word_at};
 use fond_heuristic::part::Part;
 use fond_text::fault::NoMemory;
 use std::alloc::Global;
@@ -250,6 +250,57 @@ impl CubeSet {
             }
         }
         false
+    }
+
+    /// The first of the cubes of these numbers that holds in the state, if it comes before another one.
+    fn first_among(&self, numbers: &[u32], state: &[u64], before: u32) -> u32 {
+        for number in numbers {
+            if *number >= before {
+                return before;
+            }
+            if all_hold(self.masks(*number), state) {
+                return *number;
+            }
+        }
+        before
+    }
+
+    /// The first of the cubes under atoms of a word that holds in the state, if it comes before another one.
+    fn first_under(&self, state: &[u64], word: u32, bits_under: u64, before: u32) -> u32 {
+        let mut first = before;
+        let mut bits = bits_under;
+        for _ in 0..64 {
+            if bits == 0 {
+                return first;
+            }
+            let atom = word
+                .saturating_mul(64)
+                .saturating_add(bits.trailing_zeros());
+            bits &= bits.wrapping_sub(1);
+            let sign = has(state, atom);
+            first = self.first_among(self.list(Literal { atom, sign }), state, first);
+        }
+        first
+    }
+
+    /// The number of the first cube that holds in the state, or `NONE`. Takes time as `holds` does.
+    pub(crate) fn first(&self, state: &[u64]) -> u32 {
+        let mut first = self.whole.unwrap_or(NONE);
+        for (i, word) in state.iter().enumerate() {
+            let number = size(i);
+            let bits = (*word & word_at(&self.filed_true, number))
+                | (!*word & word_at(&self.filed_false, number));
+            first = self.first_under(state, number, bits, first);
+        }
+        first
+    }
+
+    /// The literals of a cube.
+    pub(crate) fn masks(&self, cube: u32) -> &[Mask] {
+        match self.cubes.get(cube as usize) {
+            Some(masks) => masks.as_slice(),
+            None => &[],
+        }
     }
 
     /// The cube in which the partial state lies.

@@ -1,5 +1,6 @@
 //! The engine: what others call.
 
+use crate::aim::Aim;
 use crate::cubes::{Masks, masks_of};
 use crate::dead::Prover;
 use crate::known::Known;
@@ -14,13 +15,19 @@ use fond_text::fault::NoMemory;
 use fond_text::list::List;
 use std::alloc::Global;
 
+/// The most states of a search with a local aim.
+const LOCAL_STATES: u32 = 300;
+
 /// The number of states from which on a search begins anew with lookahead.
 const FIRST_STATES: u32 = 5_000;
 
-/// The length of a relaxed plan from which on its steps are taken at once, in a first search and in a second one.
-const FIRST_LOOK: u32 = 100;
+/// The length of a relaxed plan from which on its steps are taken at once: in a first search never, and in a second one only if it
+/// is long, unless the search is a large one.
+const NO_LOOK: u32 = u32::MAX;
 
-const SECOND_LOOK: u32 = 2;
+const SHORT_LOOK: u32 = 100;
+
+const LARGE_LOOK: u32 = 2;
 
 /// What a search came to.
 #[derive(Drop)]
@@ -39,6 +46,7 @@ pub struct Engine {
     known: Known,
     search: Search,
     prover: Prover,
+    aim: Aim,
     /// The state and the cube that were read last.
     start: Vec<u64>,
     cube: Part,
@@ -85,10 +93,12 @@ impl Engine {
         let start = vec![in alloc; 0; known.moves.width as usize]?;
         let cube = Part::new(alloc, known.moves.width)?;
         let prover = Prover::new(alloc, known.moves.width)?;
+        let aim = Aim::new(alloc, known.moves.width)?;
         Ok(Engine {
             known,
             search,
             prover,
+            aim,
             start,
             cube,
         })
@@ -100,15 +110,28 @@ impl Engine {
         masks_of(*self.start.allocator(), &self.cube)
     }
 
-    /// Drops all rules and pairs. Dead cubes and responses stay.
+    /// Drops all rules and pairs, and the aim. Dead cubes and responses stay.
     pub fn forget_rules(&mut self) {
         self.known.forget_rules();
+        self.aim.forget();
     }
 
     /// A rule with this condition holds from now on.
     pub fn add_rule(&mut self, cond: &Cube) -> Result<(), NoMemory> {
         let masks = self.masks(cond)?;
-        self.known.rules.add(masks)
+        self.known.add_rule(masks)
+    }
+
+    /// The rule that was added last has the one of this number as a target.
+    pub fn add_target(&mut self, rule: u32) -> Result<(), NoMemory> {
+        self.known.add_target(rule)
+    }
+
+    /// An action leads from the state to the one from which the next search begins: searches from there aim at the first rule
+    /// that holds in the state, and at its targets, before they aim at the goal.
+    pub fn leave(&mut self, state: &State) {
+        read(&mut self.start, state);
+        self.aim.leave(&self.start);
     }
 
     /// The action is barred from now on in the states of the cube.
@@ -134,25 +157,55 @@ impl Engine {
         self.search.work().saturating_add(self.prover.work)
     }
 
-    /// Searches with a limit, and once more with lookahead if many states were opened.
+    /// Searches with a limit, and once more with lookahead if that was too few.
     fn run(&mut self, states: u32, work: u64) -> Result<Ended, NoMemory> {
         let begun = self.search.work();
         let first = Limits {
             states: states.min(FIRST_STATES),
-            work,
-            look: FIRST_LOOK,
+            work: work - work / 4,
+            look: NO_LOOK,
         };
         let ended = self.search.run(&mut self.known, &self.start, first)?;
         let done = self.search.work().saturating_sub(begun);
-        if ended != Ended::Spent || done >= work || states <= FIRST_STATES {
+        let look = if states > FIRST_STATES {
+            LARGE_LOOK
+        } else {
+            SHORT_LOOK
+        };
+        if ended != Ended::Spent || done >= work || self.search.length < look {
             return Ok(ended);
         }
         let second = Limits {
-            states: states - FIRST_STATES,
+            states,
             work: work.saturating_sub(done),
-            look: SECOND_LOOK,
+            look,
         };
         self.search.run(&mut self.known, &self.start, second)
+    }
+
+    /// Searches with the local aim, if the state has one. Returns whether a plan was found.
+    fn run_near(&mut self, states: u32, work: u64) -> Result<bool, NoMemory> {
+        if !self.aim.enter(&self.start) || !self.known.aim_around(&self.aim.left)? {
+            return Ok(false);
+        }
+        let limits = Limits {
+            states: states.min(LOCAL_STATES),
+            work: work / 2,
+            look: NO_LOOK,
+        };
+        let ended = self.search.run(&mut self.known, &self.start, limits)?;
+        self.known.drop_aims();
+        Ok(ended == Ended::Found)
+    }
+
+    /// Searches with the local aim, and if that finds no plan, for the goal.
+    fn run_all(&mut self, states: u32, work: u64) -> Result<Ended, NoMemory> {
+        let begun = self.search.work();
+        if self.run_near(states, work)? {
+            return Ok(Ended::Found);
+        }
+        let done = self.search.work().saturating_sub(begun);
+        self.run(states, work.saturating_sub(done))
     }
 
     /// Steps from a state to a goal or to a state in which a rule holds; at an unfair action they go on in the response.
@@ -165,7 +218,7 @@ impl Engine {
         work: u64,
     ) -> Result<Hint, NoMemory> {
         read(&mut self.start, from);
-        match self.run(states, work)? {
+        match self.run_all(states, work)? {
             Ended::Found => {
                 let mut back = self.search.plan(alloc, &self.known)?;
                 let mut steps = List::new(alloc);

@@ -16,6 +16,9 @@ use fond_task::task::Task;
 use fond_text::fault::NoMemory;
 use std::alloc::Global;
 
+/// The most targets of a rule that are aimed at.
+const MOST_AIMS: usize = 24;
+
 /// A cube in which an action is barred, and the next one of the action.
 #[derive(Drop)]
 struct Bar {
@@ -48,6 +51,8 @@ pub(crate) struct Known {
     together: Together,
     givers: Givers,
     pub(crate) rules: CubeSet,
+    /// The rules that are targets of each rule.
+    targets: Vec<Vec<u32>>,
     pub(crate) dead: CubeSet,
     bars: Bars,
     responses: Responses,
@@ -144,6 +149,7 @@ impl Known {
             together,
             givers,
             rules,
+            targets: Vec::new(alloc),
             dead,
             bars,
             responses,
@@ -153,7 +159,57 @@ impl Known {
     /// Drops the rules and pairs.
     pub(crate) fn forget_rules(&mut self) {
         self.rules.clear();
+        self.targets.clear();
         self.bars.clear();
+    }
+
+    /// Adds a rule, which has no targets yet.
+    pub(crate) fn add_rule(&mut self, masks: Masks) -> Result<(), NoMemory> {
+        self.targets.push(Vec::new(*masks.allocator()))?;
+        self.rules.add(masks)
+    }
+
+    /// Adds a target to the last rule.
+    pub(crate) fn add_target(&mut self, rule: u32) -> Result<(), NoMemory> {
+        if let Some(targets) = self.targets.last_mut() {
+            targets.push(rule)?;
+        }
+        Ok(())
+    }
+
+    /// From now on, searches aim at the condition of a rule instead of the goal, if it has literals. Returns whether it has.
+    fn aim_at(&mut self, rule: u32) -> Result<bool, NoMemory> {
+        let masks = self.rules.masks(rule);
+        if masks.is_empty() {
+            return Ok(false);
+        }
+        self.net.aim(masks)?;
+        Ok(true)
+    }
+
+    /// From now on, searches aim at the conditions of the first rule that holds in a state and of its targets instead of the
+    /// goal. Returns whether there is such a rule.
+    pub(crate) fn aim_around(&mut self, state: &[u64]) -> Result<bool, NoMemory> {
+        let rule = self.rules.first(state);
+        let mut aims = self.aim_at(rule)?;
+        for i in 0..MOST_AIMS {
+            let Some(target) = self.target(rule, i) else {
+                return Ok(aims);
+            };
+            aims |= self.aim_at(target)?;
+        }
+        Ok(aims)
+    }
+
+    /// A target of a rule.
+    fn target(&self, rule: u32, i: usize) -> Option<u32> {
+        let target = self.targets.get(rule as usize)?.get(i)?;
+        Some(*target)
+    }
+
+    /// Searches aim at the goal again.
+    pub(crate) fn drop_aims(&mut self) {
+        self.net.drop_aims();
     }
 
     /// The states of a cube are dead.

@@ -2,10 +2,11 @@
 //! whoever takes one tests it before it is used.
 //!
 //! `engine` is the whole of what others call. `search` takes the states of `states` in the order of `queue`, by the
-//! heuristic, and tells by `cubes` whether a rule holds or a cube is dead; `look` follows relaxed plans. `dead` finds dead
-//! cubes. `known` has what outlasts a search.
+//! heuristic, and tells by `cubes` whether a rule holds or a cube is dead; `look` follows relaxed plans. `aim` has what a search
+//! aims at before the goal. `dead` finds dead cubes. `known` has what outlasts a search.
 #![tactic(auto)]
 
+mod aim;
 mod cubes;
 mod dead;
 pub mod engine;

@@ -8,7 +8,7 @@ use crate::known::Known;
 use crate::queue::{Agenda, Open};
 use crate::states::StateSet;
 use fond_heuristic::cost::FAR;
-use fond_heuristic::index::{NONE, copy_words};
+use fond_heuristic::index::{NONE, copy_words, size};
 use fond_heuristic::relaxed::{Chosen, Estimate};
 use fond_heuristic::step::PlanStep;
 use fond_text::fault::NoMemory;
@@ -44,17 +44,6 @@ pub(crate) enum Ended {
     Spent,
 }
 
-/// What was taken from the queue.
-#[derive(Clone, Copy, PartialEq, Eq)]
-enum Taken {
-    /// A state, which may be new.
-    State,
-    /// A step that ends the plan.
-    Last,
-    /// Nothing, since the queue is empty.
-    Nothing,
-}
-
 /// A search. Its buffers serve one search after the other.
 #[derive(Drop)]
 pub(crate) struct Search {
@@ -74,6 +63,8 @@ pub(crate) struct Search {
     chosen: Vec<u64>,
     pub(crate) estimate: Estimate,
     pub(crate) nearest: u32,
+    /// The length of the first state's relaxed plan.
+    pub(crate) length: u32,
     pub(crate) opened: u32,
     pub(crate) steps: u64,
     /// The state in which the plan ends, and an unfair action that ends it.
@@ -113,6 +104,7 @@ impl Search {
             chosen,
             estimate,
             nearest: FAR,
+            length: 0,
             opened: 0,
             steps: 0,
             end: NONE,
@@ -130,6 +122,7 @@ impl Search {
         self.taken_preferred = 0;
         self.passed.clear();
         self.nearest = FAR;
+        self.length = 0;
         self.opened = 0;
         self.end = NONE;
         self.last = None;
@@ -248,6 +241,9 @@ impl Search {
         let estimate = self.judge(known)?;
         if estimate == FAR {
             return Ok(false);
+        }
+        if number == 0 {
+            self.length = size(self.estimate.plan.len());
         }
         self.open(known, number, estimate)?;
         if self.estimate.plan.len() < look as usize {

@@ -83,8 +83,8 @@ impl Costs {
     fn fire(&mut self, net: &Net, operator: &Operator, sum: u32) -> Result<(), NoMemory> {
         let cost = sum.saturating_add(operator.price).min(MOST);
         for number in operator.first_gift..operator.end_gift {
-            if let Some(gift) = net.gifts.get(number as usize) {
-                self.offer(gift.fact, cost, number)?;
+            if let Some(fact) = net.given.get(number as usize) {
+                self.offer(*fact, cost, number)?;
             }
         }
         Ok(())
@@ -127,11 +127,10 @@ impl Costs {
     }
 
     /// Nothing is reached yet but the facts of the state.
-    fn reset(&mut self, net: &Net, state: &[u64], hopeful: bool) {
+    fn reset(&mut self, net: &Net, state: &[u64], hopeful: bool) -> Result<(), NoMemory> {
         let counters = if hopeful { &net.hoped } else { &net.sure };
-        for (counter, first) in self.counters.iter_mut().zip(counters.iter()) {
-            *counter = *first;
-        }
+        self.counters.clear();
+        self.counters.extend_from_slice(counters)?;
         for (cost, literal) in self.costs.iter_mut().zip(net.literals.iter()) {
             *cost = if has(state, literal.atom) == literal.sign {
                 0
@@ -143,6 +142,7 @@ impl Costs {
         fill(&mut self.by, NONE);
         self.buckets.clear();
         self.waiting.clear();
+        Ok(())
     }
 
     /// Reaches what needs no more than the facts of the state.
@@ -162,9 +162,19 @@ impl Costs {
         Ok(())
     }
 
-    /// Settles the facts of a bucket, those too that come into it meanwhile.
-    fn empty_bucket(&mut self, net: &Net, cost: u32) -> Result<(), NoMemory> {
+    /// Whether the goal has its final cost once all facts below a cost have theirs. If there is one way to meet it, all that
+    /// it needs has its final cost as soon as it has any.
+    fn is_done(&self, net: &Net, cost: u32, one_way: bool) -> bool {
+        let goal = self.of(net.goal());
+        goal <= cost || (one_way && goal != FAR)
+    }
+
+    /// Settles the facts of a bucket, those too that come into it meanwhile, until the goal has its final cost.
+    fn empty_bucket(&mut self, net: &Net, cost: u32, one_way: bool) -> Result<(), NoMemory> {
         for _ in 0..u32::MAX {
+            if self.is_done(net, cost, one_way) {
+                return Ok(());
+            }
             let first = link_at(&self.buckets, cost);
             let Some(waiting) = self.waiting.get(first as usize) else {
                 return Ok(());
@@ -182,15 +192,16 @@ impl Costs {
     /// Works out the costs from a state on, until the goal has its cost. Returns that cost. What is only hoped for counts if
     /// `hopeful`. Takes time in the number of facts and operators, and in the needs of operators that are met.
     pub fn work_out(&mut self, net: &Net, state: &[u64], hopeful: bool) -> Result<u32, NoMemory> {
-        self.reset(net, state, hopeful);
+        self.reset(net, state, hopeful)?;
+        let one_way = net.has_one_way();
         let cleared = net.operators.len().saturating_add(net.users.len());
         self.work = self.work.saturating_add(cleared as u64 / CLEARED);
         self.begin(net)?;
         for cost in 0..MOST + 1 {
-            if cost as usize >= self.buckets.len() || self.of(net.goal()) <= cost {
+            if cost as usize >= self.buckets.len() || self.is_done(net, cost, one_way) {
                 return Ok(self.of(net.goal()));
             }
-            self.empty_bucket(net, cost)?;
+            self.empty_bucket(net, cost, one_way)?;
         }
         Ok(self.of(net.goal()))
     }

@@ -4,14 +4,18 @@
 //! to meet an action's precondition, and for that of one entry if the entry has a condition; it gives a fact for each
 //! literal of an outcome. Of an unfair action, what every outcome gives is sure, and the rest is only hoped for.
 
+use crate::condition::Mask;
 use crate::dnf::{Dnf, Literals, both, contains, dnf_of};
 use crate::effect::{Effect, is_plain};
-use crate::index::{Literal, NONE, link_at, put, size};
+use crate::index::{Literal, NONE, bit_of, link_at, put, size};
 use crate::moves::{Move, Moves};
 use fond_task::form::Form;
 use fond_task::task::{Act, Entry, Task};
 use fond_text::fault::NoMemory;
 use std::alloc::Global;
+
+/// How many gifts of an operator are looked through for one of the same fact.
+const LAST_GIFTS: usize = 64;
 
 /// What an operator still waits for: how many facts, and the cost of those that it has.
 #[derive(Clone, Copy)]
@@ -52,6 +56,8 @@ pub struct Net {
     pub sure: Vec<Counter>,
     pub needs: Vec<u32>,
     pub gifts: Vec<Gift>,
+    /// The fact of each gift once more, which are all that is read most often.
+    pub given: Vec<u32>,
     /// The first operator of each action, and the end.
     firsts: Vec<u32>,
     /// The operators that need each fact.
@@ -60,6 +66,9 @@ pub struct Net {
     pub free: Vec<u32>,
     /// Some operator is only hoped for.
     pub has_hopeful: bool,
+    /// The first operator that gives the goal, and the end of those of the task. Those of aims come after it.
+    first_goal: u32,
+    end_goal: u32,
 }
 
 /// The place of a literal among all.
@@ -158,10 +167,13 @@ impl Net {
             sure: Vec::new(alloc),
             needs: Vec::new(alloc),
             gifts: Vec::new(alloc),
+            given: Vec::new(alloc),
             firsts: Vec::new(alloc),
             users: Vec::new(alloc),
             free: Vec::new(alloc),
             has_hopeful: false,
+            first_goal: 0,
+            end_goal: 0,
         };
         net.number(atoms)?;
         for _ in 0..net.goal().saturating_add(1) {
@@ -170,14 +182,34 @@ impl Net {
         Ok(net)
     }
 
-    /// Adds the gift of a literal to the operator that is being made, unless nothing needs the literal or the operator
-    /// needs it itself.
+    /// Whether one of the last gifts gives a fact by the operator that is being made.
+    fn is_given(&self, fact: u32, operator: u32) -> bool {
+        for back in 1..LAST_GIFTS {
+            let Some(gift) = self.gifts.get(self.gifts.len().saturating_sub(back)) else {
+                return false;
+            };
+            if gift.operator != operator {
+                return false;
+            }
+            if gift.fact == fact {
+                return true;
+            }
+        }
+        false
+    }
+
+    /// Adds the gift of a literal to the operator that is being made, unless nothing needs the literal, or the operator
+    /// needs it itself or gives it already.
     fn give(&mut self, needs: &[Literal], literal: Literal, step: u32) -> Result<(), NoMemory> {
         let fact = self.fact(literal);
         if fact == NONE || contains(needs, literal) {
             return Ok(());
         }
         let operator = size(self.operators.len());
+        if self.is_given(fact, operator) {
+            return Ok(());
+        }
+        self.given.push(fact)?;
         self.gifts.push(Gift {
             fact,
             operator,
@@ -344,19 +376,27 @@ impl Net {
         self.add_entries(alloc, &source)
     }
 
-    /// Adds an operator without a price for each way to meet the goal.
-    fn add_goal(&mut self, alloc: Global, task: &Task) -> Result<(), NoMemory> {
+    /// Adds an operator without a price that gives the goal.
+    fn add_way(&mut self, needs: &[Literal]) -> Result<(), NoMemory> {
         let goal = self.goal();
+        let operator = size(self.operators.len());
+        let first = size(self.gifts.len());
+        self.given.push(goal)?;
+        self.gifts.push(Gift {
+            fact: goal,
+            operator,
+            step: NONE,
+        })?;
+        self.close(needs, first, 0, false)
+    }
+
+    /// Adds an operator for each way to meet the goal.
+    fn add_goal(&mut self, alloc: Global, task: &Task) -> Result<(), NoMemory> {
+        self.first_goal = size(self.operators.len());
         for needs in &dnf_of(alloc, &task.goal)? {
-            let operator = size(self.operators.len());
-            let first = size(self.gifts.len());
-            self.gifts.push(Gift {
-                fact: goal,
-                operator,
-                step: NONE,
-            })?;
-            self.close(needs, first, 0, false)?;
+            self.add_way(needs)?;
         }
+        self.end_goal = size(self.operators.len());
         Ok(())
     }
 
@@ -373,6 +413,101 @@ impl Net {
         net.add_goal(alloc, task)?;
         Ok(net)
     }
+
+    /// Whether there is only one way to meet the goal or an aim.
+    pub fn has_one_way(&self) -> bool {
+        let end = size(self.operators.len());
+        let first = if end > self.end_goal {
+            self.end_goal
+        } else {
+            self.first_goal
+        };
+        end.saturating_sub(first) <= 1
+    }
+
+    /// Adds a literal to those that an aim needs, unless no condition of the task needs it.
+    fn add_needed(&self, literal: Literal, needs: &mut Literals) -> Result<(), NoMemory> {
+        if self.fact(literal) != NONE {
+            needs.push(literal)?;
+        }
+        Ok(())
+    }
+
+    /// Adds the literals of a mask to those that an aim needs.
+    fn add_mask(&self, mask: &Mask, needs: &mut Literals) -> Result<(), NoMemory> {
+        let mut bits = mask.care;
+        for _ in 0..64 {
+            if bits == 0 {
+                return Ok(());
+            }
+            let bit = bits.trailing_zeros();
+            bits &= bits.wrapping_sub(1);
+            let literal = Literal {
+                atom: mask.word.saturating_mul(64).saturating_add(bit),
+                sign: mask.value & bit_of(bit) != 0,
+            };
+            self.add_needed(literal, needs)?;
+        }
+        Ok(())
+    }
+
+    /// From now on, the goal is met in the states of the cube, and the task's own goal does not count. Literals that no
+    /// condition of the task needs are left out.
+    pub fn aim(&mut self, cube: &[Mask]) -> Result<(), NoMemory> {
+        let mut needs = Vec::new(*self.users.allocator());
+        for mask in cube {
+            self.add_mask(mask, &mut needs)?;
+        }
+        for operator in self.first_goal..self.end_goal {
+            self.block(operator);
+        }
+        self.add_way(&needs)
+    }
+
+    /// Drops the last operator, which is that of an aim.
+    fn drop_way(&mut self) {
+        let Some(operator) = self.operators.pop() else {
+            return;
+        };
+        if operator.needs == 0 {
+            let _ = self.free.pop();
+        }
+        for _ in 0..operator.needs {
+            let fact = self.needs.pop().unwrap_or(NONE);
+            if let Some(users) = self.users.get_mut(fact as usize) {
+                let _ = users.pop();
+            }
+        }
+        let _ = self.given.pop();
+        let _ = self.gifts.pop();
+        let _ = self.hoped.pop();
+        let _ = self.sure.pop();
+    }
+
+    /// The operator waits for all that it needs.
+    fn unblock(&mut self, number: u32) {
+        let Some(operator) = self.operators.get(number as usize) else {
+            return;
+        };
+        let left = operator.needs;
+        if let Some(counter) = self.hoped.get_mut(number as usize) {
+            counter.left = left;
+        }
+        if let Some(counter) = self.sure.get_mut(number as usize) {
+            counter.left = left;
+        }
+    }
+
+    /// Drops all aims: the task's own goal counts again.
+    pub fn drop_aims(&mut self) {
+        for _ in self.end_goal..size(self.operators.len()) {
+            self.drop_way();
+        }
+        for operator in self.first_goal..self.end_goal {
+            self.unblock(operator);
+        }
+    }
+
     /// The operators of an action, from the first on, and the end.
     fn range(&self, act: u32) -> (u32, u32) {
         let first = link_at(&self.firsts, act);
