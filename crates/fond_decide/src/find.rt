@@ -31,7 +31,7 @@ const SECOND_STATES: u32 = 50000;
 fn first_effort(budget: u32) -> Effort {
     Effort {
         states: budget.min(5000),
-        work: 10000000,
+        work: 30000000,
     }
 }
 
@@ -39,7 +39,7 @@ fn first_effort(budget: u32) -> Effort {
 fn second_effort(budget: u32) -> Effort {
     Effort {
         states: budget.min(20000),
-        work: 50000000,
+        work: 100000000,
     }
 }
 

@@ -35,6 +35,9 @@ pub(crate) struct Prover {
     literals: Vec<Literal>,
     /// The literals that are assumed next.
     trial: Vec<Literal>,
+    /// The action that took a literal of the last trial away that was not stable. It is looked at first: the next literal is often
+    /// needed because of the next action.
+    taker: u32,
     /// How many looks at an action are left, and how many were taken for all cubes.
     left: u64,
     pub(crate) work: u64,
@@ -52,6 +55,7 @@ impl Prover {
             best,
             literals: Vec::new(alloc),
             trial: Vec::new(alloc),
+            taker: 0,
             left: 0,
             work: 0,
         })
@@ -299,15 +303,26 @@ impl Prover {
         self.list(atoms, true)
     }
 
+    /// Whether one of the actions in a range takes a literal of what is left away. The first one that does is the taker.
+    fn is_taken(&mut self, known: &Known, from: u32, to: u32) -> bool {
+        for act in from..to {
+            if self.press(known, act) {
+                self.taker = act;
+                return true;
+            }
+        }
+        false
+    }
+
     /// Whether no action takes any literal of the trial away, and the goal is false on it.
     fn is_stable(&mut self, known: &Known) -> bool {
         self.assume_trial();
-        for act in 0..size(known.moves.acts.len()) {
-            if self.press(known, act) {
-                return false;
-            }
+        if known.moves.goal.value(&self.part) != Kleene::No {
+            return false;
         }
-        known.moves.goal.value(&self.part) == Kleene::No
+        let acts = size(known.moves.acts.len());
+        let first = self.taker;
+        !self.is_taken(known, first, acts) && !self.is_taken(known, 0, first)
     }
 
     /// Drops each literal in turn of which the others have no need.

@@ -12,14 +12,18 @@ use crate::together::Together;
 use fond_text::fault::NoMemory;
 use std::alloc::Global;
 
-/// The most literals of a cube times the steps that give one of them.
-const MOST: usize = 1_000_000;
+/// The most words of a cube times the steps that give one of its literals, for one cube and for all.
+const MOST: u64 = 8_000_000;
+
+const MOST_FOR_ALL: u64 = 400_000_000;
 
 /// The steps that surely give each literal: two lists for each atom, the negative literal first.
 #[derive(Drop)]
 pub struct Givers {
     steps: Vec<Vec<u32>>,
     found: Vec<u32>,
+    /// The words times steps that may still be looked at.
+    left: u64,
 }
 
 /// What else is needed for an effect to lead into a cube.
@@ -118,6 +122,7 @@ impl Givers {
         let mut givers = Givers {
             steps,
             found: Vec::new(alloc),
+            left: MOST_FOR_ALL,
         };
         for (number, step) in moves.steps.iter().enumerate() {
             givers.add(moves, size(number), *step)?;
@@ -125,12 +130,12 @@ impl Givers {
         Ok(givers)
     }
 
-    /// Adds the steps that give a literal of the mask to those found. Returns the number of literals.
-    fn find_mask(&mut self, mask: &Mask) -> Result<usize, NoMemory> {
+    /// Adds the steps that give a literal of the mask to those found.
+    fn find_mask(&mut self, mask: &Mask) -> Result<(), NoMemory> {
         let mut bits = mask.care;
         for _ in 0..64 {
             if bits == 0 {
-                break;
+                return Ok(());
             }
             let bit = bits.trailing_zeros();
             bits &= bits.wrapping_sub(1);
@@ -141,21 +146,23 @@ impl Givers {
                 self.found.extend_from_slice(steps)?;
             }
         }
-        Ok(mask.care.count_ones() as usize)
+        Ok(())
     }
 
     /// Finds the steps that give a literal of the cube, each once; none if they are too many.
     fn find(&mut self, cube: &[Mask]) -> Result<(), NoMemory> {
         self.found.clear();
-        let mut literals: usize = 0;
         for mask in cube {
-            literals = literals.saturating_add(self.find_mask(mask)?);
-        }
-        if self.found.len().saturating_mul(literals) > MOST {
-            self.found.clear();
+            self.find_mask(mask)?;
         }
         self.found.sort()?;
         self.found.dedup();
+        let looks = (self.found.len() as u64).saturating_mul(cube.len() as u64);
+        if looks > self.left.min(MOST) {
+            self.found.clear();
+            return Ok(());
+        }
+        self.left = self.left.saturating_sub(looks);
         Ok(())
     }
 
