@@ -30,7 +30,7 @@ const SECOND_STATES: u32 = 50000;
 /// What the searches of the first stage may do.
 fn first_effort(budget: u32) -> Effort {
     Effort {
-        states: budget.min(5000),
+        states: budget.min(4000),
         work: 30000000,
     }
 }
@@ -39,7 +39,7 @@ fn first_effort(budget: u32) -> Effort {
 fn second_effort(budget: u32) -> Effort {
     Effort {
         states: budget.min(20000),
-        work: 100000000,
+        work: 300000000,
     }
 }
 
