@@ -21,8 +21,8 @@ const LOCAL_STATES: u32 = 300;
 /// The number of states from which on a search begins anew with lookahead.
 const FIRST_STATES: u32 = 5_000;
 
-/// The length of a relaxed plan from which on its steps are taken at once: in a first search never, and in a second one only if it
-/// is long, unless the search is a large one.
+/// The length of a relaxed plan from which on its steps are taken at once: in a first search, and in a second one that is small or
+/// large.
 const NO_LOOK: u32 = u32::MAX;
 
 const SHORT_LOOK: u32 = 100;
@@ -162,25 +162,33 @@ impl Engine {
         let begun = self.search.work();
         let first = Limits {
             states: states.min(FIRST_STATES),
-            work: work - work / 4,
+            work: work.saturating_sub(work / 4),
             look: NO_LOOK,
         };
         let ended = self.search.run(&mut self.known, &self.start, first)?;
         let done = self.search.work().saturating_sub(begun);
-        let look = if states > FIRST_STATES {
-            LARGE_LOOK
-        } else {
-            SHORT_LOOK
-        };
-        if ended != Ended::Spent || done >= work || self.search.length < look {
+        if ended != Ended::Spent || done >= work {
             return Ok(ended);
         }
-        let second = Limits {
-            states,
-            work: work.saturating_sub(done),
-            look,
+        self.run_again(states, work.saturating_sub(done))
+    }
+
+    /// Searches once more, with lookahead, unless the search is a small one from which relaxed plans are short.
+    fn run_again(&mut self, states: u32, work: u64) -> Result<Ended, NoMemory> {
+        let is_large = states > FIRST_STATES;
+        if !is_large && self.search.length < SHORT_LOOK {
+            return Ok(Ended::Spent);
+        }
+        let limits = Limits {
+            states: if is_large {
+                states - FIRST_STATES
+            } else {
+                states
+            },
+            work,
+            look: if is_large { LARGE_LOOK } else { SHORT_LOOK },
         };
-        self.search.run(&mut self.known, &self.start, second)
+        self.search.run(&mut self.known, &self.start, limits)
     }
 
     /// Searches with the local aim, if the state has one. Returns whether a plan was found.

@@ -177,14 +177,11 @@ impl Known {
         Ok(())
     }
 
-    /// From now on, searches aim at the condition of a rule instead of the goal, if it has literals. Returns whether it has.
+    /// From now on, searches aim at the condition of a rule instead of the goal, if some condition of the task needs a literal of
+    /// it. Returns whether one does.
     fn aim_at(&mut self, rule: u32) -> Result<bool, NoMemory> {
-        let masks = self.rules.masks(rule);
-        if masks.is_empty() {
-            return Ok(false);
-        }
-        self.net.aim(masks)?;
-        Ok(true)
+        let aims = self.net.aim(self.rules.masks(rule))?;
+        Ok(aims)
     }
 
     /// From now on, searches aim at the conditions of the first rule that holds in a state and of its targets instead of the

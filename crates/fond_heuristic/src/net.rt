@@ -452,16 +452,20 @@ impl Net {
     }
 
     /// From now on, the goal is met in the states of the cube, and the task's own goal does not count. Literals that no
-    /// condition of the task needs are left out.
-    pub fn aim(&mut self, cube: &[Mask]) -> Result<(), NoMemory> {
+    /// condition of the task needs are left out. Returns false if none is left: then nothing changes.
+    pub fn aim(&mut self, cube: &[Mask]) -> Result<bool, NoMemory> {
         let mut needs = Vec::new(*self.users.allocator());
         for mask in cube {
             self.add_mask(mask, &mut needs)?;
         }
+        if needs.is_empty() {
+            return Ok(false);
+        }
         for operator in self.first_goal..self.end_goal {
             self.block(operator);
         }
-        self.add_way(&needs)
+        self.add_way(&needs)?;
+        Ok(true)
     }
 
     /// Drops the last operator, which is that of an aim.
@@ -469,9 +473,6 @@ impl Net {
         let Some(operator) = self.operators.pop() else {
             return;
         };
-        if operator.needs == 0 {
-            let _ = self.free.pop();
-        }
         for _ in 0..operator.needs {
             let fact = self.needs.pop().unwrap_or(NONE);
             if let Some(users) = self.users.get_mut(fact as usize) {
