@@ -2,7 +2,7 @@
 
 ghost use Rattle.fond_covering.specs.Coverings.{IsSureCovering};
 ghost use Rattle.fond_rules.specs.Belongs.{BelongTo};
-ghost use Rattle.std.specs.Prelude.{◌≡◌, true, IfOk};
+ghost use Rattle.std.specs.Prelude.{Decides, IfOk};
 
 use fond_cover::conditions::Conditions;
 use fond_cover::items::Items;
@@ -22,7 +22,7 @@ pub(crate) fn passes(
     start: u32,
 ) -> Result<bool, NoMemory>
     requires belong { BelongTo t.now rules.now }
-    ensures { IfOk result (λ yes. yes ≡ true → IsSureCovering t.now rules.now items.now start) }
+    ensures { IfOk result (λ yes. Decides yes (IsSureCovering t.now rules.now items.now start)) }
 {
     if start >= items.len() {
         return Ok(false);

@@ -6,13 +6,12 @@ use fond_state::cube::Cube;
 use fond_text::fault::NoMemory;
 use std::alloc::Global;
 
-/// The literals of a condition, by words.
-type Masks = Vec<Mask>;
-
 /// Rules in order, each filed under one of its literals, so that only few are looked at in a state.
 #[derive(Drop)]
 pub(crate) struct Choices {
-    conditions: Vec<Masks>,
+    /// The literals of all conditions, by words, one condition after the other, and where each ends.
+    masks: Vec<Mask>,
+    ends: Vec<u32>,
     acts: Vec<u32>,
     /// By literal: the rules that are filed under it, in order. The negative literal of an atom comes first.
     lists: Vec<Vec<u32>>,
@@ -29,13 +28,14 @@ pub(crate) struct Choices {
     work: u64,
 }
 
-/// Adds a literal, whose atom is after those of the masks.
-fn add_literal(masks: &mut Masks, literal: Literal) -> Result<(), NoMemory> {
+/// Adds a literal to the masks from one on, after whose atoms it comes.
+fn add_literal(masks: &mut Vec<Mask>, from: u32, literal: Literal) -> Result<(), NoMemory> {
     let word = literal.atom >> 6;
     let care = bit_of(literal.atom);
     let value = if literal.sign { care } else { 0 };
+    let is_begun = size(masks.len()) > from;
     if let Some(mask) = masks.last_mut() {
-        if mask.word == word {
+        if is_begun && mask.word == word {
             mask.care |= care;
             mask.value |= value;
             return Ok(());
@@ -45,15 +45,29 @@ fn add_literal(masks: &mut Masks, literal: Literal) -> Result<(), NoMemory> {
     Ok(())
 }
 
-/// The literals of a cube.
-fn masks_of(alloc: Global, cube: &Cube) -> Result<Masks, NoMemory> {
-    let mut masks = Vec::new(alloc);
+/// Adds the literals of a cube.
+fn add_cube(masks: &mut Vec<Mask>, cube: &Cube) -> Result<(), NoMemory> {
+    let from = size(masks.len());
     for atom in 0..size(cube.len()) {
         if let Some(sign) = cube.literal(atom) {
-            add_literal(&mut masks, Literal { atom, sign })?;
+            add_literal(masks, from, Literal { atom, sign })?;
         }
     }
-    Ok(masks)
+    Ok(())
+}
+
+/// The literals of the condition of this number.
+fn condition_of<'a>(masks: &'a [Mask], ends: &[u32], rule: u32) -> &'a [Mask] {
+    let end = at(ends, rule) as usize;
+    let start = if rule == 0 {
+        0
+    } else {
+        at(ends, rule - 1) as usize
+    };
+    if start > end || end > masks.len() {
+        return &[];
+    }
+    &masks[start..end]
 }
 
 /// The literals of a mask that are false in the state.
@@ -146,7 +160,8 @@ impl Choices {
         let filed_false = vec![in alloc; 0; width as usize]?;
         let counts = vec![in alloc; 0; atoms as usize]?;
         Ok(Choices {
-            conditions: Vec::new(alloc),
+            masks: Vec::new(alloc),
+            ends: Vec::new(alloc),
             acts: Vec::new(alloc),
             lists,
             filed_true,
@@ -175,10 +190,7 @@ impl Choices {
 
     /// The literals of a rule's condition.
     fn condition(&self, rule: u32) -> &[Mask] {
-        match self.conditions.get(rule as usize) {
-            Some(masks) => masks.as_slice(),
-            None => &[],
-        }
+        condition_of(&self.masks, &self.ends, rule)
     }
 
     /// How bad it is to file a rule under the literal: most states have few true atoms, and a long list takes long.
@@ -228,20 +240,22 @@ impl Choices {
     }
 
     /// Adds a rule after the others. Takes time in the number of atoms.
-    pub(crate) fn add(&mut self, alloc: Global, cond: &Cube, act: u32) -> Result<(), NoMemory> {
+    pub(crate) fn add(&mut self, cond: &Cube, act: u32) -> Result<(), NoMemory> {
         let rule = size(self.acts.len());
-        let masks = masks_of(alloc, cond)?;
+        add_cube(&mut self.masks, cond)?;
+        self.ends.push(size(self.masks.len()))?;
+        self.acts.push(act)?;
         let mut best = None;
-        for mask in &masks {
+        for mask in self.condition(rule) {
             best = self.better(*mask, best);
         }
         match best {
-            Some(literal) => self.file(literal, rule)?,
-            None => self.whole = self.whole.min(rule),
+            Some(literal) => self.file(literal, rule),
+            None => {
+                self.whole = self.whole.min(rule);
+                Ok(())
+            }
         }
-        self.conditions.push(masks)?;
-        self.acts.push(act)?;
-        Ok(())
     }
 
     /// The first of the rules under a literal that holds in the state, if it is before the best one so far.
@@ -299,7 +313,8 @@ impl Choices {
     /// atom, it is made known at once.
     fn find_rivals(&mut self, rule: u32, state: &[u64], known: &mut [u64]) -> Result<(), NoMemory> {
         self.rivals.clear();
-        for (number, masks) in self.conditions.iter().take(rule as usize).enumerate() {
+        for number in 0..rule {
+            let masks = condition_of(&self.masks, &self.ends, number);
             if is_kept_out(masks, state, known) {
                 continue;
             }
@@ -311,7 +326,7 @@ impl Choices {
             for mask in masks {
                 count_bits(mask.word, opposed(mask, state), &mut self.counts, false);
             }
-            self.rivals.push(size(number))?;
+            self.rivals.push(number)?;
             let bits = masks.len().saturating_mul(64) as u64;
             self.work = self.work.saturating_add(bits);
         }
@@ -334,10 +349,8 @@ impl Choices {
     /// Sets the counts of all atoms that keep a listed rule from holding to 0.
     fn forget_counts(&mut self, state: &[u64]) {
         for rival in &self.rivals {
-            if let Some(masks) = self.conditions.get(*rival as usize) {
-                for mask in masks {
-                    count_bits(mask.word, opposed(mask, state), &mut self.counts, true);
-                }
+            for mask in condition_of(&self.masks, &self.ends, *rival) {
+                count_bits(mask.word, opposed(mask, state), &mut self.counts, true);
             }
         }
     }

@@ -4,7 +4,7 @@ ghost use Rattle.fond_covering.specs.Coverings.{IsCovering, IsCoverOf, IsSureCov
 ghost use Rattle.fond_policy.specs.Belongs.{BelongAsRules};
 ghost use Rattle.fond_policy.specs.Parts.{AreSureRules};
 ghost use Rattle.fond_policy.specs.Walks.{HasAllRuled};
-ghost use Rattle.std.specs.Prelude.{IfOk, IfSome};
+ghost use Rattle.std.specs.Prelude.{◌≡◌, None, IfOk, IfSome};
 
 use crate::certify::passes;
 use crate::covering::Covering;
@@ -33,8 +33,8 @@ fn widened(alloc: Global, t: &Task, rules: &Rules, covering: Covering) -> Result
 }
 
 /// The cover of these items from the first one, made lean, if they pass their test: they are sure, and the initial state lies in
-/// the first one. Neither need the rules be sure, nor need one hold in each state that they reach. Takes time in the number of items
-/// times that of the rules; `Rules::index` makes that fast.
+/// the first one. None exactly if they do not. Neither need the rules be sure, nor need one hold in each state that they reach. Takes
+/// time in the number of items times that of the rules; `Rules::index` makes that fast.
 pub fn take_items(
     alloc: Global,
     t: &Task,
@@ -42,7 +42,8 @@ pub fn take_items(
     items: Items,
 ) -> Result<Option<Covering>, NoMemory>
     requires { BelongAsRules t.now rules.now }
-    ensures { IfOk result (λ found. IfSome found (λ covering. IsCovering t.now rules.now covering.items covering.start)) }
+    ensures found { IfOk result (λ found. IfSome found (λ covering. IsCovering t.now rules.now covering.items covering.start)) }
+    ensures none { IfOk result (λ found. found ≡ None → ¬ IsSureCovering t.now rules.now items 0) }
 {
     if !passes(alloc, t, rules, &items, 0)? {
         return Ok(None);

@@ -12,7 +12,7 @@ fn sketch_of(alloc: Global, t: &Task, rules: &Rules) -> Result<Sketch, NoMemory>
     let mut sketch = Sketch::new(alloc, t)?;
     for number in 0..rules.len() {
         let rule = rules.get(number);
-        sketch.add_rule(alloc, &rule.cond, rule.act)?;
+        sketch.add_rule(&rule.cond, rule.act)?;
     }
     Ok(sketch)
 }

@@ -152,8 +152,8 @@ impl Sketch {
     }
 
     /// Adds a rule after the others.
-    pub fn add_rule(&mut self, alloc: Global, cond: &Cube, act: u32) -> Result<(), NoMemory> {
-        self.choices.add(alloc, cond, act)?;
+    pub fn add_rule(&mut self, cond: &Cube, act: u32) -> Result<(), NoMemory> {
+        self.choices.add(cond, act)?;
         self.nodes.add_rule()
     }
 

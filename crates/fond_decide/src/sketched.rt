@@ -91,10 +91,10 @@ impl Trail {
 
 impl Planner {
     /// Adds the rules that the sketch does not have yet.
-    fn tell(&self, alloc: Global, sketch: &mut Sketch) -> Result<(), NoMemory> {
+    fn tell(&self, sketch: &mut Sketch) -> Result<(), NoMemory> {
         for number in sketch.rules()..self.draft.rules.len() {
             let rule = self.draft.rules.get(number);
-            sketch.add_rule(alloc, &rule.cond, rule.act)?;
+            sketch.add_rule(&rule.cond, rule.act)?;
         }
         Ok(())
     }
@@ -146,7 +146,7 @@ impl Planner {
         if !self.settle_next(alloc, t, budget, &trail.step)? {
             return Ok(Followed::Past);
         }
-        self.tell(alloc, &mut trail.sketch)?;
+        self.tell(&mut trail.sketch)?;
         trail.look(alloc, t, edge)
     }
 
@@ -190,7 +190,7 @@ impl Planner {
         ensures past { IfOk result (λ sketched. sketched ≡ IsPastSketch → IsPast t.now budget) }
     {
         let mut trail = trail_of(alloc, t)?;
-        self.tell(alloc, &mut trail.sketch)?;
+        self.tell(&mut trail.sketch)?;
         if !trail.sketch.begin(t)? {
             return Ok(Sketched::GaveUp);
         }

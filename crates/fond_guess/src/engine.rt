@@ -181,7 +181,7 @@ impl Engine {
         }
         let limits = Limits {
             states: if is_large {
-                states - FIRST_STATES
+                states.saturating_sub(FIRST_STATES)
             } else {
                 states
             },
