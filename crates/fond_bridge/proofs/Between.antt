@@ -27,5 +27,5 @@ pub stands-is-injective : StandsIsInjective
 stands-is-injective task game values other is state also same = sym (restricted task game is values state) ∙ ap (restrict task) same ∙ restricted task game is other also
 
 pub traces-stand : TracesStand
-traces-stand task game rules numbers lines last is trace =
-    subst (λ first. Trace task game rules first numbers lines (stands task last)) (plays task game is).first (trace_alike task game is rules game.init numbers lines last game.init_long trace)
+traces-stand pick task game rules words lines last is trace =
+    subst (λ first. Trace pick task game rules first words lines (stands task last)) (plays task game is).first (trace_alike task game is rules pick game.init words lines last game.init_long trace)

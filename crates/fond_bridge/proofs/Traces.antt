@@ -22,7 +22,7 @@ use Rattle.fond_game.specs.Policies.{selected}
 use Rattle.fond_rules.specs.Select.{selected_rule}
 use Rattle.fond_exec.specs.Steps.{IsChosen, IsStuck}
 use Rattle.fond_exec.specs.Traces as steps
-use Rattle.fond_exec.specs.Traces.{goal_line, outcome_line}
+use Rattle.fond_exec.specs.Traces.{goal_line, outcome_line, Pick}
 use Rattle.fond_ground.specs.Grounds.{IsActOf, IsEntryOf, IsGroundOf}
 use Rattle.fond_bridge.specs.Stands.{stands}
 use Rattle.fond_bridge.specs.Games.{IsState, action_of}
@@ -89,21 +89,23 @@ module _ (task : LiftedTask) (game : Task) (is : IsGroundOf task game) (rules : 
       (ap (λ o. option_map_or (λ (one : Act). action_text game.labels one.ground) o []) at ∙ ap (λ (labels : Labels). action_text labels act.ground) is.labels)
 
   -- a trace from a state is one from the state for which it stands
-  pub trace_alike : (values : List Bool) (numbers lines : List ℕ) (last : List Bool) → IsState game values → steps.Trace game rules values numbers lines last → Trace task game rules (stands task values) numbers lines (stands task last)
-  trace_alike values numbers lines last state (steps.goal one outcomes is_goal) = goal (stands task one) outcomes (((plays task game is).goal one state).0 is_goal)
-  trace_alike values numbers lines last state (steps.ended one open_) = ended (stands task one) (open_alike one state open_)
-  trace_alike values numbers lines last state (steps.stuck one outcome left open_ none) = stuck (stands task one) outcome left (open_alike one state open_) (chooses_none one state none)
-  trace_alike values numbers lines last state (steps.past one outcome left number act open_ chosen beyond) =
+  pub trace_alike : (pick : Pick) (values : List Bool) (words lines : List ℕ) (last : List Bool) → IsState game values → steps.Trace pick game rules values words lines last
+      → Trace pick task game rules (stands task values) words lines (stands task last)
+  trace_alike pick values words lines last state (steps.goal one left is_goal) = goal (stands task one) left (((plays task game is).goal one state).0 is_goal)
+  trace_alike pick values words lines last state (steps.ended one open_) = ended (stands task one) (open_alike one state open_)
+  trace_alike pick values words lines last state (steps.stuck one word left open_ none) = stuck (stands task one) word left (open_alike one state open_) (chooses_none one state none)
+  trace_alike pick values words lines last state (steps.past one word left number act open_ chosen beyond) =
       let same = choices_long number act chosen.numbered in
-      subst (λ count. Trace task game rules (stands task one) (outcome ∷ left) (outcome_line outcome count) (stands task one)) same
-      (past (stands task one) outcome left act.ground (choices_of number act chosen.numbered) (open_alike one state open_) (chooses one state number act chosen) (subst (λ count. count ≤ outcome) (sym same) beyond))
-  trace_alike values numbers lines last state (steps.took one outcome left rule number next text end taken trace) =
+      subst (λ count. Trace pick task game rules (stands task one) (word ∷ left) (outcome_line (pick count word) count) (stands task one)) same
+      (past (stands task one) word left act.ground (choices_of number act chosen.numbered) (open_alike one state open_) (chooses one state number act chosen) (subst (λ count. count ≤ pick count word) (sym same) beyond))
+  trace_alike pick values words lines last state (steps.took one word left rule number outcome next text end taken picked trace) =
       let at = taken.chosen.numbered in
       let choice = choice_at one state number taken.act at outcome taken.entries taken.picked in
       let later : IsState game next = ap length taken.given ∙ next_long one state taken.entries in
-      let rest : Trace task game rules (stands task next) left text (stands task end) = trace_alike next left text end later trace in
+      let rest : Trace pick task game rules (stands task next) left text (stands task end) = trace_alike pick next left text end later trace in
       let there : stands task next ≡ state_after (stands task one) choice.0 = ap (stands task) taken.given ∙ choice.2 in
-      subst (λ line. Trace task game rules (stands task one) (outcome ∷ left) (line ++ text) (stands task end)) (sym (lines_alike rule number outcome taken.act at))
-      (took (stands task one) outcome left rule taken.act.ground (choices_of number taken.act at) choice.0 text (stands task end) (open_alike one state taken.open_)
-      (ap (selected_rule rules) (restricted task game is one state) ∙ taken.selects) (chooses one state number taken.act taken.chosen) choice.1
-      (subst (λ after. Trace task game rules after left text (stands task end)) there rest))
+      let named : outcome ≡ pick (length (choices_of number taken.act at)) word = picked ∙ ap (λ count. pick count word) (sym (choices_long number taken.act at)) in
+      subst (λ line. Trace pick task game rules (stands task one) (word ∷ left) (line ++ text) (stands task end)) (sym (lines_alike rule number outcome taken.act at ∙ ap (step_line task rule taken.act.ground) named))
+      (took (stands task one) word left rule taken.act.ground (choices_of number taken.act at) choice.0 text (stands task end) (open_alike one state taken.open_)
+      (ap (selected_rule rules) (restricted task game is one state) ∙ taken.selects) (chooses one state number taken.act taken.chosen) (ap (slice_get (choices_of number taken.act at)) (sym named) ∙ choice.1)
+      (subst (λ after. Trace pick task game rules after left text (stands task end)) there rest))

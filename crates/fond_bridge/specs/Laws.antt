@@ -5,6 +5,7 @@ use Rattle.fond_ast.specs.declared.task.LiftedTask.{LiftedTask}
 use Rattle.fond_meaning.specs.Outcomes.{outcomes, state_after}
 use Rattle.fond_meaning.specs.Solutions.{initial}
 use Rattle.fond_exec.specs.Traces as ground
+use Rattle.fond_exec.specs.Traces.{Pick}
 use Rattle.fond_game.specs.declared.rule.Rule.{Rule}
 use Rattle.fond_ground.specs.Grounds.{IsActOf, IsGroundOf}
 use Rattle.fond_ground.specs.Texts.{state_text}
@@ -41,5 +42,5 @@ StandsIsInjective = (task : LiftedTask) (game : Task) (values other : List Bool)
 
 -- a trace of the ground task stands for one of the task, with the same lines
 abbrev pub TracesStand : Type 0
-TracesStand = (task : LiftedTask) (game : Task) (rules : List Rule) (numbers lines : List ℕ) (last : List Bool) → IsGroundOf task game
-    → ground.Trace game rules game.init numbers lines last → Trace task game rules (initial task) numbers lines (stands task last)
+TracesStand = (pick : Pick) (task : LiftedTask) (game : Task) (rules : List Rule) (words lines : List ℕ) (last : List Bool) → IsGroundOf task game
+    → ground.Trace pick game rules game.init words lines last → Trace pick task game rules (initial task) words lines (stands task last)

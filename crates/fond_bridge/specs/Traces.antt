@@ -1,4 +1,4 @@
--- The trace of a rule list in the states of a task, over a list of outcomes, by the rules of docs/COMMANDS.md.
+-- The trace of a rule list in the states of a task, over a list of words, by the rules of docs/COMMANDS.md.
 use Rattle.std.specs.Prelude.{◌≡◌, ℕ, ◌≤◌, List, [], ◌∷◌, ◌++◌, Some, length, slice_get, codes}
 use Rattle.std.specs.Fmt.{decimal}
 use Rattle.fond_text.specs.declared.atom.GroundAction.{GroundAction}
@@ -11,7 +11,7 @@ use Rattle.fond_task.specs.declared.task.Task.{Task}
 use Rattle.fond_task.specs.Texts.{action_text}
 use Rattle.fond_game.specs.declared.rule.Rule.{Rule}
 use Rattle.fond_rules.specs.Select.{selected_rule}
-use Rattle.fond_exec.specs.Traces.{goal_line, outcome_line}
+use Rattle.fond_exec.specs.Traces.{goal_line, outcome_line, Pick}
 use Rattle.fond_ground.specs.Texts.{labels_of}
 use Rattle.fond_bridge.specs.Stands.{restrict}
 use Rattle.fond_bridge.specs.Solutions.{rules_policy}
@@ -33,15 +33,15 @@ abbrev pub step_line : LiftedTask → ℕ → GroundAction → ℕ → List ℕ
 step_line task rule action outcome =
     codes "rule " ++ decimal rule ++ codes " " ++ action_text (labels_of task) action ++ codes " outcome " ++ decimal outcome ++ codes "\n"
 
--- the trace of rules from a state over outcomes: its lines and its last state. It ends at a goal, when no outcome is left,
--- when no applicable action is chosen, or when the chosen action has no outcome of the next number; otherwise it goes on in the
--- state to which that outcome leads
-pub data Trace (task : LiftedTask) (game : Task) (rules : List Rule) : State → List ℕ → List ℕ → State → Type 0 where
-  goal : (state : State) (numbers : List ℕ) → IsGoal task state → Trace task game rules state numbers (goal_line (length numbers)) state
-  ended : (state : State) → ¬ IsGoal task state → Trace task game rules state [] (codes "ended\n") state
-  stuck : (state : State) (number : ℕ) (left : List ℕ) → ¬ IsGoal task state → ChooseNone task game rules state → Trace task game rules state (number ∷ left) (codes "stuck\n") state
-  past : (state : State) (number : ℕ) (left : List ℕ) (action : GroundAction) (choices : List (List Literal)) → ¬ IsGoal task state → Choose task game rules state action choices → length choices ≤ number
-      → Trace task game rules state (number ∷ left) (outcome_line number (length choices)) state
-  took : (state : State) (number : ℕ) (left : List ℕ) (rule : ℕ) (action : GroundAction) (choices : List (List Literal)) (outcome : List Literal) (text : List ℕ) (last : State) → ¬ IsGoal task state
-      → selected_rule rules (restrict task state) ≡ Some rule → Choose task game rules state action choices → slice_get choices number ≡ Some outcome
-      → Trace task game rules (state_after state outcome) left text last → Trace task game rules state (number ∷ left) (step_line task rule action number ++ text) last
+-- the trace of rules from a state over words, each of which picks an outcome: its lines and its last state. It ends at a goal,
+-- when no word is left, when no applicable action is chosen, or when the chosen action has no outcome of the number that is
+-- picked; otherwise it goes on in the state to which that outcome leads
+pub data Trace (pick : Pick) (task : LiftedTask) (game : Task) (rules : List Rule) : State → List ℕ → List ℕ → State → Type 0 where
+  goal : (state : State) (words : List ℕ) → IsGoal task state → Trace pick task game rules state words (goal_line (length words)) state
+  ended : (state : State) → ¬ IsGoal task state → Trace pick task game rules state [] (codes "ended\n") state
+  stuck : (state : State) (word : ℕ) (left : List ℕ) → ¬ IsGoal task state → ChooseNone task game rules state → Trace pick task game rules state (word ∷ left) (codes "stuck\n") state
+  past : (state : State) (word : ℕ) (left : List ℕ) (action : GroundAction) (choices : List (List Literal)) → ¬ IsGoal task state → Choose task game rules state action choices
+      → length choices ≤ pick (length choices) word → Trace pick task game rules state (word ∷ left) (outcome_line (pick (length choices) word) (length choices)) state
+  took : (state : State) (word : ℕ) (left : List ℕ) (rule : ℕ) (action : GroundAction) (choices : List (List Literal)) (outcome : List Literal) (text : List ℕ) (last : State) → ¬ IsGoal task state
+      → selected_rule rules (restrict task state) ≡ Some rule → Choose task game rules state action choices → slice_get choices (pick (length choices) word) ≡ Some outcome
+      → Trace pick task game rules (state_after state outcome) left text last → Trace pick task game rules state (word ∷ left) (step_line task rule action (pick (length choices) word) ++ text) last

@@ -1,12 +1,16 @@
 -- What the selected rule chooses, and whether it may be taken.
-use Rattle.std.proofs.Common.{◌≡◌, ℕ, ◌<◌, List, Bool, true, false, Option, Some, None, length, slice_get, subst, sym, ap, ◌∙◌}
-use Rattle.std.specs.Prelude.{option_map, option_and_then}
+use Rattle.std.proofs.Common.{◌≡◌, ℕ, ◌<◌, ◌≤◌, List, Bool, true, false, Option, Some, None, length, slice_get, subst, sym, ap, ◌∙◌, arith}
+use Rattle.std.specs.Prelude.{◌&&◌, nat_le, nat_lt, option_map, option_and_then}
+use Rattle.std.specs.List.{list_all}
 use Rattle.std.proofs.lemmas.Option.{none-some, same_Some, slice_get_within, get_or_from_slice_get}
-use Rattle.std.proofs.lemmas.Bool.{true≢false}
+use Rattle.std.proofs.lemmas.Bool.{and_parts, true≢false}
+use Rattle.std.proofs.lemmas.Bool.Decides.{nat_tests}
 use Rattle.fond_state.specs.Cubes.{lies_in}
 use Rattle.fond_task.specs.declared.task.Act.{Act}
 use Rattle.fond_task.specs.declared.task.Task.{Task}
+use Rattle.fond_task.proofs.Found.{all_at}
 use Rattle.fond_task.specs.Truth.{is_true}
+use Rattle.fond_task.specs.Within.{is_act_within, is_entry_within, is_form_within}
 use Rattle.fond_game.specs.declared.rule.Rule.{Rule}
 use Rattle.fond_game.specs.Policies.{IsApplicable, selected}
 use Rattle.fond_rules.specs.Select.{selected_rule}
@@ -49,3 +53,13 @@ module _ (rules : List Rule) (state : List Bool) where
       let same : number ≡ act = same_Some number act (sym chosen ∙ is) in
       let at : slice_get task.acts act ≡ Some applicable.act = ap (slice_get task.acts) (sym same) ∙ applicable.numbered in
       differs answer fails (told applicable.act at ∙ applicable.holds)
+
+-- an action of a task has some outcomes, and few
+pub counted_outcomes : (task : Task) (number : ℕ) (act : Act) → slice_get task.acts number ≡ Some act → (0 < length act.outcomes) × (length act.outcomes ≤ 256)
+counted_outcomes task number act at =
+    let within = all_at (is_act_within (length task.atoms)) task.acts number act task.acts_within at in
+    let both = and_parts (is_form_within (length task.atoms) act.pre && nat_lt 0 (length act.outcomes) && nat_le (length act.outcomes) 256) (list_all (list_all (is_entry_within (length task.atoms))) act.outcomes) within in
+    let counts = and_parts (is_form_within (length task.atoms) act.pre && nat_lt 0 (length act.outcomes)) (nat_le (length act.outcomes) 256) both.0 in
+    let some : nat_lt 0 (length act.outcomes) ≡ true = (and_parts (is_form_within (length task.atoms) act.pre) (nat_lt 0 (length act.outcomes)) counts.0).1 in
+    let few : nat_le (length act.outcomes) 256 ≡ true = counts.1 in
+    (grind (arith, nat_tests, some), grind (arith, nat_tests, few))

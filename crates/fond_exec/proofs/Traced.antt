@@ -10,7 +10,7 @@ use Rattle.fond_game.specs.Policies.{IsGoal}
 use Rattle.fond_exec.specs.declared.step.Step.{Step}
 use Rattle.fond_exec.specs.Runs.{Run}
 use Rattle.fond_exec.specs.Steps.{IsChosen, IsStuck, IsTaken, IsStep}
-use Rattle.fond_exec.specs.Traces.{goal_line, outcome_line, step_line, Trace, goal, ended, stuck, past, took}
+use Rattle.fond_exec.specs.Traces.{goal_line, outcome_line, step_line, AppendsTrace, Pick, Trace, goal, ended, stuck, past, took}
 use Rattle.fond_exec.proofs.Chosen.{differs}
 
 -- what an Ok gives, through a function
@@ -22,7 +22,7 @@ pub none_left : (left : List ℕ) → length left ≡ 0 → left ≡ []
 none_left [] none = refl
 none_left (outcome ∷ left) none = absurd (omega (arith, none))
 
-module _ (task : Task) (rules : List Rule) where
+module _ (pick : Pick) (task : Task) (rules : List Rule) where
   -- a step of an equal task and equal rules
   pub step_of : (other : Task) (more : List Rule) (state : List Bool) (outcome : ℕ) (step : Step) (after : List Bool) → other ≡ task → more ≡ rules →
       IsStep other more state outcome step after → IsStep task rules state outcome step after
@@ -33,31 +33,31 @@ module _ (task : Task) (rules : List Rule) where
 
   -- a whole trace, whose lines follow the bytes before
   abbrev pub IsTraced : List Bool → List ℕ → List Bool → List ℕ → List ℕ → Type 0
-  IsTraced start outcomes last before now = (text : List ℕ) × Trace task rules start outcomes text last × (now ≡ before ++ text)
+  IsTraced start outcomes last before now = (text : List ℕ) × Trace pick task rules start outcomes text last × (now ≡ before ++ text)
 
   -- the lines so far, followed by any trace from the state over the outcomes that are left, are a trace from the start
   pub record Progress (start : List Bool) (outcomes : List ℕ) (state : List Bool) (left before now : List ℕ) : Type 0 where
     pub front : List ℕ
     pub written : now ≡ before ++ front
-    pub onward : (text : List ℕ) (last : List Bool) → Trace task rules state left text last → Trace task rules start outcomes (front ++ text) last
+    pub onward : (text : List ℕ) (last : List Bool) → Trace pick task rules state left text last → Trace pick task rules start outcomes (front ++ text) last
 
   pub begins : (start : List Bool) (outcomes before : List ℕ) → Progress start outcomes start outcomes before before
   begins start outcomes before = record { front = []; written = sym (append-nil before); onward = λ text last trace. trace }
 
   module _ (start : List Bool) (outcomes : List ℕ) (state : List Bool) (left before now : List ℕ) (so_far : Progress start outcomes state left before now) where
     -- the trace ends with these lines
-    ends_by : (line : List ℕ) (last : List Bool) (after : List ℕ) → Trace task rules state left line last → after ≡ now ++ line → IsTraced start outcomes last before after
+    ends_by : (line : List ℕ) (last : List Bool) (after : List ℕ) → Trace pick task rules state left line last → after ≡ now ++ line → IsTraced start outcomes last before after
     ends_by line last after trace put =
         (so_far.front ++ line, so_far.onward line last trace, put ∙ ap (λ w. w ++ line) so_far.written ∙ append_assoc before so_far.front line)
 
     at_goal : (last : List Bool) (after : List ℕ) → IsGoal task state → last ≡ state → after ≡ now ++ goal_line (length left) → IsTraced start outcomes last before after
-    at_goal last after is same put = ends_by (goal_line (length left)) last after (subst (λ s. Trace task rules state left (goal_line (length left)) s) (sym same) (goal state left is)) put
+    at_goal last after is same put = ends_by (goal_line (length left)) last after (subst (λ s. Trace pick task rules state left (goal_line (length left)) s) (sym same) (goal state left is)) put
 
     -- no outcome is left
     ended_by : (is_goal : Bool) (after : List ℕ) → left ≡ [] → is_goal ≡ is_true state task.goal → after ≡ now ++ (if is_goal then goal_line 0 else codes "ended\n") → IsTraced start outcomes state before after
     ended_by true after none is put = at_goal state after (sym is) refl (put ∙ ap (λ w. now ++ goal_line (length w)) (sym none))
     ended_by false after none is put =
-        ends_by (codes "ended\n") state after (subst (λ w. Trace task rules state w (codes "ended\n") state) (sym none) (ended state (differs _ (sym is)))) put
+        ends_by (codes "ended\n") state after (subst (λ w. Trace pick task rules state w (codes "ended\n") state) (sym none) (ended state (differs _ (sym is)))) put
 
     pub at_end : (is_goal : Bool) (after : List ℕ) → left ≡ [] → is_goal ≡ is_true state task.goal → after ≡ now ++ (if is_goal then goal_line 0 else codes "ended\n") → IsTraced start outcomes state before after
     at_end is_goal after none is put = ended_by is_goal after none is put
@@ -67,45 +67,47 @@ module _ (task : Task) (rules : List Rule) where
 
     module _ (outcome : ℕ) (more : List ℕ) (next : left ≡ outcome ∷ more) where
       -- a trace of one line
-      one_line : (line : List ℕ) (last : List Bool) (after : List ℕ) → Trace task rules state (outcome ∷ more) line state → last ≡ state → after ≡ now ++ line → IsTraced start outcomes last before after
+      one_line : (line : List ℕ) (last : List Bool) (after : List ℕ) → Trace pick task rules state (outcome ∷ more) line state → last ≡ state → after ≡ now ++ line → IsTraced start outcomes last before after
       one_line line last after trace same put =
-          let P : List Bool → Type 0 = λ s. Trace task rules state (outcome ∷ more) line s in
-          let Q : List ℕ → Type 0 = λ w. Trace task rules state w line last in
+          let P : List Bool → Type 0 = λ s. Trace pick task rules state (outcome ∷ more) line s in
+          let Q : List ℕ → Type 0 = λ w. Trace pick task rules state w line last in
           ends_by line last after (subst Q (sym next) (subst P (sym same) trace)) put
 
       pub at_stuck : (last : List Bool) (after : List ℕ) → (¬ IsGoal task state) × IsStuck task rules state × (last ≡ state) → after ≡ now ++ codes "stuck\n" → IsTraced start outcomes last before after
       at_stuck last after is put = one_line (codes "stuck\n") last after (stuck state outcome more is.0 is.1) is.2 put
 
-      pub at_past : (count : ℕ) (last : List Bool) (after : List ℕ) →
-          (¬ IsGoal task state) × ((number : ℕ) × (act : Act) × IsChosen task rules state number act × (count ≡ length act.outcomes)) × (count ≤ outcome) × (last ≡ state) →
-          after ≡ now ++ outcome_line outcome count → IsTraced start outcomes last before after
-      at_past count last after is put =
+      pub at_past : (count number : ℕ) (last : List Bool) (after : List ℕ) →
+          (¬ IsGoal task state) × ((chosen : ℕ) × (act : Act) × IsChosen task rules state chosen act × (count ≡ length act.outcomes)) × (count ≤ number) × (last ≡ state) → number ≡ pick count outcome →
+          after ≡ now ++ outcome_line number count → IsTraced start outcomes last before after
+      at_past count number last after is picked put =
           let act = is.1.1 in
           let counted : count ≡ length act.outcomes = is.1.3 in
-          let beyond : length act.outcomes ≤ outcome = subst (λ n. n ≤ outcome) counted is.2 in
-          one_line (outcome_line outcome (length act.outcomes)) last after (past state outcome more is.1.0 act is.0 is.1.2 beyond) is.3 (put ∙ ap (λ n. now ++ outcome_line outcome n) counted)
+          let named : number ≡ pick (length act.outcomes) outcome = picked ∙ ap (λ n. pick n outcome) counted in
+          let beyond : length act.outcomes ≤ pick (length act.outcomes) outcome = subst (λ n. n ≤ pick (length act.outcomes) outcome) counted (subst (λ n. count ≤ n) named is.2) in
+          one_line (outcome_line (pick (length act.outcomes) outcome) (length act.outcomes)) last after (past state outcome more is.1.0 act is.0 is.1.2 beyond) is.3
+          (put ∙ (λ i. now ++ outcome_line (named i) (counted i)))
 
       -- a step that is taken goes on from the next state
-      pub went_on : (rule number : ℕ) (last : List Bool) (after : List ℕ) → IsTaken task rules state outcome rule number last → after ≡ now ++ step_line task rule number outcome →
+      pub went_on : (rule number chosen : ℕ) (last : List Bool) (after : List ℕ) → (taken : IsTaken task rules state chosen rule number last) → chosen ≡ pick (length taken.act.outcomes) outcome → after ≡ now ++ step_line task rule number chosen →
           Progress start outcomes last more before after
-      went_on rule number last after is put = record {
-        front = so_far.front ++ step_line task rule number outcome;
-        written = put ∙ ap (λ w. w ++ step_line task rule number outcome) so_far.written ∙ append_assoc before so_far.front _;
+      went_on rule number chosen last after is picked put = record {
+        front = so_far.front ++ step_line task rule number chosen;
+        written = put ∙ ap (λ w. w ++ step_line task rule number chosen) so_far.written ∙ append_assoc before so_far.front _;
         onward = λ text end trace.
-            let P : List ℕ → Type 0 = λ w. Trace task rules state w (step_line task rule number outcome ++ text) end in
-            let Q : List ℕ → Type 0 = λ w. Trace task rules start outcomes w end in
-            subst Q (sym (append_assoc so_far.front (step_line task rule number outcome) text))
-            (so_far.onward _ end (subst P (sym next) (took state outcome more rule number last text end is trace)));
+            let P : List ℕ → Type 0 = λ w. Trace pick task rules state w (step_line task rule number chosen ++ text) end in
+            let Q : List ℕ → Type 0 = λ w. Trace pick task rules start outcomes w end in
+            subst Q (sym (append_assoc so_far.front (step_line task rule number chosen) text))
+            (so_far.onward _ end (subst P (sym next) (took state outcome more rule number chosen last text end is picked trace)));
       }
 
 -- the trace of a run from the initial state, followed by the text of its last state
-pub traced_and_state : (task : Task) (rules : List Rule) (outcomes : List ℕ) (start end : Run) (before now after : List ℕ) (is_goal : Bool) (last : List Bool) →
+pub traced_and_state : (pick : Pick) (task : Task) (rules : List Rule) (outcomes : List ℕ) (start end : Run) (before now after : List ℕ) (is_goal : Bool) (last : List Bool) →
     start ≡ record { task = task; rules = rules; state = task.init } → end.task ≡ start.task →
-    (text : List ℕ) × Trace start.task start.rules start.state outcomes text end.state × (now ≡ before ++ text) → after ≡ now ++ state_text task last → last ≡ end.state →
+    (text : List ℕ) × Trace pick start.task start.rules start.state outcomes text end.state × (now ≡ before ++ text) → after ≡ now ++ state_text task last → last ≡ end.state →
     is_goal ≡ is_true end.state end.task.goal →
-    (text : List ℕ) × (last : List Bool) × Trace task rules task.init outcomes text last × (after ≡ before ++ (text ++ state_text task last)) × (is_goal ≡ is_true last task.goal)
-traced_and_state task rules outcomes start end before now after is_goal last starts same traced put shown is =
-    let P : Run → Type 0 = λ r. Trace r.task r.rules r.state outcomes traced.0 end.state in
+    AppendsTrace pick task rules outcomes before after is_goal
+traced_and_state pick task rules outcomes start end before now after is_goal last starts same traced put shown is =
+    let P : Run → Type 0 = λ r. Trace pick r.task r.rules r.state outcomes traced.0 end.state in
     let own : end.task ≡ task = same ∙ ap (λ (r : Run). r.task) starts in (
       traced.0,
       end.state,

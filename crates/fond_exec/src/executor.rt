@@ -1,10 +1,13 @@
 //! Stepping a rule list through the states of a task.
 
-ghost use Rattle.std.specs.Prelude.{◌≡◌, IfOk};
+ghost use Rattle.std.specs.Prelude.{◌≡◌, ◌<◌, IfOk};
 ghost use Rattle.fond_task.specs.Truth.{is_true};
 ghost use Rattle.fond_rules.specs.Belongs.{BelongTo};
-ghost use Rattle.fond_exec.specs.Steps.{IsStep};
+ghost use Rattle.fond_exec.specs.Choices.{IsChoice};
+ghost use Rattle.fond_exec.specs.Steps.{IsStep, IsTaken};
+ghost use Rattle.fond_exec.specs.declared.choice.Choice.TheVariants.{Chosen};
 
+use crate::choice::Choice;
 use crate::step::Step;
 use fond_rules::rules::Rules;
 use fond_state::state::State;
@@ -72,6 +75,36 @@ impl<'a> Executor<'a> {
         &self.state
     }
 
+    /// What the rules choose in the state. Takes time in the number of rules times that of atoms, and no memory.
+    pub fn choice(&self) -> Choice
+        ensures { IsChoice self.now.task self.now.rules self.now.state result }
+    {
+        if self.done() {
+            return Choice::Done;
+        }
+        let Some(rule) = self.rules.select(&self.state) else {
+            return Choice::Stuck;
+        };
+        let act = self.rules.get(rule).act;
+        if !applicable(self.task, &self.state, act) {
+            return Choice::Stuck;
+        }
+        let count = self.task.acts.get(act as usize).outcomes.len() as u32;
+        Choice::Chosen { rule, act, count }
+    }
+
+    /// Takes the action that the rules choose, with one of its outcomes.
+    pub(crate) fn take(&mut self, rule: u32, act: u32, count: u32, outcome: u32)
+        requires chosen { IsChoice self.old.task self.old.rules self.old.state (Chosen rule act count) }
+        requires one { outcome < count }
+        ensures taken { IsTaken self.old.task self.old.rules self.old.state outcome rule act self.new.state }
+        ensures task { self.new.task ≡ self.old.task }
+        ensures rules { self.new.rules ≡ self.old.rules }
+    {
+        apply_into(self.task, &self.state, act, outcome, &mut self.next);
+        std::mem::swap(&mut self.state, &mut self.next);
+    }
+
     /// Takes the action of the first rule that holds, with its outcome of this number. A step that is not taken changes
     /// nothing. Takes time in the number of rules times that of atoms and in the size of the action, and no memory.
     pub fn step(&mut self, outcome: u32) -> Step
@@ -79,24 +112,16 @@ impl<'a> Executor<'a> {
         ensures task { self.new.task ≡ self.old.task }
         ensures rules { self.new.rules ≡ self.old.rules }
     {
-        if self.done() {
-            return Step::Done;
+        match self.choice() {
+            Choice::Done => Step::Done,
+            Choice::Stuck => Step::Stuck,
+            Choice::Chosen { rule, act, count } => {
+                if outcome >= count {
+                    return Step::BadOutcome { count };
+                }
+                self.take(rule, act, count, outcome);
+                Step::Took { rule, act }
+            }
         }
-        let Some(rule) = self.rules.select(&self.state) else {
-            return Step::Stuck;
-        };
-        let act = self.rules.get(rule).act;
-        if !applicable(self.task, &self.state, act) {
-            return Step::Stuck;
-        }
-        let count = self.task.acts.get(act as usize).outcomes.len();
-        if outcome as usize >= count {
-            return Step::BadOutcome {
-                count: count as u32,
-            };
-        }
-        apply_into(self.task, &self.state, act, outcome, &mut self.next);
-        std::mem::swap(&mut self.state, &mut self.next);
-        Step::Took { rule, act }
     }
 }

@@ -1,9 +1,14 @@
-//! Runs a rule list on a task over recorded outcomes: reads the script, takes the steps, writes the trace. Each step is
-//! the one that the rules and the task determine. Who picks the outcomes, and whether the rules are a solution, is left
-//! to others.
+//! Runs a rule list on a task, over recorded outcomes or over outcomes that a chooser picks: reads the script, takes the
+//! steps, writes the trace. Each step is the one that the rules and the task determine. Who picks the outcomes, and whether
+//! the rules are a solution, is left to others.
 #![tactic(auto)]
 
+pub mod choice;
 pub mod executor;
+pub mod laws;
+mod lines;
 pub mod script;
+pub mod simulate;
+pub mod simulator;
 pub mod step;
 pub mod trace;

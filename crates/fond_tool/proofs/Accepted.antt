@@ -22,7 +22,7 @@ use Rattle.fond_same.proofs.SameTask.{alike, same_ground}
 use Rattle.fond_same.specs.Alike.{AreAlike}
 use Rattle.fond_tool.specs.Certified.{DescribeGround, IsCertText, TaskReply}
 use Rattle.fond_tool.specs.Checks.{AnswersCheck, CheckReply, IsFault, verdict_reply, verdict_status}
-use Rattle.fond_tool.specs.Laws.{CorrectAreAccepted, HopelessTasksAreRefused, IsCertStatus, MigratedAreAccepted, PlannedAreAccepted, SmallTasksAreDecided, accepted_reply}
+use Rattle.fond_tool.specs.Laws.{CorrectAreAccepted, DemosAreAccepted, HopelessTasksAreRefused, IsCertStatus, MigratedAreAccepted, PlannedAreAccepted, SmallTasksAreDecided, accepted_reply}
 use Rattle.fond_bridge.proofs.Between.{ground-tasks-agree}
 use Rattle.fond_ground.specs.Grounds.{IsGroundOf}
 use Rattle.fond_meaning.specs.Solutions.{IsSolvable, More}
@@ -31,6 +31,7 @@ use Rattle.fond_game.proofs.Forced.{refusals_exclude}
 use Rattle.fond_relax.specs.Stable.{IsHopeless}
 use Rattle.fond_decide.proofs.Right.{right_hopeless}
 use Rattle.fond_tool.specs.Commands.{CommandReply}
+use Rattle.fond_tool.specs.Demos.{AnswersDemo, demo_text, demo_texts}
 use Rattle.fond_tool.specs.Migrations.{AnswersMigrate, IsCoverText, MigrateReply}
 use Rattle.fond_tool.specs.Plans.{AnswersPlan}
 use Rattle.fond_tool.specs.Tasks.{Describe}
@@ -107,6 +108,29 @@ planned given other domain problem side printed reply answered status answers =
     let for = planned_given given domain problem side printed answered in
     planned_of (record { domain = domain; problem = problem; side = side }) for.0 printed reply for.1 status answers
 
+-- whether a status is that of a job that is done
+abbrev is_done : Status → Type 0
+is_done Done = ⊤
+is_done status = ⊥
+
+rejected_done : ¬ Rejected ≡ Done
+rejected_done same = subst is_done (sym same) tt
+
+refused_done : ¬ Refused ≡ Done
+refused_done same = subst is_done (sym same) tt
+
+-- what a policy of `demo` says between its lines is accepted as lean
+shown_by : (size : ℕ) (task : LiftedTask) (game : Task) (printed : Reply) → DescribeGround (demo_texts size) task game → AnswersDemo size task game printed → printed.status ≡ Done
+    → (task : LiftedTask) × (game : Task) × (cert : List ℕ) × DescribeGround (demo_texts size) task game × (printed.text ≡ demo_text size game cert)
+    × ((reply : Reply) → CheckReply (demo_texts size) cert reply → reply ≡ accepted_reply Done)
+shown_by size task game printed described (AnswersDemo.policy cert answers) status =
+    (task, game, cert, described, refl, λ reply judged. planned_by (demo_texts size) task game described 1000000 (record { text = cert; status = Done }) reply answers tt judged)
+shown_by size task game printed described (AnswersDemo.other reply answers other) status = absurd (other status)
+
+pub shown : DemosAreAccepted
+shown size printed (TaskReply.refused fault refusal) status = absurd (refused_done status)
+shown size printed (TaskReply.answered task game same described answers) status = shown_by size task game printed described answers status
+
 module _ (texts : TaskTexts) (task : LiftedTask) (budget : ℕ) (described : Describe texts task) (few : ¬ More task budget) where
   abbrev Decided : Reply → Type 0
   Decided reply = ((reply.status ≡ Done) × IsSolvable task) ⊎ ((reply.status ≡ Unsolvable) × (¬ IsSolvable task))
@@ -146,17 +170,6 @@ module _ (texts : TaskTexts) (task : LiftedTask) (game : Task) (described : Desc
 
 pub hopeless_refused : HopelessTasksAreRefused
 hopeless_refused texts task game budget reply described hopeless answers = hopeless_reply texts task game described hopeless budget reply answers
-
--- whether a status is that of a job that is done
-abbrev is_done : Status → Type 0
-is_done Done = ⊤
-is_done status = ⊥
-
-rejected_done : ¬ Rejected ≡ Done
-rejected_done same = subst is_done (sym same) tt
-
-refused_done : ¬ Refused ≡ Done
-refused_done same = subst is_done (sym same) tt
 
 fault_done : (verdict : Verdict) → IsFault verdict → ¬ verdict_status verdict ≡ Done
 fault_done (Accepted lean) fault same = fault

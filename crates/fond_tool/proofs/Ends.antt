@@ -8,7 +8,7 @@ use Rattle.fond_meaning.specs.Truths.{holds}
 use Rattle.fond_tool.specs.declared.status.Status.{Status}
 use Rattle.fond_tool.specs.declared.status.Status.TheVariants.{Done, Unsolvable, Undecided, Refused, BadWords, ReadFault, WriteFault, Rejected, Stopped, NoMemory}
 use Rattle.fond_tool.specs.declared.words.Command.{Command}
-use Rattle.fond_tool.specs.declared.words.Command.TheVariants.{Succ, Run, Check, Plan, Migrate}
+use Rattle.fond_tool.specs.declared.words.Command.TheVariants.{Succ, Run, Check, Plan, Migrate, Simulate, Demo}
 use Rattle.fond_tool.specs.Commands.{CommandReply}
 use Rattle.fond_tool.specs.Ends.{ToolReply, Ends, Writes}
 use Rattle.fond_tool.specs.Fetches.{Reads}
@@ -18,9 +18,11 @@ use Rattle.fond_check.specs.declared.verdict.Verdict.{Verdict}
 use Rattle.fond_check.specs.declared.verdict.Verdict.TheVariants.{Accepted, Rule, Pair, LayerGoal, LayerAct, NoRule, Count, Outside, Item, Start}
 use Rattle.fond_tool.specs.Certified.{TaskReply}
 use Rattle.fond_tool.specs.Checks.{AnswersCheck, CheckReply, verdict_status}
+use Rattle.fond_tool.specs.Demos.{AnswersDemo, DemoReply, demo_texts}
 use Rattle.fond_tool.specs.Migrations.{AnswersMigrate, MigrateReply}
 use Rattle.fond_tool.specs.Plans.{AnswersPlan}
 use Rattle.fond_tool.specs.Runs.{AnswersRun, RunReply}
+use Rattle.fond_tool.specs.Simulations.{AnswersSimulate}
 use Rattle.fond_tool.specs.Successors.{AnswersAction, AnswersWord, SuccReply}
 
 -- whether a reply may have a status: not that of a write fault, and not that of memory that ran out
@@ -94,6 +96,22 @@ migrate_status : {texts : TaskTexts} {cert : List ℕ} {reply : Reply} → Migra
 migrate_status (TaskReply.refused fault first) = refl
 migrate_status (TaskReply.answered task game reply of answers) = migrated_status answers
 
+simulated_status : (task : LiftedTask) {game : Task} {cert : List ℕ} {seed steps : ℕ} {reply : Reply} → AnswersSimulate task game cert seed steps reply → is_reply_status reply.status ≡ true
+simulated_status task (AnswersSimulate.bad_cert code byte fault) = refl
+simulated_status task (AnswersSimulate.ran read lines last is trace) = end_status (holds last [] task.goal)
+
+task_simulated_status : {texts : TaskTexts} {cert : List ℕ} {seed steps : ℕ} {reply : Reply} → TaskReply texts (λ task game. AnswersSimulate task game cert seed steps) reply → is_reply_status reply.status ≡ true
+task_simulated_status (TaskReply.refused fault first) = refl
+task_simulated_status (TaskReply.answered task game reply of answers) = simulated_status task answers
+
+shown_status : {size : ℕ} {task : LiftedTask} {game : Task} {reply : Reply} → AnswersDemo size task game reply → is_reply_status reply.status ≡ true
+shown_status (AnswersDemo.policy cert answers) = refl
+shown_status (AnswersDemo.other reply answers other) = planned_status answers
+
+task_shown_status : {size : ℕ} {reply : Reply} → TaskReply (demo_texts size) (AnswersDemo size) reply → is_reply_status reply.status ≡ true
+task_shown_status (TaskReply.refused fault first) = refl
+task_shown_status (TaskReply.answered task game reply of answers) = shown_status answers
+
 command_status : (command : Command) (given contents : List (List ℕ)) (reply : Reply) → CommandReply command given contents reply → is_reply_status reply.status ≡ true
 command_status Succ (d ∷ p ∷ action ∷ []) (domain ∷ problem ∷ []) reply h = succ_status h
 command_status Succ [] contents reply h = absurd h
@@ -132,6 +150,23 @@ command_status Plan (d ∷ p ∷ u ∷ n ∷ []) (domain ∷ problem ∷ []) rep
 command_status Plan (d ∷ p ∷ u ∷ n ∷ []) (domain ∷ problem ∷ side ∷ []) reply h = task_plan_status h.2
 command_status Plan (d ∷ p ∷ u ∷ n ∷ []) (domain ∷ problem ∷ side ∷ other ∷ others) reply h = absurd h
 command_status Plan (d ∷ p ∷ u ∷ n ∷ other ∷ others) contents reply h = absurd h
+command_status Simulate [] contents reply h = absurd h
+command_status Simulate (d ∷ []) contents reply h = absurd h
+command_status Simulate (d ∷ p ∷ []) contents reply h = absurd h
+command_status Simulate (d ∷ p ∷ u ∷ []) contents reply h = absurd h
+command_status Simulate (d ∷ p ∷ u ∷ c ∷ []) contents reply h = absurd h
+command_status Simulate (d ∷ p ∷ u ∷ c ∷ seed ∷ []) contents reply h = absurd h
+command_status Simulate (d ∷ p ∷ u ∷ c ∷ seed ∷ steps ∷ []) [] reply h = absurd h
+command_status Simulate (d ∷ p ∷ u ∷ c ∷ seed ∷ steps ∷ []) (domain ∷ []) reply h = absurd h
+command_status Simulate (d ∷ p ∷ u ∷ c ∷ seed ∷ steps ∷ []) (domain ∷ problem ∷ []) reply h = absurd h
+command_status Simulate (d ∷ p ∷ u ∷ c ∷ seed ∷ steps ∷ []) (domain ∷ problem ∷ side ∷ []) reply h = absurd h
+command_status Simulate (d ∷ p ∷ u ∷ c ∷ seed ∷ steps ∷ []) (domain ∷ problem ∷ side ∷ cert ∷ []) reply h = task_simulated_status h.4
+command_status Simulate (d ∷ p ∷ u ∷ c ∷ seed ∷ steps ∷ []) (domain ∷ problem ∷ side ∷ cert ∷ other ∷ others) reply h = absurd h
+command_status Simulate (d ∷ p ∷ u ∷ c ∷ seed ∷ steps ∷ other ∷ others) contents reply h = absurd h
+command_status Demo [] contents reply h = absurd h
+command_status Demo (size ∷ []) [] reply h = task_shown_status h.2
+command_status Demo (size ∷ []) (other ∷ others) reply h = absurd h
+command_status Demo (size ∷ other ∷ others) contents reply h = absurd h
 
 -- no reply has the status of a write fault, or of memory that ran out
 pub reply_status : {words : List (List ℕ)} {reads : Reads} {reply : Reply} → ToolReply words reads reply → is_reply_status reply.status ≡ true

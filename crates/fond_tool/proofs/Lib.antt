@@ -9,5 +9,6 @@ mod Planned
 mod Refused
 mod Rejections
 mod Runs
+mod Shown
 mod Solvable
 mod Stuck

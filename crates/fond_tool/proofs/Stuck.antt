@@ -1,5 +1,5 @@
 -- No trace of a solution gets stuck.
-use Rattle.std.proofs.Common.{◌≡◌, ℕ, List, Some, slice_get, subst}
+use Rattle.std.proofs.Common.{◌≡◌, ℕ, List, Some, length, slice_get, subst}
 use Rattle.fond_ast.specs.declared.task.LiftedTask.{LiftedTask}
 use Rattle.fond_play.specs.Games.{start, onward}
 use Rattle.fond_meaning.proofs.Come.{outcomes-come-next}
@@ -11,6 +11,7 @@ use Rattle.fond_task.specs.declared.task.Task.{Task}
 use Rattle.fond_game.proofs.Lists.{Contains-map, Contains_numbered}
 use Rattle.fond_game.specs.declared.rule.Rule.{Rule}
 use Rattle.fond_bridge.specs.Solutions.{rules_policy}
+use Rattle.fond_exec.specs.Traces.{Pick}
 use Rattle.fond_bridge.specs.Traces.{Choose, Trace}
 use Rattle.fond_tool.specs.Laws.{SolutionsNeverStick}
 use Rattle.fond_tool.specs.Stuck.{EndsStuck}
@@ -25,13 +26,13 @@ module _ (task : LiftedTask) (game : Task) (rules : List Rule) (solves : IsSolut
       (outcomes-come-next task state action choose.schema choose.numbered choose.applicable (state_after state outcome)).1
       (Contains-map (state_after state) all outcome (Contains_numbered all number outcome here))
 
-  never : (state : State) (numbers lines : List ℕ) (last : State) → Reach task (rules_policy task game rules) state → (trace : Trace task game rules state numbers lines last) → ¬ EndsStuck trace
-  never state numbers lines last reached (Trace.goal at left is) stuck = stuck
-  never state numbers lines last reached (Trace.ended at open_) stuck = stuck
-  never state numbers lines last reached (Trace.stuck at number left open_ none) stuck = let choice = solves.acts at reached open_ in none choice.0 choice.1 choice.2
-  never state numbers lines last reached (Trace.past at number left action choices open_ choose over) stuck = stuck
-  never state numbers lines last reached (Trace.took at number left rule action choices outcome text end open_ selects choose here later) stuck =
-      never (state_after at outcome) left text end (onward at action (state_after at outcome) reached open_ choose.chosen (comes_next at action choices number outcome choose here)) later stuck
+  never : (pick : Pick) (state : State) (words lines : List ℕ) (last : State) → Reach task (rules_policy task game rules) state → (trace : Trace pick task game rules state words lines last) → ¬ EndsStuck trace
+  never pick state words lines last reached (Trace.goal at left is) stuck = stuck
+  never pick state words lines last reached (Trace.ended at open_) stuck = stuck
+  never pick state words lines last reached (Trace.stuck at word left open_ none) stuck = let choice = solves.acts at reached open_ in none choice.0 choice.1 choice.2
+  never pick state words lines last reached (Trace.past at word left action choices open_ choose over) stuck = stuck
+  never pick state words lines last reached (Trace.took at word left rule action choices outcome text end open_ selects choose here later) stuck =
+      never pick (state_after at outcome) left text end (onward at action (state_after at outcome) reached open_ choose.chosen (comes_next at action choices (pick (length choices) word) outcome choose here)) later stuck
 
 pub never_stuck : SolutionsNeverStick
-never_stuck task game rules numbers lines last solves trace = never task game rules solves _ numbers lines last start trace
+never_stuck pick task game rules words lines last solves trace = never task game rules solves pick _ words lines last start trace

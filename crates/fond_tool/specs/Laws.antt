@@ -11,8 +11,10 @@ use Rattle.fond_meaning.specs.States.{State}
 use Rattle.fond_game.specs.declared.rule.Rule.{Rule}
 use Rattle.fond_bridge.specs.Solutions.{rules_policy}
 use Rattle.fond_bridge.specs.Traces.{Trace}
+use Rattle.fond_exec.specs.Traces.{Pick}
 use Rattle.fond_tool.specs.Certified.{DescribeGround, IsCertText, TaskReply}
 use Rattle.fond_tool.specs.Checks.{CheckReply}
+use Rattle.fond_tool.specs.Demos.{AnswersDemo, demo_text, demo_texts}
 use Rattle.fond_tool.specs.Commands.{CommandReply}
 use Rattle.fond_tool.specs.Plans.{AnswersPlan}
 use Rattle.fond_tool.specs.Stuck.{EndsStuck}
@@ -60,7 +62,14 @@ abbrev pub MigratedAreAccepted : Type 0
 MigratedAreAccepted = (given other : List (List ℕ)) (domain problem side cert : List ℕ) (migrated reply : Reply) → CommandReply Migrate given (domain ∷ problem ∷ side ∷ cert ∷ []) migrated → migrated.status ≡ Done
     → CommandReply Check other (domain ∷ problem ∷ side ∷ migrated.text ∷ []) reply → reply.status ≡ Done
 
--- no trace of rules that are a solution ends with the line `stuck`, whatever the numbers are
+-- no trace of rules that are a solution ends with the line `stuck`, whatever the words are and however they pick outcomes
 abbrev pub SolutionsNeverStick : Type 0
-SolutionsNeverStick = (task : LiftedTask) (game : Task) (rules : List Rule) (numbers lines : List ℕ) (last : State) → IsSolution task (rules_policy task game rules)
-    → (trace : Trace task game rules (initial task) numbers lines last) → ¬ EndsStuck trace
+SolutionsNeverStick = (pick : Pick) (task : LiftedTask) (game : Task) (rules : List Rule) (words lines : List ℕ) (last : State) → IsSolution task (rules_policy task game rules)
+    → (trace : Trace pick task game rules (initial task) words lines last) → ¬ EndsStuck trace
+
+-- what `demo` prints as done is a certificate of its task between its lines, and the reply of `check` to that, for the same texts,
+-- is that it is accepted as lean
+abbrev pub DemosAreAccepted : Type 0
+DemosAreAccepted = (size : ℕ) (printed : Reply) → TaskReply (demo_texts size) (AnswersDemo size) printed → printed.status ≡ Done
+    → (task : LiftedTask) × (game : Task) × (cert : List ℕ) × DescribeGround (demo_texts size) task game × (printed.text ≡ demo_text size game cert)
+    × ((reply : Reply) → CheckReply (demo_texts size) cert reply → reply ≡ accepted_reply Done)

@@ -3,6 +3,7 @@ pub mod Certified
 pub mod Checks
 pub mod Commands
 pub mod Decided
+pub mod Demos
 pub mod Ends
 pub mod Fetches
 pub mod GroundRuns
@@ -13,6 +14,7 @@ pub mod Plans
 pub mod Rejections
 pub mod Replies
 pub mod Runs
+pub mod Simulations
 pub mod Stuck
 pub mod Successors
 pub mod Tasks

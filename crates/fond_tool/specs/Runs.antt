@@ -6,6 +6,7 @@ use Rattle.fond_meaning.specs.Solutions.{initial}
 use Rattle.fond_task.specs.declared.task.Task.{Task}
 use Rattle.fond_cert.specs.Faults.{IsCertFault}
 use Rattle.fond_policy.specs.declared.cert.Cert.{Cert}
+use Rattle.fond_exec.specs.Traces.{as_recorded}
 use Rattle.fond_exec.specs.Scripts.{IsScript, IsScriptFault}
 use Rattle.fond_bridge.specs.Traces.{Trace}
 use Rattle.fond_front.specs.declared.texts.TaskTexts.{TaskTexts}
@@ -17,7 +18,7 @@ pub data AnswersRun (task : LiftedTask) (game : Task) (cert script : List ℕ) :
   bad_cert : (code byte : ℕ) → IsCertFault game cert code byte → AnswersRun task game cert script (cert_reply code byte)
   bad_script : (read : Cert) (byte : ℕ) → IsCertText game read cert → IsScriptFault script byte → AnswersRun task game cert script (script_reply byte)
   ran : (read : Cert) (numbers lines : List ℕ) (last : State) → IsCertText game read cert → IsScript script numbers
-      → Trace task game (rules_of read) (initial task) numbers lines last → AnswersRun task game cert script (trace_reply task lines last)
+      → Trace as_recorded task game (rules_of read) (initial task) numbers lines last → AnswersRun task game cert script (trace_reply task lines last)
 
 -- what `run` replies: a refusal of its files, or the reply in the task that they describe
 abbrev pub RunReply : TaskTexts → List ℕ → List ℕ → Reply → Type 0

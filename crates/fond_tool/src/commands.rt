@@ -4,15 +4,17 @@ ghost use Rattle.fond_tool.specs.Commands.{CommandReply};
 ghost use Rattle.fond_tool.specs.Rejections.{Rejects};
 ghost use Rattle.fond_tool.specs.Words.{kinds_of, file_count, IsOfKind};
 ghost use Rattle.std.specs.List.{AllZip};
-ghost use Rattle.std.specs.Prelude.{◌≡◌, length, IfOk, IfErr};
+ghost use Rattle.std.specs.Prelude.{◌≡◌, ◌≤◌, [], get_or, length, IfOk, IfErr};
 
 use crate::answer::Answer;
 use crate::check::check_cert;
+use crate::demo::demo;
 use crate::fetch::Content;
 use crate::migrate::migrate;
 use crate::plan::plan;
 use crate::rejection::Rejection;
 use crate::run::run;
+use crate::simulate::simulate;
 use crate::succ::succ;
 use crate::words::Command;
 use fond_front::texts::TaskTexts;
@@ -37,6 +39,19 @@ fn task_texts(
     })
 }
 
+/// The texts of the task that the first three files describe.
+fn first_texts(alloc: Global, contents: &[Content]) -> Result<TaskTexts, NoMemory>
+    requires { 3 ≤ length contents.now }
+    ensures { IfOk result (λ texts. texts ≡ record { domain = get_or contents.now 0 []; problem = get_or contents.now 1 []; side = get_or contents.now 2 [] }) }
+{
+    task_texts(
+        alloc,
+        contents[0].bytes(),
+        contents[1].bytes(),
+        contents[2].bytes(),
+    )
+}
+
 /// The answer of a command to the words after its own and to the contents of its files. The side list of `succ` is empty.
 pub fn do_command(
     alloc: Global,
@@ -49,28 +64,31 @@ pub fn do_command(
     ensures replied { IfOk result (CommandReply command words.now contents.now) }
     ensures rejected { IfErr result (Rejects (CommandReply command words.now contents.now)) }
 {
-    let domain = contents[0].bytes();
-    let problem = contents[1].bytes();
     match command {
         Command::Succ => {
-            let texts = task_texts(alloc, domain, problem, &[])?;
+            let texts = task_texts(alloc, contents[0].bytes(), contents[1].bytes(), &[])?;
             succ(alloc, &texts, &words[2])
         }
         Command::Run => {
-            let texts = task_texts(alloc, domain, problem, contents[2].bytes())?;
+            let texts = first_texts(alloc, contents)?;
             run(alloc, &texts, contents[3].bytes(), contents[4].bytes())
         }
         Command::Check => {
-            let texts = task_texts(alloc, domain, problem, contents[2].bytes())?;
+            let texts = first_texts(alloc, contents)?;
             check_cert(alloc, &texts, contents[3].bytes())
         }
         Command::Plan => {
-            let texts = task_texts(alloc, domain, problem, contents[2].bytes())?;
+            let texts = first_texts(alloc, contents)?;
             plan(alloc, &texts, &words[3])
         }
         Command::Migrate => {
-            let texts = task_texts(alloc, domain, problem, contents[2].bytes())?;
+            let texts = first_texts(alloc, contents)?;
             migrate(alloc, &texts, contents[3].bytes())
         }
+        Command::Simulate => {
+            let texts = first_texts(alloc, contents)?;
+            simulate(alloc, &texts, contents[3].bytes(), &words[4], &words[5])
+        }
+        Command::Demo => demo(alloc, &words[0]),
     }
 }

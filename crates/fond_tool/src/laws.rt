@@ -1,6 +1,6 @@
 //! The laws of replies, each the contract of a function with an empty body.
 
-ghost use Rattle.fond_tool.specs.Laws.{CorrectAreAccepted, HopelessTasksAreRefused, MigratedAreAccepted, PlannedAreAccepted, SmallTasksAreDecided, SolutionsNeverStick};
+ghost use Rattle.fond_tool.specs.Laws.{CorrectAreAccepted, DemosAreAccepted, HopelessTasksAreRefused, MigratedAreAccepted, PlannedAreAccepted, SmallTasksAreDecided, SolutionsNeverStick};
 
 /// `check` accepts the text of each correct certificate of the task that its files describe.
 pub fn correct_are_accepted()
@@ -31,4 +31,9 @@ pub fn migrated_are_accepted()
 /// `run` never prints `stuck` for rules that are a solution. Those of a policy that `check` accepts are one.
 pub fn solutions_never_stick()
     ensures { SolutionsNeverStick }
+{}
+
+/// `check` accepts each certificate that `demo` prints for its task, as lean.
+pub fn demos_are_accepted()
+    ensures { DemosAreAccepted }
 {}

@@ -6,14 +6,17 @@
 mod answer;
 mod check;
 mod commands;
+mod demo;
 mod fetch;
 pub mod laws;
 mod migrate;
 mod plan;
 mod rejection;
 mod run;
+mod simulate;
 pub mod status;
 mod succ;
 mod task_files;
 pub mod tool;
+mod traced;
 mod words;

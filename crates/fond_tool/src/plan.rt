@@ -70,7 +70,7 @@ fn decision_answer(alloc: Global, game: &Task, budget: u32) -> Result<Answer, No
 }
 
 /// The answer to a budget in a task.
-fn planned(alloc: Global, files: &TaskFiles, budget: u32) -> Result<Answer, NoMemory>
+pub(crate) fn planned(alloc: Global, files: &TaskFiles, budget: u32) -> Result<Answer, NoMemory>
     requires few { budget ≤ 1000000 }
     requires ground { IsGroundOf files.now.task.value files.now.game.value }
     ensures { IfOk result (AnswersPlan files.now.task.value files.now.game.value budget) }

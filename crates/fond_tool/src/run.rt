@@ -1,57 +1,39 @@
 //! The command `run`: the trace of a policy over recorded outcomes.
 
-ghost use Rattle.fond_exec.specs.Traces.{Trace};
+ghost use Rattle.fond_exec.specs.Traces.{as_recorded};
 ghost use Rattle.fond_rules.specs.Belongs.{BelongTo};
 ghost use Rattle.fond_tool.specs.Rejections.{Rejects};
-ghost use Rattle.fond_tool.specs.GroundRuns.{ground_reply};
+ghost use Rattle.fond_tool.specs.GroundRuns.{IsTraceReply};
 ghost use Rattle.fond_ground.specs.Grounds.{IsGroundOf};
-ghost use Rattle.fond_tool.specs.Certified.{rules_of as all_rules_of};
 ghost use Rattle.fond_tool.specs.Runs.{AnswersRun, RunReply};
-ghost use Rattle.std.specs.Prelude.{◌≡◌, ℕ, Bool, List, IfOk, IfErr};
+ghost use Rattle.std.specs.Prelude.{IfOk, IfErr};
 
 use crate::answer::Answer;
 use crate::rejection::Rejection;
-use crate::status::Status;
 use crate::task_files::{TaskFiles, read_files};
+use crate::traced::{rules_of, trace_answer};
 use fond_cert::read::read_cert;
 use fond_exec::script::read_script;
 use fond_exec::trace::trace;
 use fond_front::texts::TaskTexts;
-use fond_policy::cert::Cert;
 use fond_rules::rules::Rules;
 use fond_task::task::Task;
 use fond_text::fault::NoMemory;
 use std::alloc::Global;
 
 /// The trace of rules over the numbers of a script, with the last state.
-fn trace_answer(
+fn script_answer(
     alloc: Global,
     task: &Task,
     rules: &Rules,
     numbers: &[u32],
 ) -> Result<Answer, NoMemory>
     requires { BelongTo task.now rules.now }
-    ensures { IfOk result (λ answer. (lines : List ℕ) × (last : List Bool) × Trace task.now rules.now task.now.init numbers.now lines last × (answer ≡ ground_reply task.now lines last)) }
+    ensures { IfOk result (IsTraceReply as_recorded task.now rules.now numbers.now) }
 {
     let mut text = Vec::new(alloc);
     let is_goal = trace(alloc, task, rules, numbers, &mut text)?;
-    let status = if is_goal {
-        Status::Done
-    } else {
-        Status::Stopped
-    };
-    Ok(Answer::new(text, status))
-}
-
-/// The rules of a certificate. A refusal has none.
-fn rules_of(alloc: Global, cert: Cert) -> Rules
-    ensures { result ≡ all_rules_of cert }
-{
-    match cert {
-        Cert::Policy { rules, .. } => rules,
-        Cert::Refusal { .. } => Rules::new(alloc),
-        Cert::Covered { rules, .. } => rules,
-    }
+    Ok(trace_answer(text, is_goal))
 }
 
 /// The trace of the certificate's rules over the script in a task, or why there is none.
@@ -69,7 +51,7 @@ fn certified_trace(
     let cert = read_cert(alloc, game, cert)?;
     let numbers = read_script(alloc, script)?;
     let rules = rules_of(alloc, cert);
-    Ok(trace_answer(alloc, game, &rules, &numbers)?)
+    Ok(script_answer(alloc, game, &rules, &numbers)?)
 }
 
 /// The answer to `run`: the trace of the certificate's rules over the script, or why there is none.

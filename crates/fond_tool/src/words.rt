@@ -1,10 +1,10 @@
 //! The words of a command line, by their table.
 
-ghost use Rattle.fond_tool.specs.Budgets.{IsBudget};
+ghost use Rattle.fond_tool.specs.Budgets.{IsBudget, IsSeed, IsSize, WritesUpTo};
 ghost use Rattle.fond_tool.specs.Ends.{FitsNone};
 ghost use Rattle.fond_tool.specs.Words.{word_of, kinds_of, file_count, IsOfKind, Fits};
 ghost use Rattle.std.specs.List.{AllZip};
-ghost use Rattle.std.specs.Prelude.{◌≡◌, ◌≢◌, ℕ, Decides, IfOk, MatchOption};
+ghost use Rattle.std.specs.Prelude.{◌≡◌, ◌≢◌, ◌<◌, ℕ, Decides, IfOk, MatchOption};
 
 use fond_succ::action::read_action;
 use fond_text::fault::NoMemory;
@@ -20,6 +20,8 @@ pub enum Command {
     Check,
     Plan,
     Migrate,
+    Simulate,
+    Demo,
 }
 
 /// What a word after a command's own has to be.
@@ -29,8 +31,12 @@ pub enum WordKind {
     File,
     /// An action: a node of leaves.
     Action,
-    /// A budget: a number from 1 to 1,000,000.
+    /// A budget, or a number of steps: a number from 1 to 1,000,000.
     Budget,
+    /// A seed: a number below 2^64.
+    Seed,
+    /// A size: a number from 1 to 100.
+    Size,
 }
 
 /// The kinds of the words of `succ`.
@@ -61,6 +67,19 @@ const PLAN: [WordKind; 4] = [
     WordKind::Budget,
 ];
 
+/// The kinds of the words of `simulate`.
+const SIMULATE: [WordKind; 6] = [
+    WordKind::File,
+    WordKind::File,
+    WordKind::File,
+    WordKind::File,
+    WordKind::Seed,
+    WordKind::Budget,
+];
+
+/// The kinds of the words of `demo`.
+const DEMO: [WordKind; 1] = [WordKind::Size];
+
 impl Command {
     /// The command of a word.
     fn of_word(word: &Word) -> Option<Command>
@@ -72,6 +91,8 @@ impl Command {
             b"check" => Some(Command::Check),
             b"plan" => Some(Command::Plan),
             b"migrate" => Some(Command::Migrate),
+            b"simulate" => Some(Command::Simulate),
+            b"demo" => Some(Command::Demo),
             _ => None,
         }
     }
@@ -86,6 +107,8 @@ impl Command {
             Command::Check => &CHECK,
             Command::Plan => &PLAN,
             Command::Migrate => &CHECK,
+            Command::Simulate => &SIMULATE,
+            Command::Demo => &DEMO,
         }
     }
 
@@ -99,6 +122,8 @@ impl Command {
             Command::Check => 4,
             Command::Plan => 3,
             Command::Migrate => 4,
+            Command::Simulate => 4,
+            Command::Demo => 0,
         }
     }
 }
@@ -110,18 +135,40 @@ pub struct Given<'a> {
     pub words: &'a [Word],
 }
 
-/// The budget that a word writes, if it is one.
-pub fn read_budget(word: &Word) -> Option<u32>
-    ensures { MatchOption result ((budget : ℕ) → ¬ IsBudget word.now budget) (IsBudget word.now) }
+/// The number from 1 to a bound that a word writes, if it is one.
+fn read_up_to(word: &Word, most: u64) -> Option<u32>
+    requires { most < 4294967296 }
+    ensures { MatchOption result ((number : ℕ) → ¬ WritesUpTo most word.now number) (WritesUpTo most word.now) }
 {
     let number = read_number(word.bytes())?;
     if number == 0 {
         return None;
     }
-    if number > 1_000_000 {
+    if number > most {
         return None;
     }
     Some(number as u32)
+}
+
+/// The budget or the number of steps that a word writes, if it is one.
+pub fn read_budget(word: &Word) -> Option<u32>
+    ensures { MatchOption result ((budget : ℕ) → ¬ IsBudget word.now budget) (IsBudget word.now) }
+{
+    read_up_to(word, 1_000_000)
+}
+
+/// The size that a word writes, if it is one.
+pub fn read_size(word: &Word) -> Option<u32>
+    ensures { MatchOption result ((size : ℕ) → ¬ IsSize word.now size) (IsSize word.now) }
+{
+    read_up_to(word, 100)
+}
+
+/// The seed that a word writes, if it is one.
+pub fn read_seed(word: &Word) -> Option<u64>
+    ensures { MatchOption result ((seed : ℕ) → ¬ IsSeed word.now seed) (IsSeed word.now) }
+{
+    read_number(word.bytes())
 }
 
 /// Whether a word is of a kind.
@@ -132,6 +179,8 @@ fn is_of_kind(alloc: Global, kind: WordKind, word: &Word) -> Result<bool, NoMemo
         WordKind::File => Ok(!word.bytes().is_empty()),
         WordKind::Action => Ok(read_action(alloc, word)?.is_some()),
         WordKind::Budget => Ok(read_budget(word).is_some()),
+        WordKind::Seed => Ok(read_seed(word).is_some()),
+        WordKind::Size => Ok(read_size(word).is_some()),
     }
 }
 

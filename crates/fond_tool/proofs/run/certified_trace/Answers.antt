@@ -23,11 +23,11 @@ returns-in_err-numbers-clause-rejected c =
     rejected_by _ (of_script error) (AnswersRun task game c.args.cert.now c.args.script.now) c.from_residual-in_err-numbers.ensures.1
     (script_rejected task game c.requires c.args.cert.now c.args.script.now c.in_ok-cert.cert (rw c.deref-game.ensures at c.in_ok-cert.ensures.belongs, c.in_ok-cert.ensures.small, rw c.deref-game.ensures at c.in_ok-cert.ensures.read) error c.in_err-numbers.ensures.refused)
 
-pub trace_answer-requires : goal.trace_answer-requires
-trace_answer-requires c = subst (BelongTo c.deref-game.result.now) (sym c.rules_of-rules.ensures) (rules_belong c.deref-game.result.now c.in_ok-cert.cert c.in_ok-cert.ensures.belongs)
+pub script_answer-requires : goal.script_answer-requires
+script_answer-requires c = subst (BelongTo c.deref-game.result.now) (sym c.rules_of-rules.ensures) (rules_belong c.deref-game.result.now c.in_ok-cert.cert c.in_ok-cert.ensures.belongs)
 
 pub returns-clause-replied : goal.returns-clause-replied
 returns-clause-replied c =
     let numbers = c.in_ok-numbers.numbers.items in
     traced c.args.files.now.task.value c.args.files.now.game.value c.requires c.args.cert.now c.args.script.now c.in_ok-cert.cert (rw c.deref-game.ensures at c.in_ok-cert.ensures.belongs, c.in_ok-cert.ensures.small, rw c.deref-game.ensures at c.in_ok-cert.ensures.read)
-    numbers c.in_ok-trace_answer.field-0 c.in_ok-numbers.ensures.read (rw (c.deref.ensures.value, c.rules_of-rules.ensures, c.deref-game.ensures) at c.in_ok-trace_answer.ensures)
+    numbers c.in_ok-script_answer.field-0 c.in_ok-numbers.ensures.read (rw (c.deref.ensures.value, c.rules_of-rules.ensures, c.deref-game.ensures) at c.in_ok-script_answer.ensures)

@@ -6,7 +6,7 @@ use Rattle.fond_task.specs.declared.task.Act.{Act}
 use Rattle.fond_task.specs.Texts.{action_text}
 use Rattle.fond_text.proofs.Grown.{grew_more}
 use Rattle.fond_exec.proofs.Grown.{grew_none, grew_same, text_more}
-use Rattle.fond_exec.proofs.trace.put_taken.Goals as goal
+use Rattle.fond_exec.proofs.lines.put_taken.Goals as goal
 
 pub returns-in_err-extend_from_slice-clause-grew : goal.returns-in_err-extend_from_slice-clause-grew
 returns-in_err-extend_from_slice-clause-grew c = grew_none _ _ c.in_err-extend_from_slice.ensures.items

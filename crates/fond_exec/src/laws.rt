@@ -1,0 +1,14 @@
+//! The laws of lucky steps.
+
+ghost use Rattle.fond_exec.specs.Lucky.{LuckyStepsDescend, LuckyStepsEnd};
+
+/// A lucky step by sure rules leads to a goal, or to a state in which an earlier rule is the first that holds. A step is lucky
+/// if an opponent picks the outcome, or if it is the one that the rule names.
+pub fn lucky_steps_descend()
+    ensures { LuckyStepsDescend }
+{}
+
+/// No more lucky steps come one after the other than there are sure rules, and a trace that begins with so many ends at a goal.
+pub fn lucky_steps_end()
+    ensures { LuckyStepsEnd }
+{}

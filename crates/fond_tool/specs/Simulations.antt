@@ -1,0 +1,27 @@
+-- What `simulate` replies to the texts of its files, to its seed and to its number of steps.
+use Rattle.std.specs.Prelude.{ℕ, List}
+use Rattle.fond_ast.specs.declared.task.LiftedTask.{LiftedTask}
+use Rattle.fond_meaning.specs.States.{State}
+use Rattle.fond_meaning.specs.Solutions.{initial}
+use Rattle.fond_task.specs.declared.task.Task.{Task}
+use Rattle.fond_cert.specs.Faults.{IsCertFault}
+use Rattle.fond_policy.specs.declared.cert.Cert.{Cert}
+use Rattle.fond_exec.specs.Traces.{by_remainder}
+use Rattle.fond_bridge.specs.Traces.{Trace}
+use Rattle.fond_front.specs.declared.texts.TaskTexts.{TaskTexts}
+use Rattle.fond_random.specs.Words.{drawn_words}
+use Rattle.fond_tool.specs.Budgets.{IsBudget, IsSeed}
+use Rattle.fond_tool.specs.Certified.{IsCertText, rules_of, TaskReply}
+use Rattle.fond_tool.specs.Replies.{Reply, cert_reply, trace_reply}
+
+-- what `simulate` replies in a task with this ground task: a rejection of its certificate, or the trace over as many drawn words
+-- as there are steps
+pub data AnswersSimulate (task : LiftedTask) (game : Task) (cert : List ℕ) (seed steps : ℕ) : Reply → Type 0 where
+  bad_cert : (code byte : ℕ) → IsCertFault game cert code byte → AnswersSimulate task game cert seed steps (cert_reply code byte)
+  ran : (read : Cert) (lines : List ℕ) (last : State) → IsCertText game read cert → Trace by_remainder task game (rules_of read) (initial task) (drawn_words seed steps) lines last
+      → AnswersSimulate task game cert seed steps (trace_reply task lines last)
+
+-- what `simulate` replies: a refusal of its files, or the reply in the task that they describe, for the numbers of its words
+abbrev pub SimulateReply : TaskTexts → List ℕ → List ℕ → List ℕ → Reply → Type 0
+SimulateReply texts cert seed_word steps_word reply =
+    (seed : ℕ) × (steps : ℕ) × IsSeed seed_word seed × IsBudget steps_word steps × TaskReply texts (λ task game. AnswersSimulate task game cert seed steps) reply

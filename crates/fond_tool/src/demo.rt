@@ -1,0 +1,83 @@
+//! The command `demo`: a task that is made from a number, and its policy.
+
+ghost use Rattle.fond_ground.specs.Grounds.{IsGroundOf};
+ghost use Rattle.fond_tool.specs.Budgets.{IsSize};
+ghost use Rattle.fond_tool.specs.Demos.{AnswersDemo, demo_text, demo_texts, DemoReply};
+ghost use Rattle.fond_tool.specs.Plans.{AnswersPlan};
+ghost use Rattle.fond_tool.specs.Rejections.{Rejects};
+ghost use Rattle.fond_tool.specs.declared.status.Status.TheVariants.{Done as IsDone};
+ghost use Rattle.std.specs.Prelude.{◌≡◌, ◌≤◌, ◌++◌, ℕ, IfOk, IfErr, OnOk};
+
+use crate::answer::Answer;
+use crate::plan::planned;
+use crate::rejection::Rejection;
+use crate::status::Status;
+use crate::task_files::{TaskFiles, read_files};
+use crate::words::read_size;
+use fond_demo::demo::demo_files;
+use fond_demo::show::put_shown;
+use fond_front::texts::TaskTexts;
+use fond_task::task::Task;
+use fond_text::fault::NoMemory;
+use fond_text::word::Word;
+use std::alloc::Global;
+
+/// The budget of `demo`.
+const BUDGET: u32 = 1_000_000;
+
+/// The texts of the task of this size.
+fn texts_of(alloc: Global, size: u32) -> Result<TaskTexts, NoMemory>
+    requires { size ≤ 100 }
+    ensures { IfOk result (λ texts. texts ≡ demo_texts size) }
+{
+    let files = demo_files(alloc, u64::from(size))?;
+    Ok(TaskTexts {
+        domain: files.domain,
+        problem: files.problem,
+        side: files.side,
+    })
+}
+
+/// Appends a certificate between the lines of `demo`.
+fn put_demo(game: &Task, size: u32, cert: &[u8], out: &mut Vec<u8>) -> Result<(), NoMemory>
+    ensures { OnOk result (out.new.items ≡ out.old.items ++ demo_text size game.now cert.now) }
+{
+    let atoms = game.atoms.len() as u64;
+    let actions = game.acts.len() as u64;
+    put_shown(u64::from(size), atoms, actions, cert, out)
+}
+
+/// The answer of a certificate between the lines of `demo`.
+fn demo_answer(alloc: Global, game: &Task, size: u32, cert: &[u8]) -> Result<Answer, NoMemory>
+    ensures { IfOk result (λ answer. answer ≡ record { text = demo_text size game.now cert.now; status = IsDone }) }
+{
+    let mut text = Vec::new(alloc);
+    put_demo(game, size, cert, &mut text)?;
+    Ok(Answer::new(text, Status::Done))
+}
+
+/// The answer in the task of this size: its policy between the lines of `demo`, or what else `plan` answers.
+fn demonstrated(alloc: Global, files: &TaskFiles, size: u32) -> Result<Answer, NoMemory>
+    requires { IsGroundOf files.now.task.value files.now.game.value }
+    ensures { IfOk result (AnswersDemo size files.now.task.value files.now.game.value) }
+{
+    let planned = planned(alloc, files, BUDGET)?;
+    match planned.status() {
+        Status::Done => demo_answer(alloc, &files.game, size, planned.text()),
+        _ => Ok(planned),
+    }
+}
+
+/// The answer to `demo`.
+pub fn demo(alloc: Global, size: &Word) -> Result<Answer, Rejection>
+    requires { (n : ℕ) × IsSize size.now n }
+    ensures replied { IfOk result (DemoReply size.now) }
+    ensures rejected { IfErr result (Rejects (DemoReply size.now)) }
+{
+    let Some(number) = read_size(size) else {
+        unreachable!()
+    };
+    let texts = texts_of(alloc, number)?;
+    let files = read_files(alloc, &texts)?;
+    Ok(demonstrated(alloc, &files, number)?)
+}
