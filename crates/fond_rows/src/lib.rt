@@ -14,6 +14,8 @@ mod cover_tests;
 #[cfg(test)]
 mod cut_tests;
 #[cfg(test)]
+mod demo_tests;
+#[cfg(test)]
 mod domain_tests;
 #[cfg(test)]
 mod example_tests;
@@ -41,6 +43,8 @@ mod rows;
 mod run_tests;
 #[cfg(test)]
 mod side_tests;
+#[cfg(test)]
+mod simulate_tests;
 #[cfg(test)]
 mod succ_tests;
 #[cfg(test)]
