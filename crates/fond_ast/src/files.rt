@@ -5,7 +5,7 @@ ghost use Rattle.fond_text.specs.declared.code.TheConstants.{LONGEST_TEXT};
 ghost use Rattle.std.specs.List.{list_all};
 ghost use Rattle.std.specs.Prelude.{◌≤◌, IsTrue, length};
 
-use crate::names::{Kinds, ReadAtom, TypedNames};
+use crate::names::{Kind, Kinds, ReadAtom, Terms, TypedNames};
 use crate::syntax::{Cond, Effect};
 use fond_text::list::List;
 use fond_text::name::Name;
@@ -78,8 +78,21 @@ pub struct Problem {
     pub ghost few_variables: { condition_variables goal ≤ LONGEST_TEXT },
 }
 
-/// A side list: its leaves, which should be the names of the unfair schemas.
+/// A pattern of unfair actions, at the place of its node: the name of a schema, and terms that stand for its parameters.
+#[derive(Drop)]
+pub struct Pattern {
+    pub place: Place,
+    pub schema: Kind,
+    pub terms: Terms,
+}
+
+/// Patterns, in order.
+pub type Patterns = List<Pattern>;
+
+/// A side list: its leaves outside parentheses, which should be the names of unfair schemas, and its patterns, each in
+/// the order of the text.
 #[derive(Drop)]
 pub struct Side {
     pub names: Kinds,
+    pub patterns: Patterns,
 }

@@ -14,6 +14,13 @@ pub enum LTerm {
 /// The terms of an atom, in order.
 pub type LTerms = List<LTerm>;
 
+/// A pattern of ground actions: a term for each object. Equal variables have the same number, and different ones
+/// different numbers.
+pub type LPattern = List<LTerm>;
+
+/// The patterns of a schema, in order.
+pub type LPatterns = List<LPattern>;
+
 /// An atom by the numbers of its predicate and its terms.
 #[derive(Drop)]
 pub struct LAtom {

@@ -4,7 +4,7 @@ use fond_text::list::List;
 use fond_text::name::Name;
 use fond_text::place::Place;
 
-/// A leaf that names a type, or a leaf of a side list.
+/// A leaf that names a type, or a leaf of a side list that should name a schema.
 #[derive(Drop)]
 pub struct Kind {
     pub place: Place,
@@ -25,7 +25,7 @@ pub struct TypedName {
 /// Declared names or variables, in order.
 pub type TypedNames = List<TypedName>;
 
-/// A name or a variable in an atom.
+/// A name or a variable in an atom or a pattern.
 #[derive(Drop)]
 pub struct Term {
     pub place: Place,
@@ -33,7 +33,7 @@ pub struct Term {
     pub variable: bool,
 }
 
-/// The terms of an atom, in order.
+/// The terms of an atom or a pattern, in order.
 pub type Terms = List<Term>;
 
 /// An atom: the place of its node, the place and the name of its head, and its terms.

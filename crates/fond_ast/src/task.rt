@@ -5,7 +5,7 @@ ghost use Rattle.fond_text.specs.Lists.{are_distinct_texts};
 ghost use Rattle.std.specs.List.{list_all};
 ghost use Rattle.std.specs.Prelude.{◌<◌, ◌^◌, [], IsTrue, length, map};
 
-use crate::form::{LCond, LEffect, Ranges};
+use crate::form::{LCond, LEffect, LPatterns, Ranges};
 use fond_text::atom::Atoms;
 use fond_text::list::List;
 use fond_text::name::{Name, Names};
@@ -22,7 +22,8 @@ pub struct LPredicate {
 /// Predicates, in the order of their first declarations.
 pub type LPredicates = List<LPredicate>;
 
-/// An action schema at the place of its name, with the ranges of its parameters. It is unfair if the side list names it.
+/// An action schema at the place of its name, with the ranges of its parameters. It is unfair if a leaf of the side list
+/// outside parentheses names it; the patterns of the side list that name it say which of its actions are unfair otherwise.
 #[derive(Drop)]
 pub struct LSchema {
     pub place: Place,
@@ -31,6 +32,7 @@ pub struct LSchema {
     pub pre: LCond,
     pub effect: LEffect,
     pub unfair: bool,
+    pub patterns: LPatterns,
 }
 
 /// Action schemas, in the order of their declarations.

@@ -8,6 +8,7 @@ use Rattle.fond_ast.specs.declared.task.LiftedTask.{LiftedTask}
 use Rattle.fond_meaning.specs.Conditions.{IsTuple, Holds}
 use Rattle.fond_meaning.specs.Outcomes.{outcomes, state_after}
 use Rattle.fond_meaning.specs.Solutions as lifted
+use Rattle.fond_meaning.specs.Patterns.{IsUnfairWith}
 use Rattle.fond_meaning.specs.States.{State}
 use Rattle.fond_meaning.proofs.Come.{outcomes-come-next}
 use Rattle.fond_meaning.proofs.Members.{Member, Member-from_Contains, Contains-from_Member}
@@ -132,10 +133,10 @@ module _ (task : LiftedTask) (game : Task) (is : IsGroundOf task game) where
   unfair_alike number action one = (
     λ unfair.
         let same : unfair.act ≡ one.act = same_Some _ _ (sym unfair.numbered ∙ one.numbered) in
-        record { schema = one.is.schema; numbered = one.is.numbered; named = sym one.is.unfair ∙ ap (λ (act : Act). act.unfair) (sym same) ∙ unfair.flagged },
+        record { schema = one.is.schema; numbered = one.is.numbered; unfair = one.is.unfair.0 (ap (λ (act : Act). act.unfair) (sym same) ∙ unfair.flagged) },
     λ unfair.
         let same : unfair.schema ≡ one.is.schema = same_Some _ _ (sym unfair.numbered ∙ one.is.numbered) in
-        record { act = one.act; numbered = one.numbered; flagged = one.is.unfair ∙ ap (λ (schema : LSchema). schema.unfair) (sym same) ∙ unfair.named },
+        record { act = one.act; numbered = one.numbered; flagged = one.is.unfair.1 (subst (λ (schema : LSchema). IsUnfairWith schema action.objects) same unfair.unfair) },
   )
 
   -- the ground task plays the game of the task

@@ -1,3 +1,1 @@
-mod SideFaults
-mod SideMarks
 pub mod Tasks

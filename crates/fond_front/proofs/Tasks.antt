@@ -11,7 +11,7 @@ use Rattle.fond_ast.specs.declared.task.LiftedTask.{LiftedTask}
 use Rattle.fond_tree.proofs.OneFault.{one_fault_lem}
 use Rattle.fond_tree.proofs.NoTree.{no_tree_has_a_fault_lem}
 use Rattle.fond_tree.specs.declared.tree.Tree.{Tree}
-use Rattle.fond_tree.specs.Faults.{IsTextFault, IsFaultOf}
+use Rattle.fond_tree.specs.Faults.{Shape, OneTree, Forest, IsTextFault, IsFaultOf, IsForestFaultOf}
 use Rattle.fond_tree.specs.Spelling.{IsReadAs}
 use Rattle.fond_grammar.specs.Faults.{StandsInDomain, StandsInProblem}
 use Rattle.fond_names.specs.Faults.{StandsInNames}
@@ -19,14 +19,14 @@ use Rattle.fond_names.specs.Names.{Declarations}
 use Rattle.fond_types.specs.Resolves.{IsResolved}
 use Rattle.fond_front.specs.declared.parse.Trees.{Trees}
 use Rattle.fond_front.specs.declared.texts.TaskTexts.{TaskTexts}
-use Rattle.fond_front.specs.Sides.{IsSideTreeFault}
+use Rattle.fond_reader.specs.Sides.{StandsInSide}
 use Rattle.fond_front.specs.Tasks.{OccursInTexts, OccursInTrees, AreTreesOf, AreFilesOf, IsTaskOf, IsFirstFault}
 
 -- no fault of form occurs in files, if none occurs in each
-pub forms_clean : (texts : TaskTexts) (trees : Trees) → IsClean (StandsInDomain trees.domain) → IsClean (StandsInProblem trees.problem) → IsClean (IsSideTreeFault texts.side) → AreClean (OccursInTrees texts trees)
-forms_clean texts trees domain problem side Domain = domain
-forms_clean texts trees domain problem side Problem = problem
-forms_clean texts trees domain problem side Side = side
+pub forms_clean : (trees : Trees) → IsClean (StandsInDomain trees.domain) → IsClean (StandsInProblem trees.problem) → IsClean (StandsInSide trees.side.items) → AreClean (OccursInTrees trees)
+forms_clean trees domain problem side Domain = domain
+forms_clean trees domain problem side Problem = problem
+forms_clean trees domain problem side Side = side
 
 -- an error that a call hands on refuses as it did
 pub handed_on : {T : Type 0} (result : Result T FrontError) (error : FrontError) (holds : Fault → Type 0) → IsErrAnd result (λ e. e ≡ error) → Refuses holds error → IfErr result (Refuses holds)
@@ -38,20 +38,27 @@ pub refuses_also : (P Q : Fault → Type 0) → ((fault : Fault) → P fault →
 refuses_also P Q gives (Refused fault) h = gives fault h
 refuses_also P Q gives NoMemory h = tt
 
+-- a fault of a text is its least one, since it is its only one
+only_fault : (shape : Shape) (text : List ℕ) (fault : Fault) → IsTextFault shape text fault.place fault.code → (place : Place) (code : ℕ) → IsTextFault shape text place code →
+    IsNoLater fault.place fault.code place code
+only_fault shape text fault there place code also =
+    let same = one_fault_lem shape text fault.place place fault.code code there also in
+    let coded = same.1 in
+    let low : fault.code ≤ code = omega (arith, coded) in
+    inr (same.0, low)
+
 -- the fault with which the text of a tree is refused is its least one
-pub text_least : (file : FileKind) (text : List ℕ) (error : FrontError) → Refuses (IsFaultOf file text) error → Refuses (IsLeastIn file (IsTextFault text)) error
-text_least file text (Refused fault) h = (h.0, (h.1, λ place code also. only place code also))
-  where
-    only : (place : Place) (code : ℕ) → IsTextFault text place code → IsNoLater fault.place fault.code place code
-    only place code also =
-        let same = one_fault_lem text fault.place place fault.code code h.1 also in
-        let coded = same.1 in
-        let low : fault.code ≤ code = omega (arith, coded) in
-        inr (same.0, low)
+pub text_least : (file : FileKind) (text : List ℕ) (error : FrontError) → Refuses (IsFaultOf file text) error → Refuses (IsLeastIn file (IsTextFault OneTree text)) error
+text_least file text (Refused fault) h = (h.0, (h.1, only_fault OneTree text fault h.1))
 text_least file text NoMemory h = tt
 
+-- the fault with which the text of a forest is refused is its least one
+pub forest_least : (file : FileKind) (text : List ℕ) (error : FrontError) → Refuses (IsForestFaultOf file text) error → Refuses (IsLeastIn file (IsTextFault Forest text)) error
+forest_least file text (Refused fault) h = (h.0, (h.1, only_fault Forest text fault h.1))
+forest_least file text NoMemory h = tt
+
 -- a text that is read as a tree has no fault
-pub text_clean : (text : List ℕ) (tree : Tree) → IsReadAs text tree → IsClean (IsTextFault text)
+pub text_clean : (text : List ℕ) (tree : Tree) → IsReadAs text tree → IsClean (IsTextFault OneTree text)
 text_clean text tree read = λ place code fault. no_tree_has_a_fault_lem text tree place code read fault
 
 module _ (occurs : FileKind → Place → ℕ → Type 0) (fault : Fault) where
@@ -99,7 +106,7 @@ module _ (texts : TaskTexts) where
   pub text_fault : (error : FrontError) → Refuses (IsFirstAmong (OccursInTexts texts)) error → Refuses (IsFirstFault texts) error
   text_fault = refuses_also _ (IsFirstFault texts) (λ fault first. inl first)
 
-  pub form_fault : (trees : Trees) → AreTreesOf texts trees → (error : FrontError) → Refuses (IsFirstAmong (OccursInTrees texts trees)) error → Refuses (IsFirstFault texts) error
+  pub form_fault : (trees : Trees) → AreTreesOf texts trees → (error : FrontError) → Refuses (IsFirstAmong (OccursInTrees trees)) error → Refuses (IsFirstFault texts) error
   form_fault trees are = refuses_also _ (IsFirstFault texts) (λ fault first. inr (inl (trees, are, first)))
 
   pub names_fault : (files : Declarations) → AreFilesOf texts files → (error : FrontError) → Refuses (IsFirstAmong (StandsInNames files)) error → Refuses (IsFirstFault texts) error

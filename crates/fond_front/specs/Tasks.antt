@@ -4,50 +4,50 @@ use Rattle.fond_text.specs.declared.fault.Fault.{Fault}
 use Rattle.fond_text.specs.declared.place.FileKind.{FileKind}
 use Rattle.fond_text.specs.declared.place.FileKind.TheVariants.{Domain, Problem, Side}
 use Rattle.fond_text.specs.declared.place.Place.{Place}
-use Rattle.fond_text.specs.Faults.{IsClean, AreClean, IsFirstAmong}
+use Rattle.fond_text.specs.Faults.{AreClean, IsFirstAmong}
 use Rattle.fond_ast.specs.declared.task.LiftedTask.{LiftedTask}
-use Rattle.fond_tree.specs.Faults.{IsTextFault}
-use Rattle.fond_tree.specs.Spelling.{IsReadAs}
+use Rattle.fond_tree.specs.Faults.{OneTree, Forest, IsTextFault}
+use Rattle.fond_tree.specs.Spelling.{IsReadAs, IsReadAsForest}
 use Rattle.fond_grammar.specs.Faults.{StandsInDomain, StandsInProblem}
 use Rattle.fond_reader.specs.Files.{IsDomainOf, IsProblemOf}
+use Rattle.fond_reader.specs.Sides.{IsSideOf, StandsInSide}
 use Rattle.fond_names.specs.Faults.{StandsInNames}
 use Rattle.fond_names.specs.Names.{Declarations}
 use Rattle.fond_types.specs.Resolves.{IsResolved}
 use Rattle.fond_front.specs.declared.declare.Files.{Files}
 use Rattle.fond_front.specs.declared.parse.Trees.{Trees}
 use Rattle.fond_front.specs.declared.texts.TaskTexts.{TaskTexts}
-use Rattle.fond_front.specs.Sides.{IsSideOf, IsSideTextFault, IsSideTreeFault}
 
 -- a fault of its text occurs in a file: one of F1 to F6
 abbrev pub OccursInTexts : TaskTexts → FileKind → Place → ℕ → Type 0
-OccursInTexts texts Domain = IsTextFault texts.domain
-OccursInTexts texts Problem = IsTextFault texts.problem
-OccursInTexts texts Side = IsSideTextFault texts.side
+OccursInTexts texts Domain = IsTextFault OneTree texts.domain
+OccursInTexts texts Problem = IsTextFault OneTree texts.problem
+OccursInTexts texts Side = IsTextFault Forest texts.side
 
--- a domain and a problem are read as trees, and a side list is not too long and has no stray byte
+-- a domain and a problem are each read as a tree, and a side list as a forest
 pub record AreTreesOf (texts : TaskTexts) (trees : Trees) : Type 0 where
   pub domain : IsReadAs texts.domain trees.domain
   pub problem : IsReadAs texts.problem trees.problem
-  pub side : IsClean (IsSideTextFault texts.side)
+  pub side : IsReadAsForest texts.side trees.side.items
 
 -- a fault of its form occurs in a file: one of F7 to F12
-abbrev pub OccursInTrees : TaskTexts → Trees → FileKind → Place → ℕ → Type 0
-OccursInTrees texts trees Domain = StandsInDomain trees.domain
-OccursInTrees texts trees Problem = StandsInProblem trees.problem
-OccursInTrees texts trees Side = IsSideTreeFault texts.side
+abbrev pub OccursInTrees : Trees → FileKind → Place → ℕ → Type 0
+OccursInTrees trees Domain = StandsInDomain trees.domain
+OccursInTrees trees Problem = StandsInProblem trees.problem
+OccursInTrees trees Side = StandsInSide trees.side.items
 
 -- the declarations of three files, as names are resolved in them
 abbrev pub declarations_of : Files → Declarations
 declarations_of files = record { domain = files.domain; problem = files.problem; side = files.side }
 
--- three texts are read as declarations, by way of the trees of the domain and the problem, in which no fault of form occurs
+-- three texts are read as declarations, by way of their trees, in which no fault of form occurs
 pub record AreFilesOf (texts : TaskTexts) (files : Declarations) : Type 0 where
   pub trees : Trees
   pub read : AreTreesOf texts trees
-  pub clean : AreClean (OccursInTrees texts trees)
+  pub clean : AreClean (OccursInTrees trees)
   pub domain : IsDomainOf trees.domain files.domain
   pub problem : IsProblemOf trees.problem files.problem
-  pub side : IsSideOf texts.side files.side
+  pub side : IsSideOf trees.side.items files.side
 
 -- three texts are read as a task: they are read as declarations that have no fault of names, and these as the task
 pub record IsTaskOf (texts : TaskTexts) (task : LiftedTask) : Type 0 where
@@ -61,5 +61,5 @@ pub record IsTaskOf (texts : TaskTexts) (task : LiftedTask) : Type 0 where
 abbrev pub IsFirstFault : TaskTexts → Fault → Type 0
 IsFirstFault texts fault =
     IsFirstAmong (OccursInTexts texts) fault
-    ⊎ ((trees : Trees) × AreTreesOf texts trees × IsFirstAmong (OccursInTrees texts trees) fault)
+    ⊎ ((trees : Trees) × AreTreesOf texts trees × IsFirstAmong (OccursInTrees trees) fault)
     ⊎ ((files : Declarations) × AreFilesOf texts files × IsFirstAmong (StandsInNames files) fault)

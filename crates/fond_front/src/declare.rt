@@ -1,15 +1,15 @@
-//! The second phase of reading: trees and leaves become declarations.
+//! The second phase of reading: trees become declarations.
 
 ghost use Rattle.fond_front.specs.Tasks.{AreTreesOf, AreFilesOf, OccursInTrees, declarations_of};
 ghost use Rattle.fond_text.specs.Faults.{IsFirstAmong, Refuses};
 ghost use Rattle.std.specs.Prelude.{IfOk, IfErr};
 
 use crate::parse::Trees;
-use crate::side::read_leaves;
 use crate::texts::TaskTexts;
 use fond_ast::files::{Domain, Problem, Side};
 use fond_reader::domain::read_domain;
 use fond_reader::problem::read_problem;
+use fond_reader::side::read_side_list;
 use fond_text::fault::FrontError;
 use std::alloc::Global;
 
@@ -21,15 +21,15 @@ pub struct Files {
     pub side: Side,
 }
 
-/// The declarations that the trees and the leaves are read as, or the first fault of form.
+/// The declarations that trees are read as, or the first fault of form.
 fn files_of(alloc: Global, texts: &TaskTexts, trees: &Trees) -> Result<Files, FrontError>
     requires { AreTreesOf texts.now trees.now }
     ensures read { IfOk result (λ files. AreFilesOf texts.now (declarations_of files)) }
-    ensures refused { IfErr result (Refuses (IsFirstAmong (OccursInTrees texts.now trees.now))) }
+    ensures refused { IfErr result (Refuses (IsFirstAmong (OccursInTrees trees.now))) }
 {
     let domain = read_domain(alloc, &trees.domain)?;
     let problem = read_problem(alloc, &trees.problem)?;
-    let side = read_leaves(alloc, texts.side.as_slice())?;
+    let side = read_side_list(alloc, trees.side.as_slice())?;
     Ok(Files {
         domain,
         problem,
@@ -37,12 +37,12 @@ fn files_of(alloc: Global, texts: &TaskTexts, trees: &Trees) -> Result<Files, Fr
     })
 }
 
-/// The declarations that the trees and the leaves are read as, or the first fault of form. The trees are dropped, so that
+/// The declarations that trees are read as, or the first fault of form. The trees are dropped, so that
 /// they take no memory while names are resolved.
 pub fn declare(alloc: Global, texts: &TaskTexts, trees: Trees) -> Result<Files, FrontError>
     requires { AreTreesOf texts.now trees }
     ensures read { IfOk result (λ files. AreFilesOf texts.now (declarations_of files)) }
-    ensures refused { IfErr result (Refuses (IsFirstAmong (OccursInTrees texts.now trees))) }
+    ensures refused { IfErr result (Refuses (IsFirstAmong (OccursInTrees trees))) }
 {
     files_of(alloc, texts, &trees)
 }

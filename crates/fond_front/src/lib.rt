@@ -5,6 +5,5 @@
 
 mod declare;
 mod parse;
-mod side;
 pub mod task;
 pub mod texts;

@@ -1,22 +1,22 @@
-//! The first phase of reading: the texts of a domain and a problem become trees, and that of a side list is checked.
+//! The first phase of reading: the texts of a domain and a problem become trees, and that of a side list a forest.
 
 ghost use Rattle.fond_front.specs.Tasks.{AreTreesOf, OccursInTexts};
 ghost use Rattle.fond_text.specs.Faults.{IsFirstAmong, Refuses};
 ghost use Rattle.std.specs.Prelude.{IfOk, IfErr};
 
-use crate::side::check_side_text;
 use crate::texts::TaskTexts;
 use fond_text::fault::FrontError;
 use fond_text::place::FileKind;
-use fond_tree::read::read_tree;
-use fond_tree::tree::Tree;
+use fond_tree::read::{read_forest, read_tree};
+use fond_tree::tree::{Forest, Tree};
 use std::alloc::Global;
 
-/// The trees of a domain and of a problem. A side list has no tree.
+/// The trees of a domain and of a problem, and those of a side list.
 #[derive(Drop)]
 pub struct Trees {
     pub domain: Tree,
     pub problem: Tree,
+    pub side: Forest,
 }
 
 /// The trees of three texts, or the first fault of a text.
@@ -26,6 +26,10 @@ pub fn parse(alloc: Global, texts: &TaskTexts) -> Result<Trees, FrontError>
 {
     let domain = read_tree(alloc, FileKind::Domain, texts.domain.as_slice())?;
     let problem = read_tree(alloc, FileKind::Problem, texts.problem.as_slice())?;
-    check_side_text(texts.side.as_slice())?;
-    Ok(Trees { domain, problem })
+    let side = read_forest(alloc, FileKind::Side, texts.side.as_slice())?;
+    Ok(Trees {
+        domain,
+        problem,
+        side,
+    })
 }

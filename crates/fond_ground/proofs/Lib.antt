@@ -8,6 +8,7 @@ pub mod Grounded
 pub mod Zips
 pub mod Kept
 pub mod Actions
+mod Filed
 pub mod Numbered
 pub mod Distincts
 pub mod Named

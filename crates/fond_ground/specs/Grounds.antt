@@ -1,11 +1,13 @@
 -- The ground task of a task.
 use Rattle.std.specs.Prelude.{◌≡◌, Bool, List, [], Option, Some, map, slice_get}
+use Rattle.std.specs.Bool.{Decides}
 use Rattle.std.specs.List.{AllZip, enumerate_from, flat_map}
 use Rattle.std.specs.FinSet as set
 use Rattle.fond_text.specs.declared.atom.GroundAction.{GroundAction}
 use Rattle.fond_ast.specs.declared.task.LSchema.{LSchema}
 use Rattle.fond_ast.specs.declared.task.LiftedTask.{LiftedTask}
 use Rattle.fond_meaning.specs.Outcomes.{Literal, outcomes}
+use Rattle.fond_meaning.specs.Patterns.{IsUnfairWith}
 use Rattle.fond_meaning.specs.Solutions.{initial}
 use Rattle.fond_join.specs.Kept.{kept_args}
 use Rattle.fond_join.specs.Values.{condition_value}
@@ -38,7 +40,7 @@ pub record IsActOf (task : LiftedTask) (action : GroundAction) (act : Act) : Typ
   pub numbered : slice_get task.schemas action.schema ≡ Some schema
   pub named : act.ground ≡ action
   pub pre : StandsFor task action.objects schema.pre act.pre
-  pub unfair : act.unfair ≡ schema.unfair
+  pub unfair : Decides act.unfair (IsUnfairWith schema action.objects)
   pub outcomes : AreOutcomesOf task (outcomes action.objects schema.effect) act.outcomes
 
 -- a ground task stands for a task: it has its fluent atoms, its kept actions in order, its initial state, goal and names

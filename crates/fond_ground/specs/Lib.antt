@@ -7,4 +7,5 @@ pub mod Places
 pub mod Signs
 pub mod Effects
 pub mod Limits
+pub mod Patterns
 pub mod Parts

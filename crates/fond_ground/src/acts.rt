@@ -8,6 +8,7 @@ ghost use Rattle.fond_ground.specs.Faults.{at_domain};
 ghost use Rattle.fond_ground.specs.Grounds.{kept_actions, IsActOf};
 ghost use Rattle.fond_ground.specs.Limits.{has_few, has_few_outcomes, IsFirstMany};
 ghost use Rattle.fond_join.specs.Kept.{kept_args};
+ghost use Rattle.fond_meaning.specs.Patterns.{IsUnfairWith};
 ghost use Rattle.fond_oneof.specs.Outcomes.{outcome_lists, AreOutcomesOf};
 ghost use Rattle.fond_oneof.specs.Within.{has_members, is_effect_over};
 ghost use Rattle.fond_task.specs.Within.{is_act_within, is_entry_within};
@@ -15,11 +16,13 @@ ghost use Rattle.fond_task.specs.declared.task.Act.{Act};
 ghost use Rattle.fond_text.specs.Faults.{Refuses};
 ghost use Rattle.fond_text.specs.Lists.{Somewhere};
 ghost use Rattle.fond_text.specs.declared.code.TheConstants.{MOST_ACTIONS, MOST_OUTCOMES, TOO_MANY_OUTCOMES};
+ghost use Rattle.std.specs.Bool.{Decides};
 ghost use Rattle.std.specs.List.{list_all, AllZip};
 ghost use Rattle.std.specs.Prelude.{◌≡◌, ◌<◌, ◌≤◌, ◌++◌, ℕ, List, true, false, map, length, slice_get, Some, Contains, IfOk, IfErr, OnOk, MatchOption};
 
 use crate::effects::ground_effect;
 use crate::forms::form_of;
+use crate::patterns::{Patterns, is_unfair};
 use crate::table::Table;
 use fond_ast::task::LSchema;
 use fond_join::matching::{ArgsList, matches_within};
@@ -73,16 +76,18 @@ fn outcomes_of(alloc: Global, place: Place, effect: &GroundEffect) -> Result<Out
     }
 }
 
-/// The action of a schema with these objects.
+/// The action of a schema with these objects, which is unfair or not.
 fn act_of(
     alloc: Global,
     table: &Table,
     number: u32,
     schema: &LSchema,
     objects: &Objects,
+    unfair: bool,
 ) -> Result<Act, FrontError>
     requires there { slice_get table.now.facts.task.now.schemas number ≡ Some schema.now }
     requires numbered { is_numbered table.now.facts.task.now objects.now schema.now.effect ≡ true }
+    requires unfair { Decides unfair (IsUnfairWith schema.now objects.now) }
     ensures act { IfOk result (IsActOf table.now.facts.task.now (record { schema = number; objects = objects.now })) }
     ensures within { IfOk result (λ act. is_act_within (length (fluent_atoms table.now.facts.task.now)) act ≡ true) }
     ensures few { IfOk result (λ act. has_few schema.now.effect objects.now ≡ true) }
@@ -98,7 +103,7 @@ fn act_of(
             objects: Objects::of(env),
         },
         pre,
-        unfair: schema.unfair,
+        unfair,
         outcomes,
     })
 }
@@ -121,8 +126,10 @@ fn put_acts(
     ensures few { OnOk result (list_all (has_few schema.now.effect) lists.now ≡ true) }
     ensures many { IfErr result (Refuses (λ fault. (fault ≡ at_domain schema.now.place TOO_MANY_OUTCOMES) × (list_all (has_few schema.now.effect) lists.now ≡ false))) }
 {
+    let patterns = Patterns::of(alloc, &schema.patterns)?;
     for objects in lists.as_slice() {
-        acts.push(act_of(alloc, table, number, schema, objects)?)?;
+        let unfair = is_unfair(alloc, schema, &patterns, objects.as_slice())?;
+        acts.push(act_of(alloc, table, number, schema, objects, unfair)?)?;
     }
     Ok(())
 }

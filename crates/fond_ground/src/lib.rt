@@ -8,5 +8,6 @@ mod effects;
 mod forms;
 pub mod ground;
 mod junction;
+mod patterns;
 mod table;
 mod tuples;

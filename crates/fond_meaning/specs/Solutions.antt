@@ -1,5 +1,5 @@
 -- The game of a task, and what its policies, traps and solutions are.
-use Rattle.std.specs.Prelude.{◌≡◌, ℕ, List, [], true, Some, slice_get}
+use Rattle.std.specs.Prelude.{◌≡◌, ℕ, List, [], Some, slice_get}
 use Rattle.fond_play.specs.Games as games
 use Rattle.fond_play.specs.Games.{Game}
 use Rattle.fond_text.specs.declared.atom.GroundAction.{GroundAction}
@@ -8,6 +8,7 @@ use Rattle.fond_ast.specs.declared.task.LiftedTask.{LiftedTask}
 use Rattle.fond_meaning.specs.States.{State, atoms_of}
 use Rattle.fond_meaning.specs.Conditions.{Holds, IsTuple}
 use Rattle.fond_meaning.specs.Effects.{Change, Gives, after}
+use Rattle.fond_meaning.specs.Patterns.{IsUnfairWith}
 
 -- the initial state has the initial atoms
 abbrev pub initial : LiftedTask → State
@@ -35,11 +36,11 @@ pub record IsNext (task : LiftedTask) (state : State) (action : GroundAction) (n
   pub gives : Gives state action.objects schema.effect change
   pub leads : next ≡ after state change
 
--- an action is unfair if the side list names its schema, and fair otherwise
+-- an action is unfair if the side list names its schema or has a pattern that fits it, and fair otherwise
 pub record IsUnfair (task : LiftedTask) (action : GroundAction) : Type 0 where
   pub schema : LSchema
   pub numbered : slice_get task.schemas action.schema ≡ Some schema
-  pub named : schema.unfair ≡ true
+  pub unfair : IsUnfairWith schema action.objects
 
 -- the game of a task
 abbrev pub game : LiftedTask → Game State GroundAction

@@ -10,6 +10,7 @@ pub mod Lookups
 pub mod Mismatches
 pub mod Missing
 pub mod Order
+pub mod PatternFaults
 pub mod Positions
 pub mod Differs
 pub mod SiteLemmas

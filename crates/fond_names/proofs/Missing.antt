@@ -1,10 +1,10 @@
 -- The first of the items that fail a test, each with its place.
-use Rattle.std.proofs.Common.{◌≡◌, ℕ, ◌+◌, ◌≤◌, Bool, true, false, not, List, [], Option, Some, None, length, take, slice_get, refl, sym, ap, ◌∙◌, Contains}
+use Rattle.std.proofs.Common.{◌≡◌, ℕ, ◌+◌, ◌≤◌, Bool, true, false, not, List, [], ◌++◌, Option, Some, None, length, take, slice_get, refl, sym, ap, ◌∙◌, Contains}
 use Rattle.fond_text.specs.declared.first.Found.{Found}
 use Rattle.fond_text.specs.declared.place.Place.{Place}
 use Rattle.fond_text.specs.Firsts.{IsFirst, IsEarlier}
 use Rattle.fond_text.proofs.Earliest.{first_along}
-use Rattle.fond_names.proofs.Among.{Among, among_none, among_next, among_all, first_if}
+use Rattle.fond_names.proofs.Among.{Among, among_none, among_both, among_next, among_all, first_if}
 
 pub negated : (a b : Bool) → a ≡ not b → b ≡ not a
 negated a true e = sym (ap not e)
@@ -49,3 +49,11 @@ module _ {X : Type 0} (good : X → Bool) (at : X → Place) (number : ℕ) wher
   missing_all xs i first end h =
       first_along (Among Fails xs) (IsMissing xs) (over xs) (back xs) first
       (among_all Fails xs i first end (first_along (IsMissing (take i xs)) (Among Fails (take i xs)) (back (take i xs)) (over (take i xs)) first h))
+
+  -- the first of two lists is the earlier of the first of each
+  pub missing_both : (xs ys : List X) (one other first : Option Found) → IsFirst (IsMissing xs) one → IsFirst (IsMissing ys) other → IsEarlier one other first → IsFirst (IsMissing (xs ++ ys)) first
+  missing_both xs ys one other first p q e =
+      first_along (Among Fails (xs ++ ys)) (IsMissing (xs ++ ys)) (over (xs ++ ys)) (back (xs ++ ys)) first
+      (among_both Fails xs ys one other first
+      (first_along (IsMissing xs) (Among Fails xs) (back xs) (over xs) one p)
+      (first_along (IsMissing ys) (Among Fails ys) (back ys) (over ys) other q) e)

@@ -12,10 +12,12 @@ use Rattle.fond_ast.specs.declared.names.ReadAtom.{ReadAtom}
 use Rattle.fond_ast.specs.declared.names.Term.{Term}
 use Rattle.fond_ast.specs.declared.names.TypedName.{TypedName}
 use Rattle.fond_ast.specs.declared.files.Declared.{Declared}
+use Rattle.fond_ast.specs.declared.files.Domain.{Domain}
+use Rattle.fond_ast.specs.declared.files.Pattern.{Pattern}
 use Rattle.fond_ast.specs.declared.files.Schema.{Schema}
 use Rattle.fond_kinds.specs.Faults.{StandsInKinds}
 use Rattle.fond_kinds.specs.Kinds.{only_kind, is_type, are_types, Fit}
-use Rattle.fond_names.specs.Names.{Declarations, is_among, first_of, all_objects, predicate_of, schema_names}
+use Rattle.fond_names.specs.Names.{Declarations, is_among, first_of, all_objects, predicate_of, schema_of, schema_leaves, schema_names}
 use Rattle.fond_names.specs.Sites.{Scope, Site, AnAtom, AnEquality, AList, variable_of, domain_sites, problem_sites}
 
 -- a type of one of these names is not declared; the fault is at the type
@@ -107,10 +109,25 @@ OccursAmong files sites place code = (site : Site) × Contains sites site × Occ
 abbrev pub HasUnknownParameter : Declarations → Place → ℕ → Type 0
 HasUnknownParameter files place code = (declared : Declared) × Contains files.domain.predicates declared × HasUnknownType files.domain.kinds declared.parameters place code
 
--- a leaf of the side list is not the name of a schema; the fault is at the leaf
+-- a leaf of the side list that should name a schema names none; the fault is at the leaf
 abbrev pub IsUnknownSchema : List (List ℕ) → List Kind → Place → ℕ → Type 0
 IsUnknownSchema names leaves place code =
     (leaf : Kind) × Contains leaves leaf × (is_among names leaf.name ≡ false) × (place ≡ leaf.place) × (code ≡ UNKNOWN_SCHEMA)
+
+-- a pattern of a schema has another number of terms than the schema has parameters; the fault is at the pattern
+abbrev pub HasWrongCount : Domain → Pattern → Place → ℕ → Type 0
+HasWrongCount domain pattern place code =
+    (schema : Schema) × (schema_of domain pattern.schema.name ≡ Some schema) × (length pattern.terms ≢ length schema.parameters) × (place ≡ pattern.place) × (code ≡ WRONG_ARITY)
+
+-- a name among the terms of a pattern is no declared object; the fault is at the name
+abbrev pub HasUnknownObject : Declarations → Pattern → Place → ℕ → Type 0
+HasUnknownObject files pattern place code =
+    (term : Term) × Contains pattern.terms term × (term.variable ≡ false) × (first_of (all_objects files) term.name ≡ None) × (place ≡ term.place) × (code ≡ UNKNOWN_TERM)
+
+-- some pattern of the side list has a fault in its terms
+abbrev pub HasFaultyPattern : Declarations → Place → ℕ → Type 0
+HasFaultyPattern files place code =
+    (pattern : Pattern) × Contains files.side.patterns pattern × (HasWrongCount files.domain pattern place code ⊎ HasUnknownObject files pattern place code)
 
 -- a fault of names occurs in one of the files
 abbrev pub StandsInNames : Declarations → FileKind → Place → ℕ → Type 0
@@ -126,4 +143,4 @@ StandsInNames files kind.Problem place code =
     HasUnknownType files.domain.kinds files.problem.objects place code
     ⊎ IsRepeatedObject files.domain.constants files.problem.objects place code
     ⊎ OccursAmong files (problem_sites files.problem) place code
-StandsInNames files kind.Side place code = IsUnknownSchema (schema_names files.domain) files.side.names place code
+StandsInNames files kind.Side place code = IsUnknownSchema (schema_names files.domain) (schema_leaves files.side) place code ⊎ HasFaultyPattern files place code

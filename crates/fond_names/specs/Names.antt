@@ -5,7 +5,9 @@ use Rattle.std.specs.Str.{bytes_eq}
 use Rattle.fond_ast.specs.declared.files.Declared.{Declared}
 use Rattle.fond_ast.specs.declared.files.Domain.{Domain}
 use Rattle.fond_ast.specs.declared.files.Problem.{Problem}
+use Rattle.fond_ast.specs.declared.files.Schema.{Schema}
 use Rattle.fond_ast.specs.declared.files.Side.{Side}
+use Rattle.fond_ast.specs.declared.names.Kind.{Kind}
 use Rattle.fond_ast.specs.declared.names.TypedName.{TypedName}
 
 -- the declarations of the three files
@@ -49,3 +51,11 @@ predicate_of domain name = find (λ declared. bytes_eq declared.name name) domai
 -- the names of the schemas of a domain
 abbrev pub schema_names : Domain → List (List ℕ)
 schema_names domain = map (λ schema. schema.name) domain.schemas
+
+-- the first schema of a name
+abbrev pub schema_of : Domain → List ℕ → Option Schema
+schema_of domain name = find (λ schema. bytes_eq schema.name name) domain.schemas
+
+-- the leaves of a side list that should name schemas: those outside parentheses, and the first member of each pattern
+abbrev pub schema_leaves : Side → List Kind
+schema_leaves side = side.names ++ map (λ pattern. pattern.schema) side.patterns

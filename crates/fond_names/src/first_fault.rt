@@ -9,9 +9,11 @@ ghost use Rattle.fond_names.specs.Sites.{domain_sites};
 ghost use Rattle.std.specs.Prelude.{◌≡◌, ◌⊎◌, IfOk, IfSome, IfNone};
 
 use crate::files::Files;
+use crate::leaves::unknown_schema;
+use crate::patterns::faulty_pattern;
 use crate::predicates::redeclared_predicate;
 use crate::redeclared::redeclared_object;
-use crate::repeated::{repeated_schema, unknown_schema};
+use crate::repeated::repeated_schema;
 use crate::sites::{domain_site_fault, problem_site_fault};
 use crate::unknown::{unknown_parameter, unknown_type};
 use fond_kinds::fault::first_fault as kinds_fault;
@@ -52,6 +54,14 @@ fn problem_fault(alloc: Global, files: &Files) -> Result<Option<Found>, NoMemory
     Ok(earlier(unknown_type(&files.types, &files.problem.objects), objects))
 }
 
+/// The first fault of names in the side list.
+fn side_fault(files: &Files) -> Option<Found>
+    ensures { IsFirst (StandsInNames (declarations_of files.now) InSide) result }
+{
+    let unknown = unknown_schema(files);
+    earlier(unknown, faulty_pattern(files))
+}
+
 /// A fault that was found in a file.
 fn fault_in(file: FileKind, found: Found) -> Fault
     ensures { result ≡ record { file = file; place = found.place; code = found.code } }
@@ -74,7 +84,7 @@ pub fn first_fault(alloc: Global, files: &Files) -> Result<Option<Fault>, NoMemo
     if let Some(found) = problem_fault(alloc, files)? {
         return Ok(Some(fault_in(FileKind::Problem, found)));
     }
-    match unknown_schema(files) {
+    match side_fault(files) {
         Some(found) => Ok(Some(fault_in(FileKind::Side, found))),
         None => Ok(None),
     }

@@ -2,13 +2,13 @@
 
 ghost use Rattle.fond_names.specs.Files.{declarations_of};
 ghost use Rattle.fond_names.specs.Indexes.{IsIndex};
-ghost use Rattle.fond_names.specs.Names.{predicate_of, first_of, all_objects};
+ghost use Rattle.fond_names.specs.Names.{predicate_of, schema_of, first_of, all_objects};
 ghost use Rattle.std.specs.Option.{option_copied};
 ghost use Rattle.std.specs.Prelude.{◌≡◌, ◌++◌, IfOk};
 
 use crate::files::Files;
 use crate::index::{index_objects, index_predicates, index_schemas, joined_get};
-use fond_ast::files::{Declared, Domain, Problem, Side};
+use fond_ast::files::{Declared, Domain, Problem, Schema, Side};
 use fond_ast::names::TypedName;
 use fond_kinds::table::TypeTable;
 use fond_lookup::text_index::TextIndex;
@@ -59,6 +59,16 @@ pub fn find_predicate<'f>(files: &'f Files, name: &Name) -> Option<&'f Declared>
 {
     match files.predicates.find(name.bytes()) {
         Some(at) => Some(files.domain.predicates.get(at as usize)),
+        None => None,
+    }
+}
+
+/// The first schema of a name.
+pub fn find_schema<'f>(files: &'f Files, name: &Name) -> Option<&'f Schema>
+    ensures { option_copied result ≡ schema_of files.now.domain.now name.now }
+{
+    match files.schemas.find(name.bytes()) {
+        Some(at) => Some(files.domain.schemas.get(at as usize)),
         None => None,
     }
 }

@@ -3,9 +3,9 @@
 ghost use Rattle.fond_ast.specs.declared.files.Schema.{Schema};
 ghost use Rattle.fond_ast.specs.declared.names.TypedName.{TypedName};
 ghost use Rattle.fond_text.specs.Firsts.{IsFirst};
-ghost use Rattle.fond_names.specs.Faults.{IsRepeatedSchema, IsRepeatedVariable, IsUnknownSchema};
+ghost use Rattle.fond_names.specs.Faults.{IsRepeatedSchema, IsRepeatedVariable};
 ghost use Rattle.fond_names.specs.Indexes.{IsIndex};
-ghost use Rattle.fond_names.specs.Names.{is_among, schema_names};
+ghost use Rattle.fond_names.specs.Names.{is_among};
 ghost use Rattle.std.specs.Prelude.{◌≡◌, List, Some, map, slice_get, take};
 
 use crate::files::Files;
@@ -13,7 +13,7 @@ use crate::scope::Variables;
 use fond_ast::files::Schema;
 use fond_ast::names::TypedName;
 use fond_lookup::text_index::TextIndex;
-use fond_text::code::{REPEATED_NAME, UNKNOWN_SCHEMA};
+use fond_text::code::REPEATED_NAME;
 use fond_text::first::{Found, earlier, found_if};
 use fond_text::name::Name;
 
@@ -52,19 +52,6 @@ pub(crate) fn repeated_variable(variables: &Variables) -> Option<Found>
         let variable = variables.names.get(i);
         let again = is_elsewhere(&variables.index, &variable.name, i);
         first = earlier(first, found_if(again, variable.place, REPEATED_NAME));
-    }
-    first
-}
-
-/// The first leaf of the side list that is not the name of a schema.
-pub(crate) fn unknown_schema(files: &Files) -> Option<Found>
-    ensures { IsFirst (IsUnknownSchema (schema_names files.now.domain.now) files.now.side.now.names) result }
-{
-    let mut first = None;
-    for i in 0..files.side.names.len() {
-        let leaf = files.side.names.get(i);
-        let unknown = files.schemas.find(leaf.name.bytes()).is_none();
-        first = earlier(first, found_if(unknown, leaf.place, UNKNOWN_SCHEMA));
     }
     first
 }

@@ -11,6 +11,7 @@ pub mod Lengths
 pub mod Membership
 pub mod Named
 pub mod Operators
+pub mod Picked
 pub mod Pushed
 pub mod ReadFiles
 pub mod ReadForms
@@ -19,6 +20,7 @@ pub mod ReadSections
 pub mod SchemaFacts
 pub mod SchemasRead
 pub mod Shapes
+pub mod SideNodes
 pub mod Through
 pub mod TypeNames
 pub mod Values

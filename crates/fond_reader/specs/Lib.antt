@@ -5,3 +5,4 @@ pub mod Bodies
 pub mod Files
 pub mod Nodes
 pub mod Laws
+pub mod Sides

@@ -10,6 +10,7 @@ pub mod OneReadingSchemas
 pub mod OneReadingSections
 pub mod OneReading
 pub mod OneTaskNumbers
+mod OneTaskPatterns
 pub mod OneTaskReads
 pub mod OneTaskConditions
 pub mod OneTaskChanges

@@ -1,40 +1,77 @@
--- What is read is one, up to addresses and capacities: side lists from a text, and domains and problems from trees that are alike.
-use Rattle.std.proofs.Common.{◌≡◌, ℕ, List, [], ◌∷◌, map, codes, refl, sym, ap, ◌∙◌}
-use Rattle.fond_tree.specs.Tokens.{Names}
+-- What is read from trees that are alike is one, up to addresses and capacities: domains, problems and side lists.
+use Rattle.std.proofs.Common.{◌≡◌, ℕ, Bool, true, false, cond, not, List, [], ◌∷◌, Option, Some, None, is_some, map, codes, refl, sym, ap, ◌∙◌, subst}
+use Rattle.std.specs.Prelude.{filter}
 use Rattle.fond_tree.specs.Alike.{IsAlike}
+use Rattle.fond_tree.specs.Trees.{is_node, members_of}
 use Rattle.fond_tree.specs.declared.tree.Tree.{Tree}
+use Rattle.fond_ast.specs.declared.files.Pattern.{Pattern}
 use Rattle.fond_ast.specs.declared.files.Side.{Side}
 use Rattle.fond_ast.specs.declared.names.Kind.{Kind}
+use Rattle.fond_ast.specs.declared.names.ReadAtom.{ReadAtom}
 use Rattle.fond_ast.specs.declared.files.Domain.{Domain}
 use Rattle.fond_ast.specs.declared.files.Problem.{Problem}
 use Rattle.fond_reader.specs.Bodies.{is_condition, is_initial}
 use Rattle.fond_reader.specs.Files.{IsFile, headed, contents, is_declared, IsDomainOf, IsProblemOf}
-use Rattle.fond_front.specs.Sides.{mark_of, IsSideOf}
+use Rattle.fond_reader.specs.Sides.{is_leaf, is_pattern, leaves_of, nodes_of, IsSideOf}
 use Rattle.fond_same.specs.Read.{IsSameDomain, IsSameProblem}
-use Rattle.fond_same.proofs.OneReadingAlike.{AreAlikeTrees, place_alike, members_there}
+use Rattle.fond_same.proofs.OneReadingAlike.{AreAlikeMembers, AreAlikeTrees, members_alike, members_there, place_alike}
 use Rattle.fond_same.proofs.OneReadingConditions.{one_condition}
 use Rattle.fond_same.proofs.OneReadingForms.{one_each}
+use Rattle.fond_same.proofs.OneReadingLeaves.{IsReadOnce, atom_once, sorted_once}
 use Rattle.fond_same.proofs.OneReadingLists.{declared_once, initial_once}
-use Rattle.fond_same.proofs.OneReadingMoved.{declared_alike, initial_alike}
+use Rattle.fond_same.proofs.OneReadingMoved.{Respects, atom_alike, declared_alike, initial_alike, sorted_alike}
 use Rattle.fond_same.proofs.OneReadingSchemas.{schemas_of}
 use Rattle.fond_same.proofs.OneReadingSections.{headed_alike, contents_alike, items_once, names_of_alike}
 
--- the tokens of names tell the names
-names_of_tokens : (names others : List Kind) → map mark_of names ≡ map mark_of others → names ≡ others
-names_of_tokens [] [] same = refl
-names_of_tokens [] (other ∷ others) same = absurd (cc)
-names_of_tokens (name ∷ names) [] same = absurd (cc)
-names_of_tokens (name ∷ names) (other ∷ others) same =
-    let rest : map mark_of names ≡ map mark_of others = cc in
-    let marks_are : mark_of name ≡ mark_of other = cc in
-    let token : Names name.place name.name ≡ Names other.place other.name = ap (λ mark. mark.token) marks_are in
-    let place : name.place ≡ other.place = cc in
-    let bytes : name.name ≡ other.name = cc in
-    λ i. record { place = place i; name = bytes i } ∷ names_of_tokens names others rest i
+-- trees of one sort are alike among trees that are alike
+sort_alike : (sort : Tree → Bool) → Respects sort → (trees others : List Tree) → AreAlikeTrees trees others → AreAlikeTrees (filter sort trees) (filter sort others)
+sort_alike sort same [] [] are = tt
+sort_alike sort same [] (other ∷ others) are = absurd are
+sort_alike sort same (tree ∷ trees) [] are = absurd are
+sort_alike sort same (tree ∷ trees) (other ∷ others) are =
+    subst (λ b. AreAlikeTrees (filter sort (tree ∷ trees)) (cond b (other ∷ filter sort others) (filter sort others))) (same tree other are.0) (from (sort tree) (sort_alike sort same trees others are.1))
+  where
+    from : (b : Bool) → AreAlikeTrees (filter sort trees) (filter sort others) → AreAlikeTrees (cond b (tree ∷ filter sort trees) (filter sort trees)) (cond b (other ∷ filter sort others) (filter sort others))
+    from true rest = (are.0, rest)
+    from false rest = rest
 
--- a text is read as at most one side list
-pub one_side : (text : List ℕ) (side other : Side) → IsSideOf text side → IsSideOf text other → side ≡ other
-one_side text side other is also = λ i. record { names = names_of_tokens side.names other.names (sym is.leaves ∙ also.leaves) i }
+-- trees that are alike are both nodes, or both leaves
+node_alike : Respects is_node
+node_alike tree other alike = from (members_of tree) (members_of other) (members_alike tree other alike)
+  where
+    from : (members others : Option (List Tree)) → AreAlikeMembers members others → is_some members ≡ is_some others
+    from None None are = refl
+    from None (Some others) are = absurd are
+    from (Some members) None are = absurd are
+    from (Some members) (Some others) are = refl
+
+-- the nodes among trees that are alike are alike
+pub nodes_alike : (trees others : List Tree) → AreAlikeTrees trees others → AreAlikeTrees (nodes_of trees) (nodes_of others)
+nodes_alike = sort_alike is_node node_alike
+
+-- a tree is read as at most one leaf
+leaf_once : IsReadOnce is_leaf
+leaf_once leaf other tree is also =
+    let one = sorted_once (λ bytes. true) (λ bytes. true) leaf.place other.place leaf.name other.name tree is also in
+    λ i. record { place = one.0 i; name = one.1 i }
+
+-- a pattern as an atom
+abbrev atom_of : Pattern → ReadAtom
+atom_of pattern = record { place = pattern.place; head = pattern.schema.place; name = pattern.schema.name; terms = pattern.terms }
+
+-- a tree is read as at most one pattern
+pattern_once : IsReadOnce is_pattern
+pattern_once pattern other tree is also =
+    let one : atom_of pattern ≡ atom_of other = atom_once (atom_of pattern) (atom_of other) tree is also in
+    λ i. record { place = (one i).place; schema = record { place = (one i).head; name = (one i).name }; terms = (one i).terms }
+
+-- trees that are alike are read as at most one side list
+pub one_side : (trees others : List Tree) (side other : Side) → AreAlikeTrees trees others → IsSideOf trees side → IsSideOf others other → side ≡ other
+one_side trees others side other like is also =
+    let names = items_once is_leaf leaf_once (λ leaf. sorted_alike (λ bytes. true) leaf.place leaf.name) side.names other.names (leaves_of trees) (leaves_of others)
+    (sort_alike (λ tree. not (is_node tree)) (λ tree twin alike. ap not (node_alike tree twin alike)) trees others like) is.names also.names in
+    let patterns = items_once is_pattern pattern_once (λ pattern. atom_alike (atom_of pattern)) side.patterns other.patterns (nodes_of trees) (nodes_of others) (nodes_alike trees others like) is.patterns also.patterns in
+    λ i. record { names = names i; patterns = patterns i }
 
 -- the sections of files that are alike are alike
 sections_alike : (kind : List ℕ) (tree alike : Tree) (sections others : List Tree) → IsAlike tree alike → IsFile kind tree sections → IsFile kind alike others → AreAlikeTrees sections others

@@ -12,11 +12,12 @@ use Rattle.fond_ast.specs.declared.task.LSchema.{LSchema}
 use Rattle.fond_ast.specs.declared.task.LiftedTask.{LiftedTask}
 use Rattle.fond_kinds.specs.Kinds.{IsSubtype}
 use Rattle.fond_names.specs.Names.{Declarations, all_objects, firsts, objects_declared, predicates_declared}
-use Rattle.fond_types.specs.Resolves.{IsResolved, HasParts, IsResolvedPredicate, IsResolvedSchema, Meanings, meanings_of, range_of, is_condition, is_effect, is_ground_atom, positive, mentions}
+use Rattle.fond_types.specs.Resolves.{IsResolved, HasParts, IsResolvedPredicate, IsResolvedSchema, Meanings, meanings_of, range_of, is_condition, is_effect, is_ground_atom, is_pattern, patterns_of, positive, mentions}
 use Rattle.fond_types.proofs.Firsts.{distinct_names, names_of_firsts}
 use Rattle.fond_same.specs.Read.{AreSameFiles, IsSameWritten}
 use Rattle.fond_same.specs.Lifted.{IsSameLifted, IsSamePredicate, IsSameSchema}
 use Rattle.fond_same.proofs.OneTaskNumbers.{one_ground_list}
+use Rattle.fond_same.proofs.OneTaskPatterns.{one_patterns}
 use Rattle.fond_same.proofs.OneTaskConditions.{same_condition, same_ranges}
 use Rattle.fond_same.proofs.OneTaskEffects.{same_effect, same_mentions}
 use Rattle.fond_same.proofs.SameLists.{zip-both, zip-square}
@@ -55,6 +56,7 @@ module _ (meanings : Meanings) (predicates : are_distinct_texts meanings.predica
     pre = same_condition meanings predicates objects schema.pre other.pre (schema.parameters ∷ []) number.pre next.pre e.pre h.pre (ap (λ names. is_condition meanings other.pre (names ∷ []) next.pre) e.parameters ∙ k.pre);
     effect = same_effect meanings predicates objects schema.effect other.effect (schema.parameters ∷ []) number.effect next.effect e.effect h.effect (ap (λ names. is_effect meanings other.effect (names ∷ []) next.effect) e.parameters ∙ k.effect);
     unfair = h.unfair ∙ ap (λ name. list_any (λ leaf. bytes_eq leaf.name name) side.names) e.named ∙ sym k.unfair;
+    patterns = one_patterns meanings objects (patterns_of side schema.name) number.patterns next.patterns h.patterns (ap (λ name. each_passes (map (is_pattern meanings) (patterns_of side name)) next.patterns) e.named ∙ k.patterns);
   }
 
   -- lists of schemas that are the same are resolved to schemas that are the same, one by one

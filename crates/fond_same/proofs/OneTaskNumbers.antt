@@ -68,12 +68,12 @@ one_range meanings names ranges others =
     one_list (λ (name : TypedName). bytes_eq (meanings.range name.kinds)) (λ name one other h k. sym ((bytes_decides (meanings.range name.kinds) one).0 h) ∙ (bytes_decides (meanings.range name.kinds) other).0 k) names (objects_of ranges) (objects_of others)
 
 -- the number that an option has is one
-only_some : (found : Option ℕ) (one other : ℕ) → option_map_or (λ n. n == one) found false ≡ true → option_map_or (λ n. n == other) found false ≡ true → one ≡ other
+pub only_some : (found : Option ℕ) (one other : ℕ) → option_map_or (λ n. n == one) found false ≡ true → option_map_or (λ n. n == other) found false ≡ true → one ≡ other
 only_some None one other h k = cc
 only_some (Some n) one other h k = grind (arith, nat_tests, h, k)
 
 -- a test does not pass and fail
-not_both : (b : Bool) → not b ≡ true → b ≡ true → ⊥
+pub not_both : (b : Bool) → not b ≡ true → b ≡ true → ⊥
 not_both true h k = let clash : false ≡ true = h in cc (clash)
 not_both false h k = cc
 

@@ -1,5 +1,5 @@
 -- Three texts are read as one task, up to addresses and capacities.
-use Rattle.fond_tree.proofs.OneTree.{one_tree_lem}
+use Rattle.fond_tree.proofs.OneTree.{one_forest_lem, one_tree_lem}
 use Rattle.fond_front.specs.Tasks.{AreFilesOf}
 use Rattle.fond_front.specs.declared.texts.TaskTexts.{TaskTexts}
 use Rattle.fond_names.specs.Names.{Declarations}
@@ -13,7 +13,7 @@ pub one_files : (texts : TaskTexts) (files others : Declarations) → AreFilesOf
 one_files texts files others is also = record {
   domain = one_domain is.trees.domain also.trees.domain files.domain others.domain (one_tree_lem texts.domain is.trees.domain also.trees.domain is.read.domain.spelled also.read.domain.spelled) is.domain also.domain;
   problem = one_problem is.trees.problem also.trees.problem files.problem others.problem (one_tree_lem texts.problem is.trees.problem also.trees.problem is.read.problem.spelled also.read.problem.spelled) is.problem also.problem;
-  side = one_side texts.side files.side others.side is.side also.side;
+  side = one_side is.trees.side.items also.trees.side.items files.side others.side (one_forest_lem texts.side is.trees.side.items also.trees.side.items is.read.side.spelled also.read.side.spelled) is.side also.side;
 }
 
 -- three texts are read as one task, up to addresses and capacities

@@ -1,11 +1,14 @@
 -- Files that are the same have the same faults of names, and trees that are alike the same faults of form.
-use Rattle.std.proofs.Common.{◌≡◌, inl, inr, ℕ, ◌∙◌, true, List, [], ◌++◌, Contains, if◌then◌else◌, find, map, sym, ap, subst}
+use Rattle.std.proofs.Common.{◌≡◌, ◌⊎◌, inl, inr, ℕ, ◌∙◌, Bool, true, false, List, [], ◌∷◌, ◌++◌, Contains, Some, if◌then◌else◌, find, length, map, refl, sym, ap, subst}
 use Rattle.std.specs.List.{AllZip}
 use Rattle.std.specs.Str.{bytes_eq}
+use Rattle.std.proofs.lemmas.Bool.{cond-true, cond-false}
+use Rattle.std.proofs.lemmas.Option.{none-some, same_Some}
 use Rattle.fond_text.specs.declared.place.FileKind.{FileKind}
 use Rattle.fond_text.specs.declared.place.FileKind.TheVariants as kind
 use Rattle.fond_text.specs.declared.place.Place.{Place}
 use Rattle.fond_ast.specs.declared.files.Declared.{Declared}
+use Rattle.fond_ast.specs.declared.files.Pattern.{Pattern}
 use Rattle.fond_ast.specs.declared.files.Schema.{Schema}
 use Rattle.fond_ast.specs.declared.files.Side.{Side}
 use Rattle.fond_ast.specs.declared.names.ReadAtom.{ReadAtom}
@@ -16,18 +19,41 @@ use Rattle.fond_kinds.specs.Kinds.{are_types, Fit}
 use Rattle.fond_tree.specs.Alike.{IsAlike}
 use Rattle.fond_tree.specs.declared.tree.Tree.{Tree}
 use Rattle.fond_grammar.specs.Faults.{StandsInDomain, StandsInProblem}
-use Rattle.fond_grammar.specs.declared.role.Role.TheVariants.{DomainFile, ProblemFile}
-use Rattle.fond_names.specs.Faults.{declaration_of, HasMismatch, HasUnknownType, IsRepeatedObject, IsRepeatedPredicate, IsRepeatedSchema, IsUnknownSchema, IsUnknownTerm, OccursAmong, OccursAt, StandsInNames}
-use Rattle.fond_names.specs.Names.{Declarations, first_of, is_among, predicate_of, schema_names}
+use Rattle.fond_grammar.specs.declared.role.Role.TheVariants.{Atom, DomainFile, ProblemFile}
+use Rattle.fond_names.specs.Faults.{declaration_of, HasMismatch, HasUnknownObject, HasUnknownType, HasWrongCount, IsRepeatedObject, IsRepeatedPredicate, IsRepeatedSchema, IsUnknownSchema, IsUnknownTerm, OccursAmong, OccursAt, StandsInNames}
+use Rattle.fond_names.specs.Names.{Declarations, first_of, is_among, predicate_of, schema_leaves, schema_names}
 use Rattle.fond_names.specs.Sites.{Scope, Site, variable_of, AnAtom, AnEquality, AList, domain_sites, problem_sites}
+use Rattle.fond_reader.specs.Sides.{StandsInSide}
 use Rattle.fond_same.specs.Read.{AreSameFiles, IsSameWritten}
+use Rattle.fond_same.proofs.OneReading.{nodes_alike}
+use Rattle.fond_same.proofs.OneReadingAlike.{AreAlikeTrees}
 use Rattle.fond_same.proofs.SameForms.{same_form}
-use Rattle.fond_same.proofs.SameLists.{zip-images, zip-somewhere}
+use Rattle.fond_same.proofs.SameLists.{zip-has, zip-images, zip-somewhere}
 use Rattle.fond_same.proofs.SameSites.{same_domain_sites, same_problem_sites}
 
 -- schemas that are the same have the same names
 same_names : (schemas others : List Schema) → AllZip IsSameWritten schemas others → map (λ schema. schema.name) schemas ≡ map (λ schema. schema.name) others
 same_names = zip-images IsSameWritten (λ schema. schema.name) (λ schema. schema.name) (λ schema other same. same.named)
+
+-- the first schema of a name is the same
+same_schema_of : (name : List ℕ) (schemas others : List Schema) → AllZip IsSameWritten schemas others → (schema : Schema) → find (λ one. bytes_eq one.name name) schemas ≡ Some schema →
+    (twin : Schema) × (find (λ one. bytes_eq one.name name) others ≡ Some twin) × IsSameWritten schema twin
+same_schema_of name [] [] same schema is = absurd (none-some schema is)
+same_schema_of name [] (other ∷ others) same schema is = absurd same
+same_schema_of name (one ∷ schemas) [] same schema is = absurd same
+same_schema_of name (one ∷ schemas) (other ∷ others) same schema is = from (bytes_eq one.name name) refl (same_schema_of name schemas others same.1 schema)
+  where
+    from : (b : Bool) → bytes_eq one.name name ≡ b →
+        (find (λ one. bytes_eq one.name name) schemas ≡ Some schema → (twin : Schema) × (find (λ one. bytes_eq one.name name) others ≡ Some twin) × IsSameWritten schema twin) →
+        (twin : Schema) × (find (λ one. bytes_eq one.name name) (other ∷ others) ≡ Some twin) × IsSameWritten schema twin
+    from true e later =
+        let alike : bytes_eq other.name name ≡ true = ap (λ n. bytes_eq n name) (sym same.0.named) ∙ e in
+        let it : one ≡ schema = same_Some one schema (sym (cond-true _ _ _ e) ∙ is) in
+        (other, cond-true _ _ _ alike, subst (λ (some : Schema). IsSameWritten some other) it same.0)
+    from false e later =
+        let alike : bytes_eq other.name name ≡ false = ap (λ n. bytes_eq n name) (sym same.0.named) ∙ e in
+        let rest = later (sym (cond-false _ _ _ e) ∙ is) in
+        (rest.0, cond-false _ _ _ alike ∙ rest.1, rest.2)
 
 module _ (files others : Declarations) (same : AreSameFiles files others) where
   -- a name of a predicate is declared alike
@@ -92,6 +118,14 @@ module _ (files others : Declarations) (same : AreSameFiles files others) where
     is.1,
   )
 
+  -- a fault in the terms of a pattern is one in the other files
+  faulty_pattern : (pattern : Pattern) (place : Place) (code : ℕ) → HasWrongCount files.domain pattern place code ⊎ HasUnknownObject files pattern place code → HasWrongCount others.domain pattern place code ⊎ HasUnknownObject others pattern place code
+  faulty_pattern pattern place code (inl is) =
+      let twin = same_schema_of pattern.schema.name files.domain.schemas others.domain.schemas same.domain.schemas is.0 is.1 in
+      inl (twin.0, twin.1, (λ counted. is.2 (counted ∙ ap length (sym twin.2.parameters))), is.3, is.4)
+  faulty_pattern pattern place code (inr is) =
+      inr (is.0, is.1, is.2, sym (λ i. first_of (same.domain.constants i ++ same.problem.objects i) is.0.name) ∙ is.3, is.4, is.5)
+
   -- a fault of names in one of the files is one in the other files
   names_faults : (file : FileKind) (place : Place) (code : ℕ) → StandsInNames files file place code → StandsInNames others file place code
   names_faults kind.Domain place code (inl is) = inl (subst (λ (types : List TypedName). StandsInKinds types place code) same.domain.kinds is)
@@ -108,9 +142,10 @@ module _ (files others : Declarations) (same : AreSameFiles files others) where
       inr (inl (subst (λ (objects : List TypedName). IsRepeatedObject others.domain.constants objects place code) same.problem.objects
       (subst (λ (earlier : List TypedName). IsRepeatedObject earlier files.problem.objects place code) same.domain.constants is)))
   names_faults kind.Problem place code (inr (inr is)) = inr (inr (among_sites (problem_sites files.problem) (problem_sites others.problem) place code (same_problem_sites files.problem others.problem same.problem) is))
-  names_faults kind.Side place code is =
-      subst (λ (side : Side). IsUnknownSchema (schema_names others.domain) side.names place code) same.side
-      (subst (λ (names : List (List ℕ)). IsUnknownSchema names files.side.names place code) (same_names files.domain.schemas others.domain.schemas same.domain.schemas) is)
+  names_faults kind.Side place code (inl is) =
+      inl (subst (λ (side : Side). IsUnknownSchema (schema_names others.domain) (schema_leaves side) place code) same.side
+      (subst (λ (names : List (List ℕ)). IsUnknownSchema names (schema_leaves files.side) place code) (same_names files.domain.schemas others.domain.schemas same.domain.schemas) is))
+  names_faults kind.Side place code (inr is) = inr (is.0, subst (λ (side : Side). Contains side.patterns is.0) same.side is.1, faulty_pattern is.0 place code is.2)
 
 -- files that are the same have the same faults of names
 pub same_names_faults : (files others : Declarations) → AreSameFiles files others → (file : FileKind) (place : Place) (code : ℕ) → StandsInNames files file place code → StandsInNames others file place code
@@ -119,3 +154,9 @@ same_names_faults = names_faults
 -- domains and problems that are alike have the same faults of form
 pub same_form_faults : (tree alike : Tree) → IsAlike tree alike → (place : Place) (code : ℕ) → (StandsInDomain tree place code → StandsInDomain alike place code) × (StandsInProblem tree place code → StandsInProblem alike place code)
 same_form_faults tree alike like place code = (same_form DomainFile tree alike like place code, same_form ProblemFile tree alike like place code)
+
+-- side lists of trees that are alike have the same faults of form
+pub same_side_faults : (trees others : List Tree) → AreAlikeTrees trees others → (place : Place) (code : ℕ) → StandsInSide trees place code → StandsInSide others place code
+same_side_faults trees others like place code is =
+    let twin = zip-has IsAlike _ _ (nodes_alike trees others like) is.0 is.1 in
+    (twin.0, twin.1, same_form Atom is.0 twin.0 twin.2 place code is.2)

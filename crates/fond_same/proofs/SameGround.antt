@@ -1,11 +1,16 @@
 -- Tasks that are the same up to addresses and capacities have the same ground tasks.
-use Rattle.std.proofs.Common.{◌≡◌, ℕ, ◌∙◌, Bool, List, [], Option, map, sym, ap, subst}
+use Rattle.std.proofs.Common.{◌≡◌, ◌⊎◌, ℕ, ◌∙◌, Bool, true, List, [], Option, map, sym, ap, subst}
+use Rattle.std.specs.Prelude.{Contains}
+use Rattle.std.specs.Bool.{Decides}
 use Rattle.std.specs.List.{AllZip}
 use Rattle.std.specs.FinSet as set
 use Rattle.fond_text.specs.declared.atom.GroundAction.{GroundAction}
 use Rattle.fond_ast.specs.declared.form.LCond.{LCond}
+use Rattle.fond_ast.specs.declared.form.LTerm.{LTerm}
+use Rattle.fond_ast.specs.declared.task.LSchema.{LSchema}
 use Rattle.fond_ast.specs.declared.task.LiftedTask.{LiftedTask}
 use Rattle.fond_meaning.specs.Outcomes.{Literal, outcomes}
+use Rattle.fond_meaning.specs.Patterns.{Fits, IsUnfairWith}
 use Rattle.fond_meaning.specs.States.{atoms_of}
 use Rattle.fond_task.specs.Values.{least}
 use Rattle.fond_task.specs.declared.form.Form.{Form}
@@ -21,6 +26,11 @@ use Rattle.fond_same.proofs.SameLists.{zip-at, zip-both, zip-follows, zip-images
 use Rattle.fond_same.proofs.SameGroundAtoms.{same_actions, same_atom_value, same_atoms, same_labels, same_number}
 use Rattle.fond_same.proofs.SameGroundConditions.{value_same}
 use Rattle.fond_same.proofs.SameGroundEffects.{IsSameGuard, IsSameLiteral, same_outcomes}
+
+-- schemas of the same fairness and patterns have the same unfair actions
+unfair_same : (unfair : Bool) (schema twin : LSchema) (objects : List ℕ) → schema.unfair ≡ twin.unfair → schema.patterns ≡ twin.patterns → Decides unfair (IsUnfairWith schema objects) → Decides unfair (IsUnfairWith twin objects)
+unfair_same unfair schema twin objects same alike =
+    subst (λ (both : Bool × List (List LTerm)). Decides unfair ((both.0 ≡ true) ⊎ ((pattern : List LTerm) × Contains both.1 pattern × Fits pattern objects))) (λ i. (same i, alike i))
 
 module _ (task other : LiftedTask) (same : IsSameLifted task other) where
   -- conditions that are alike have the same value on a cube
@@ -49,7 +59,7 @@ module _ (task other : LiftedTask) (same : IsSameLifted task other) where
         numbered = twin.1;
         named = is.named;
         pre = stands_same action.objects is.schema.pre twin.0.pre act.pre twin.2.pre is.pre;
-        unfair = is.unfair ∙ twin.2.unfair;
+        unfair = unfair_same act.unfair is.schema twin.0 action.objects twin.2.unfair twin.2.patterns is.unfair;
         outcomes = zip-both (AllZip IsSameLiteral) (AllZip (IsEntryOf task)) (AllZip (IsEntryOf other))
             (λ literals others entries. zip-both IsSameLiteral (IsEntryOf task) (IsEntryOf other) entry_same literals others entries)
             (outcomes action.objects is.schema.effect) (outcomes action.objects twin.0.effect) act.outcomes

@@ -1,5 +1,7 @@
 -- The ground tasks of a task are the same, and what a certificate is in a ground task, it is in the same one.
 use Rattle.std.proofs.Common.{◌≡◌, ◌<◌, ℕ, List, Bool, All, length, sym, ap, ◌∙◌, subst}
+use Rattle.std.specs.Bool.{Decides}
+use Rattle.std.proofs.lemmas.Bool.Decides.{same_from_decides}
 use Rattle.std.specs.List.{AllZip}
 use Rattle.std.proofs.lemmas.Option.{same_Some}
 use Rattle.fond_text.specs.declared.atom.GroundAction.{GroundAction}
@@ -27,6 +29,7 @@ use Rattle.fond_policy.specs.Parts.{AreAllLean, AreLean, ArePartsSure, IsRight}
 use Rattle.fond_cover.specs.declared.item.Item.{Item}
 use Rattle.fond_cover.specs.Covers.{IsIn}
 use Rattle.fond_cover.specs.Items.{AreItemsOver, firsts_of}
+use Rattle.fond_meaning.specs.Patterns.{IsUnfairWith}
 use Rattle.fond_relax.specs.Stable.{IsHopeless}
 use Rattle.fond_ground.proofs.Zips.{zip-length}
 use Rattle.fond_same.specs.Alike.{AreAlike, IsSameAct, IsSameEntry, IsSameTask}
@@ -56,7 +59,7 @@ module _ (task : LiftedTask) where
       let schema : two.schema ≡ one.schema = same_Some two.schema one.schema (sym two.numbered ∙ one.numbered) in
       record {
         named = one.named ∙ sym two.named;
-        unfair = one.unfair ∙ ap (λ (s : LSchema). s.unfair) (sym schema) ∙ sym two.unfair;
+        unfair = same_from_decides act.unfair twin.unfair one.unfair (subst (λ (s : LSchema). Decides twin.unfair (IsUnfairWith s action.objects)) schema two.unfair);
         pre = λ cube. one.pre cube ∙ ap (λ (s : LSchema). condition_value (atom_value task cube) action.objects s.pre) (sym schema) ∙ sym (two.pre cube);
         outcomes = zip-both (AllZip (IsEntryOf task)) (AllZip (IsEntryOf task)) (AllZip IsSameEntry) outcomes_same (outcomes action.objects one.schema.effect) act.outcomes twin.outcomes
             one.outcomes

@@ -51,7 +51,8 @@ pub record IsSamePredicate (predicate other : LPredicate) : Type 0 where
   pub ranges : objects_of predicate.ranges ≡ objects_of other.ranges
   pub fluent : predicate.fluent ≡ other.fluent
 
--- two schemas have the same place, name, objects of ranges and fairness, and a precondition and an effect that are alike
+-- two schemas have the same place, name, objects of ranges, fairness and patterns, and a precondition and an effect that are
+-- alike
 pub record IsSameSchema (schema other : LSchema) : Type 0 where
   pub place : schema.place ≡ other.place
   pub named : schema.name ≡ other.name
@@ -59,6 +60,7 @@ pub record IsSameSchema (schema other : LSchema) : Type 0 where
   pub pre : IsSameCondition schema.pre other.pre
   pub effect : IsSameEffect schema.effect other.effect
   pub unfair : schema.unfair ≡ other.unfair
+  pub patterns : schema.patterns ≡ other.patterns
 
 -- two tasks are the same part by part
 pub record IsSameLifted (task other : LiftedTask) : Type 0 where

@@ -1,10 +1,11 @@
 -- The tokens that spell a tree may occur where a tree may, and they close as many parentheses as they open.
-use Rattle.std.proofs.Common.{◌≡◌, ℕ, ◌+◌, ◌-◌, ◌≤◌, ◌<◌, Bool, true, cond, List, [], ◌∷◌, ◌++◌, length, refl, sym, ◌∙◌, ap, arith, append_assoc, append-nil, subst}
+use Rattle.std.proofs.Common.{◌≡◌, ℕ, ◌+◌, ◌-◌, ◌≤◌, ◌<◌, Bool, true, false, cond, List, [], ◌∷◌, ◌++◌, length, refl, sym, ◌∙◌, ap, arith, append_assoc, append-nil, subst}
 use Rattle.std.specs.List.{count_by, flat_map}
+use Rattle.std.proofs.lemmas.Bool.{true≢false}
 use Rattle.std.proofs.lemmas.List.Sums.{sum_by-append}
 use Rattle.fond_text.specs.declared.code.TheConstants.{DEEPEST}
 use Rattle.fond_text.specs.declared.place.Place.{Place}
-use Rattle.fond_tree.specs.Faults.{is_opening, is_closing, opened, closed, AreRight}
+use Rattle.fond_tree.specs.Faults.{Shape, Forest, is_opening, is_closing, opened, closed, AreRight}
 use Rattle.fond_tree.specs.Marks.{Mark, tokens_of}
 use Rattle.fond_tree.specs.Reading.{AreWithin}
 use Rattle.fond_tree.specs.Spelling.{spelling, depth, depth_step}
@@ -13,7 +14,7 @@ use Rattle.fond_tree.specs.declared.tree.Tree.{Tree, Leaf, Node', Row_of-Tree, e
 use Rattle.fond_tree.specs.declared.tree.Tree.TheVariants.{outs-Node'}
 use Rattle.fond_tree.specs.declared.tree.Tree.TheFolds.{fold_out-Tree, map-Tree}
 use Rattle.fond_tree.proofs.OneTree.{row_spelling, spelling-Node'}
-use Rattle.fond_tree.proofs.Right.{AllMayStand, IsOpen, right_join}
+use Rattle.fond_tree.proofs.Right.{AllMayStand, IsOpen, right_join, right_empty, anew_open, opened-append, closed-append}
 use Rattle.fond_tree.proofs.Trees.{depths, within_to, spelling-Leaf, spelling_some}
 
 depth-Node' : (place : Place) (shape : _) (row : Row_of-Tree _) → depth (Node' place shape row) ≡ 1 + depths (items-the_row-Tree _ row)
@@ -44,16 +45,16 @@ trees_may [] level left some small all = tt
 trees_may (tree ∷ trees) level left some small all = tree_may tree true level (flat_map spelling trees) (λ e. some) (omega (arith, all.0)) (trees_may trees level left some small all.1)
 
 -- after tokens that are right, those of a tree are right
-pub tree_right : (tree : Tree) (before front : List Mark) (begun : Bool) (level : ℕ) → AreRight before → IsOpen before begun level → (begun ≡ true → 0 < level) → level + depth tree ≤ DEEPEST →
-    tokens_of front ≡ spelling tree → AreRight (before ++ front)
-tree_right tree before front begun level right o free small spelled =
-    right_join before front begun level right o (subst (AllMayStand begun level) (append-nil (spelling tree) ∙ sym spelled) (tree_may tree begun level [] free small tt))
+pub tree_right : (shape : Shape) (tree : Tree) (before front : List Mark) (begun : Bool) (level : ℕ) → AreRight shape before → IsOpen shape before begun level → (begun ≡ true → 0 < level) →
+    level + depth tree ≤ DEEPEST → tokens_of front ≡ spelling tree → AreRight shape (before ++ front)
+tree_right shape tree before front begun level right o free small spelled =
+    right_join shape before front begun level right o (subst (AllMayStand begun level) (append-nil (spelling tree) ∙ sym spelled) (tree_may tree begun level [] free small tt))
 
 -- after tokens that are right and leave a parenthesis open, those of trees are right
-pub trees_right : (trees : List Tree) (before front : List Mark) (level left : ℕ) → AreRight before → IsOpen before true level → 0 < level → level + left ≤ DEEPEST → AreWithin left trees →
-    tokens_of front ≡ flat_map spelling trees → AreRight (before ++ front)
-trees_right trees before front level left right o some small all spelled =
-    right_join before front true level right o (subst (AllMayStand true level) (sym spelled) (trees_may trees level left some small all))
+pub trees_right : (shape : Shape) (trees : List Tree) (before front : List Mark) (level left : ℕ) → AreRight shape before → IsOpen shape before true level → 0 < level → level + left ≤ DEEPEST →
+    AreWithin left trees → tokens_of front ≡ flat_map spelling trees → AreRight shape (before ++ front)
+trees_right shape trees before front level left right o some small all spelled =
+    right_join shape before front true level right o (subst (AllMayStand true level) (sym spelled) (trees_may trees level left some small all))
 
 opens : List Token → ℕ
 opens tokens = count_by is_opening tokens
@@ -124,3 +125,32 @@ fronts_balanced trees front e = same_counts front (flat_map spelling trees) e (t
 
 pub front_some : (tree : Tree) (front : List Mark) → tokens_of front ≡ spelling tree → ¬ front ≡ []
 front_some tree front e none = absurd (omega (arith, spelling_some tree, ap length (sym (ap tokens_of none) ∙ e)))
+
+-- tokens that spell one thing and then another are in two parts
+parts : (one other : List Token) (front : List Mark) → tokens_of front ≡ one ++ other → (first rest : List Mark) × (front ≡ first ++ rest) × (tokens_of first ≡ one) × (tokens_of rest ≡ other)
+parts [] other front e = ([], front, refl, refl, e)
+parts (token ∷ one) other [] e = absurd cc
+parts (token ∷ one) other (mark ∷ front) e = let heads = both mark.token token _ _ e in further heads.0 (parts one other front heads.1) where
+  both : (x y : Token) (some more : List Token) → x ∷ some ≡ y ∷ more → (x ≡ y) × (some ≡ more)
+  both x y some more e = (cc, cc)
+
+  further : mark.token ≡ token → (first rest : List Mark) × (front ≡ first ++ rest) × (tokens_of first ≡ one) × (tokens_of rest ≡ other) →
+      (first rest : List Mark) × (mark ∷ front ≡ first ++ rest) × (tokens_of first ≡ token ∷ one) × (tokens_of rest ≡ other)
+  further same h = (mark ∷ h.0, h.1, ap (λ ms. mark ∷ ms) h.2, (λ i. same i ∷ h.3 i), h.4)
+
+-- in a forest, the tokens of trees are right after tokens that are right and leave nothing open
+more_right : (trees : List Tree) (before front : List Mark) → AreRight Forest before → opened before ≡ closed before → AreWithin DEEPEST trees → tokens_of front ≡ flat_map spelling trees →
+    AreRight Forest (before ++ front)
+more_right [] before [] right shut all spelled = subst (AreRight Forest) (sym (append-nil before)) right
+more_right [] before (mark ∷ front) right shut all spelled = absurd cc
+more_right (tree ∷ trees) before front right shut all spelled =
+    let part = parts (spelling tree) (flat_map spelling trees) front spelled in
+    let same = front_balanced tree part.0 part.3 in
+    let small : 0 + depth tree ≤ DEEPEST = omega (arith, all.0) in
+    let first = tree_right Forest tree before part.0 false 0 right (anew_open before shut) (λ e. absurd (true≢false (sym e))) small part.3 in
+    let level : opened (before ++ part.0) ≡ closed (before ++ part.0) = omega (arith, same, shut, opened-append before part.0, closed-append before part.0) in
+    subst (AreRight Forest) (append_assoc before part.0 part.1 ∙ ap (λ ms. before ++ ms) (sym part.2)) (more_right trees (before ++ part.0) part.1 first level all.1 part.4)
+
+-- the tokens of a forest are right
+pub forest_right : (trees : List Tree) (front : List Mark) → AreWithin DEEPEST trees → tokens_of front ≡ flat_map spelling trees → AreRight Forest front
+forest_right trees front all spelled = more_right trees [] front (right_empty Forest) refl all spelled

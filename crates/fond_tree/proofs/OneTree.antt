@@ -1,15 +1,16 @@
 -- Two spellings that begin one list of tokens are those of trees that are alike.
-use Rattle.std.proofs.Common.{◌≡◌, ℕ, List, [], ◌∷◌, ◌++◌, refl, sym, ◌∙◌, ap, append_assoc}
-use Rattle.std.specs.List.{flat_map}
+use Rattle.std.proofs.Common.{◌≡◌, ℕ, List, [], ◌∷◌, ◌++◌, length, refl, sym, ◌∙◌, ap, append_assoc, arith}
+use Rattle.std.specs.List.{flat_map, AllZip}
+use Rattle.std.proofs.lemmas.List.{length-append}
 use Rattle.std.proofs.lemmas.List.Folds.{flat_map-map}
 use Rattle.fond_text.specs.declared.place.Place.{Place}
-use Rattle.fond_tree.specs.Alike.{IsAlike, AreAlike, EachTextSpellsOneTree}
+use Rattle.fond_tree.specs.Alike.{IsAlike, AreAlike, EachTextSpellsOneForest, EachTextSpellsOneTree}
 use Rattle.fond_tree.specs.Spelling.{spelling, spelling_step}
 use Rattle.fond_tree.specs.Tokens.{Token, Opens, Closes, Names}
 use Rattle.fond_tree.specs.declared.tree.Tree.{Tree, Leaf, Node', Row_of-Tree, end_of-Tree, more_of-Tree, items-the_row-Tree, items_shown-the_row-Tree-0}
 use Rattle.fond_tree.specs.declared.tree.Tree.TheVariants.{outs-Node'}
 use Rattle.fond_tree.specs.declared.tree.Tree.TheFolds.{fold_out-Tree, map-Tree}
-use Rattle.fond_tree.proofs.Trees.{spelling-Leaf, no_closing}
+use Rattle.fond_tree.proofs.Trees.{spelling-Leaf, spelling_some, no_closing}
 
 -- the tokens of the members of a node
 abbrev pub row_spelling : {n : _} → Row_of-Tree n → List Token
@@ -68,3 +69,17 @@ mutual
 
 pub one_tree_lem : EachTextSpellsOneTree
 one_tree_lem text tree other spelled also = (alike tree other [] [] (ap (λ ts. ts ++ []) (sym spelled ∙ also))).0
+
+-- a tree spells a token, so it does not spell the same as no tree
+some_spelled : (tree : Tree) (more : List Token) → ¬ spelling tree ++ more ≡ []
+some_spelled tree more e = absurd (omega (arith, spelling_some tree, length-append (spelling tree) more, ap length e))
+
+-- forests with one spelling are alike, tree by tree
+each_alike : (trees others : List Tree) → flat_map spelling trees ≡ flat_map spelling others → AllZip IsAlike trees others
+each_alike [] [] e = tt
+each_alike [] (other ∷ others) e = absurd (some_spelled other (flat_map spelling others) (sym e))
+each_alike (tree ∷ trees) [] e = absurd (some_spelled tree (flat_map spelling trees) e)
+each_alike (tree ∷ trees) (other ∷ others) e = let first = alike tree other (flat_map spelling trees) (flat_map spelling others) e in (first.0, each_alike trees others first.1)
+
+pub one_forest_lem : EachTextSpellsOneForest
+one_forest_lem text trees others spelled also = each_alike trees others (sym spelled ∙ also)

@@ -199,6 +199,13 @@ pub closes : (old new : Place) (b : ℕ) (before rest now : List ℕ) → before
 unfolding marks_at
 closes old new b before rest now split is at left = rw (split, at, left, is) refl
 
+-- a token is left if bytes are left and no gap goes on
+pub something_left : (place : Place) (text : List ℕ) → 0 < length text → EndsGap text → ¬ marks_at Gap place text ≡ []
+something_left place [] some ends e = absurd (omega (arith, some))
+something_left place (b ∷ rest) some ends e = apart (marked place (first_at place b rest)) (further_at place b rest) (sym (first_begins place b rest ends) ∙ e) where
+  apart : (mark : Mark) (more : List Mark) → ¬ mark ∷ more ≡ []
+  apart mark more e = cc
+
 -- what is left begins with no closing parenthesis, if another byte is first
 pub not_closing : (place : Place) (b : ℕ) (before rest : List ℕ) → before ≡ b ∷ rest → EndsGap before → b ≢ 41 → BeginsUnclosed (marks_at Gap place before)
 unfolding name_at

@@ -3,7 +3,7 @@ use Rattle.std.proofs.Common.{◌≡◌, ℕ, ◌<◌, true, false, List, [], �
 use Rattle.std.specs.Prelude.{codes}
 use Rattle.std.proofs.lemmas.Bool.{true≢false}
 use Rattle.fond_text.specs.declared.place.Place.{Place}
-use Rattle.fond_tree.specs.Faults.{AreRight, IsTextFault}
+use Rattle.fond_tree.specs.Faults.{OneTree, Forest, AreRight, IsTextFault}
 use Rattle.fond_tree.specs.Marks.{Mark, marks, tokens, tokens_of}
 use Rattle.fond_tree.specs.Tokens.{Opens, Closes, Names, Stray}
 use Rattle.fond_tree.proofs.Right.{AllMayStand, right_join, right_empty, empty_open}
@@ -40,14 +40,14 @@ marked_text : marks (97 ∷ 10 ∷ 41 ∷ 127 ∷ []) ≡
     record { at = at 1 1; token = Names (at 1 1) (97 ∷ []) } ∷ record { at = at 2 1; token = Closes } ∷ record { at = at 2 2; token = Stray } ∷ []
 marked_text = refl
 
-right_front : (front : List Mark) → AllMayStand false 0 (tokens_of front) → AreRight front
-right_front front may = right_join [] front false 0 right_empty empty_open may
+right_front : (front : List Mark) → AllMayStand false 0 (tokens_of front) → AreRight OneTree front
+right_front front may = right_join OneTree [] front false 0 (right_empty OneTree) (empty_open OneTree) may
 
 first : {n : ℕ} → false ≡ true → 0 < n
 first e = absurd (true≢false (sym e))
 
 -- a stray byte inside a leaf is the fault, whatever follows it
-stray_byte : IsTextFault (97 ∷ 127 ∷ 41 ∷ []) (at 1 2) 2
+stray_byte : IsTextFault OneTree (97 ∷ 127 ∷ 41 ∷ []) (at 1 2) 2
 stray_byte = inr (
   omega arith,
   inl (record {
@@ -60,7 +60,7 @@ stray_byte = inr (
 )
 
 -- a leaf is a whole tree, and nothing may be opened after it
-after_leaf : IsTextFault (codes "a(") (at 1 2) 4
+after_leaf : IsTextFault OneTree (codes "a(") (at 1 2) 4
 after_leaf = inr (
   omega arith,
   inl (record {
@@ -73,7 +73,7 @@ after_leaf = inr (
 )
 
 -- a parenthesis is open at the end, which follows the line feed
-unclosed : IsTextFault (40 ∷ 97 ∷ 10 ∷ []) (at 2 1) 3
+unclosed : IsTextFault OneTree (40 ∷ 97 ∷ 10 ∷ []) (at 2 1) 3
 unclosed = inr (
   omega arith,
   inr (record {
@@ -84,5 +84,18 @@ unclosed = inr (
 )
 
 -- a comment is no token
-no_token : IsTextFault (codes "; a") (at 1 4) 6
-no_token = inr (omega arith, inr (record { right = right_empty; unfinished = inr (refl, refl); place_is = refl }))
+no_token : IsTextFault OneTree (codes "; a") (at 1 4) 6
+no_token = inr (omega arith, inr (record { right = right_empty OneTree; unfinished = inr (refl, refl); place_is = refl }))
+
+-- in a forest, nothing is open after a leaf, so nothing can be closed
+unopened : IsTextFault Forest (codes "a)") (at 1 2) 4
+unopened = inr (
+  omega arith,
+  inl (record {
+    before = record { at = at 1 1; token = Names (at 1 1) (97 ∷ []) } ∷ [];
+    item = record { at = at 1 2; token = Closes };
+    after = [];
+    split = refl;
+    has = (right_join Forest [] _ false 0 (right_empty Forest) (empty_open Forest) (first, tt), (omega arith, refl), refl);
+  }),
+)

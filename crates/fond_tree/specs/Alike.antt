@@ -1,6 +1,7 @@
 -- Trees with the same places and the same names, node by node and leaf by leaf.
 use Rattle.std.specs.Prelude.{◌≡◌, ℕ, List, ⊤}
-use Rattle.fond_tree.specs.Spelling.{Spells}
+use Rattle.std.specs.List.{AllZip}
+use Rattle.fond_tree.specs.Spelling.{Spells, SpellsForest}
 use Rattle.fond_tree.specs.declared.tree.Tree.{Tree, Leaf, Node', Row_of-Tree, end_of-Tree, more_of-Tree}
 
 -- two leaves are alike by place and name, and two nodes by place and member by member
@@ -20,3 +21,7 @@ abbrev mutual
 -- a text spells one tree
 abbrev pub EachTextSpellsOneTree : Type 0
 EachTextSpellsOneTree = (text : List ℕ) (tree other : Tree) → Spells text tree → Spells text other → IsAlike tree other
+
+-- a text spells one forest
+abbrev pub EachTextSpellsOneForest : Type 0
+EachTextSpellsOneForest = (text : List ℕ) (trees others : List Tree) → SpellsForest text trees → SpellsForest text others → AllZip IsAlike trees others

@@ -1,5 +1,5 @@
 -- What is left of a text while it is read: its tokens, each where it begins, and the place of its end.
-use Rattle.std.specs.Prelude.{◌≡◌, ℕ, ◌+◌, ◌*◌, ◌≤◌, ◌==◌, Bool, true, false, not, List, [], ◌∷◌, ◌++◌, length, map, if◌then◌else◌, ⊤}
+use Rattle.std.specs.Prelude.{◌≡◌, ◌≢◌, ℕ, ◌+◌, ◌*◌, ◌≤◌, ◌==◌, Bool, true, false, not, List, [], ◌∷◌, ◌++◌, Option, Some, None, length, map, if◌then◌else◌, ⊤}
 use Rattle.fond_text.specs.Bytes.{line_feed, semicolon, is_blank, is_leaf_byte}
 use Rattle.fond_text.specs.declared.code.TheConstants.{LONGEST_TEXT}
 use Rattle.fond_text.specs.declared.place.Place.{Place}
@@ -51,3 +51,8 @@ BeginsUnclosed (mark ∷ more) = ¬ (mark.token ≡ Closes)
 abbrev pub TakesClosing : Bool → List Mark → List Mark → Type 0
 TakesClosing true old new = (place : Place) × (old ≡ marked place Closes ∷ new)
 TakesClosing false old new = (old ≡ new) × BeginsUnclosed old
+
+-- nothing was left, and the end is here; or something is left
+abbrev pub FindsEnd : Option Place → List Mark → Place → Type 0
+FindsEnd (Some place) left end = (left ≡ []) × (place ≡ end)
+FindsEnd None left end = left ≢ []

@@ -5,7 +5,7 @@ use Rattle.fond_text.specs.declared.code.TheConstants.{DEEPEST}
 use Rattle.fond_text.specs.declared.fault.Fault.{Fault}
 use Rattle.fond_text.specs.declared.place.FileKind.{FileKind}
 use Rattle.fond_text.specs.declared.place.Place.{Place}
-use Rattle.fond_tree.specs.Faults.{opened, closed, IsWhole, AreRight, IsTokenFault, IsEndFault}
+use Rattle.fond_tree.specs.Faults.{Shape, opened, closed, IsWhole, AreRight, IsTokenFault, IsEndFault}
 use Rattle.fond_tree.specs.Marks.{Mark, tokens_of}
 use Rattle.fond_tree.specs.Spelling.{spelling, depth}
 use Rattle.fond_tree.specs.Tokens.{Closes}
@@ -29,17 +29,17 @@ pub record ReadsForest (left : ℕ) (old : List Mark) (trees : List Tree) (new :
   pub spelled : tokens_of front ≡ flat_map spelling trees ++ Closes ∷ []
   pub deep : AreWithin left trees
 
--- a tree may follow these tokens: none of them is faulty, this many more parentheses may be opened, and the tokens
--- are not a whole tree
-pub record IsReady (left : ℕ) (before : List Mark) : Type 0 where
-  pub right : AreRight before
+-- a tree may follow these tokens: none of them is faulty, this many more parentheses may be opened, and something may
+-- follow the tokens
+pub record IsReady (shape : Shape) (left : ℕ) (before : List Mark) : Type 0 where
+  pub right : AreRight shape before
   pub counted : opened before + left ≡ closed before + DEEPEST
-  pub unfinished : ¬ IsWhole before
+  pub unfinished : ¬ IsWhole shape before
 
 -- a fault at a token or at the end
-abbrev pub IsFault : List Mark → Place → Place → ℕ → Type 0
-IsFault tokens end place code = IsTokenFault tokens place code ⊎ IsEndFault tokens end place code
+abbrev pub IsFault : Shape → List Mark → Place → Place → ℕ → Type 0
+IsFault shape tokens end place code = IsTokenFault shape tokens place code ⊎ IsEndFault shape tokens end place code
 
--- a fault stops the reading of these tokens, whatever tokens come before them
+-- a fault stops the reading of these tokens, whatever the text is to spell and whatever tokens come before them
 abbrev pub Stops : FileKind → ℕ → List Mark → Place → Fault → Type 0
-Stops file left old end fault = (fault.file ≡ file) × ((before : List Mark) → IsReady left before → IsFault (before ++ old) end fault.place fault.code)
+Stops file left old end fault = (fault.file ≡ file) × ((shape : Shape) (before : List Mark) → IsReady shape left before → IsFault shape (before ++ old) end fault.place fault.code)

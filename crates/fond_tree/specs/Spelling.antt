@@ -1,6 +1,6 @@
 -- Which tree a text spells, and which trees are read.
 use Rattle.std.specs.Prelude.{◌≡◌, ℕ, ◌+◌, ◌≤◌, List, [], ◌∷◌, ◌++◌, length, fold, max}
-use Rattle.std.specs.List.{flat_map}
+use Rattle.std.specs.List.{flat_map, AllByRecursion}
 use Rattle.fond_text.specs.declared.code.TheConstants.{LONGEST_TEXT, DEEPEST}
 use Rattle.fond_tree.specs.declared.tree.Tree.{Tree}
 use Rattle.fond_tree.specs.declared.tree.Tree.TheOpen.{Tree-F, Leaf, Node}
@@ -35,3 +35,13 @@ pub record IsReadAs (text : List ℕ) (tree : Tree) : Type 0 where
   pub spelled : Spells text tree
   pub long : length text ≤ LONGEST_TEXT
   pub deep : depth tree ≤ DEEPEST
+
+-- a text spells a forest if its tokens are those of the trees, one after the other
+abbrev pub SpellsForest : List ℕ → List Tree → Type 0
+SpellsForest text trees = tokens text ≡ flat_map spelling trees
+
+-- a text is read as the forest that it spells, if it is not too long and no tree is nested too deep
+pub record IsReadAsForest (text : List ℕ) (trees : List Tree) : Type 0 where
+  pub spelled : SpellsForest text trees
+  pub long : length text ≤ LONGEST_TEXT
+  pub deep : AllByRecursion (λ tree. depth tree ≤ DEEPEST) trees

@@ -1,14 +1,14 @@
-//! Reading a text as a tree, by recursive descent over its tokens.
+//! Reading a text as a tree or a forest, by recursive descent over its tokens.
 
 ghost use Rattle.fond_text.specs.Faults.{Refuses};
 ghost use Rattle.fond_text.specs.declared.code.TheConstants.{DEEPEST};
 ghost use Rattle.fond_text.specs.declared.fault.FrontError.TheVariants.{Refused};
-ghost use Rattle.fond_tree.specs.Faults.{IsFaultOf};
+ghost use Rattle.fond_tree.specs.Faults.{IsFaultOf, IsForestFaultOf};
 ghost use Rattle.fond_tree.specs.Left.{BeginsUnclosed};
 ghost use Rattle.fond_tree.specs.Reading.{ReadsTree, ReadsForest, Stops};
 ghost use Rattle.fond_tree.specs.Scanning.{marks_left, end_left};
-ghost use Rattle.fond_tree.specs.Spelling.{IsReadAs};
-ghost use Rattle.std.specs.Prelude.{◌≡◌, ◌<◌, ◌≤◌, IfOk, IfErr};
+ghost use Rattle.fond_tree.specs.Spelling.{IsReadAs, IsReadAsForest};
+ghost use Rattle.std.specs.Prelude.{◌≡◌, ◌≢◌, ◌<◌, ◌≤◌, [], IfOk, IfErr};
 
 use crate::scan::{Piece, Scanner};
 use crate::tree::{Forest, Tree};
@@ -32,6 +32,9 @@ pub fn read_tree(alloc: Global, file: FileKind, b: &[u8]) -> Result<Tree, FrontE
         return Err(refused(file, place, TOO_LONG));
     }
     let mut scanner = Scanner::new(b);
+    if let Some(place) = scanner.end() {
+        return Err(refused(file, place, NO_TREE));
+    }
     let tree = read_next(alloc, file, &mut scanner, DEEPEST)?;
     match scanner.next() {
         Piece::End(_) => Ok(tree),
@@ -42,6 +45,25 @@ pub fn read_tree(alloc: Global, file: FileKind, b: &[u8]) -> Result<Tree, FrontE
     }
 }
 
+/// The trees that a text spells, one after the other; blanks and comments may stand between them, and there may be none.
+/// The text is refused with its one fault, F1 to F5 (docs/FAULTS.md), if it spells no forest, has more than 16,777,216
+/// bytes, or has a parenthesis inside 128 open ones. Takes time and memory as [`read_tree`] does.
+pub fn read_forest(alloc: Global, file: FileKind, b: &[u8]) -> Result<Forest, FrontError>
+    ensures ok { IfOk result (λ trees. IsReadAsForest b.now trees.items) }
+    ensures refused { IfErr result (Refuses (IsForestFaultOf file b.now)) }
+{
+    if b.len() > LONGEST_TEXT {
+        let place = Place { line: 1, column: 1 };
+        return Err(refused(file, place, TOO_LONG));
+    }
+    let mut scanner = Scanner::new(b);
+    let mut trees = Vec::new(alloc);
+    while scanner.end().is_none() {
+        trees.push(read_next(alloc, file, &mut scanner, DEEPEST)?)?;
+    }
+    Ok(trees)
+}
+
 /// The refusal of a file with a fault.
 fn refused(file: FileKind, place: Place, code: u8) -> FrontError
     ensures { result ≡ Refused (record { file = file; place = place; code = code }) }
@@ -49,7 +71,7 @@ fn refused(file: FileKind, place: Place, code: u8) -> FrontError
     FrontError::Refused(Fault { file, place, code })
 }
 
-/// The next tree, of at most so many parentheses that are open at once.
+/// The next tree, of at most so many parentheses that are open at once. If none may be open yet, a token is left.
 #[cycle(reading)]
 fn read_next(
     alloc: Global,
@@ -59,6 +81,7 @@ fn read_next(
 ) -> Result<Tree, FrontError>
     requires within { left ≤ DEEPEST }
     requires unclosed { left < DEEPEST → BeginsUnclosed (marks_left scanner.old) }
+    requires some { left ≡ DEEPEST → marks_left scanner.old ≢ [] }
     ensures ok { IfOk result (λ tree. ReadsTree left (marks_left scanner.old) tree (marks_left scanner.new)) }
     ensures err { IfErr result (Refuses (Stops file left (marks_left scanner.old) (end_left scanner.old))) }
     ensures end { end_left scanner.new ≡ end_left scanner.old }
@@ -72,8 +95,7 @@ fn read_next(
         Piece::Open(place) => Err(refused(file, place, TOO_DEEP)),
         Piece::Close(place) => Err(refused(file, place, MISPLACED)),
         Piece::Stray(place) => Err(refused(file, place, STRAY_BYTE)),
-        Piece::End(place) if left < DEEPEST => Err(refused(file, place, UNCLOSED)),
-        Piece::End(place) => Err(refused(file, place, NO_TREE)),
+        Piece::End(place) => Err(refused(file, place, UNCLOSED)),
     }
 }
 

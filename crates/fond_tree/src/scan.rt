@@ -5,7 +5,7 @@ ghost use Rattle.std.specs.List.{prefix_len};
 ghost use Rattle.fond_text.specs.Bytes.{is_leaf_byte};
 ghost use Rattle.fond_text.specs.Places.{place_after};
 ghost use Rattle.fond_text.specs.declared.code.TheConstants.{LONGEST_TEXT};
-ghost use Rattle.fond_tree.specs.Left.{next_place, goes_on, Fits, EndsGap, BeginsLeaf, TakesClosing};
+ghost use Rattle.fond_tree.specs.Left.{next_place, goes_on, Fits, EndsGap, BeginsLeaf, FindsEnd, TakesClosing};
 ghost use Rattle.fond_tree.specs.Marks.{marks};
 
 use fond_text::bytes::is_blank;
@@ -100,6 +100,20 @@ impl<'a> Scanner<'a> {
                 return;
             }
             self.step(*b, rest);
+        }
+    }
+
+    /// The place of the end, if no token is left.
+    pub fn end(&mut self) -> Option<Place>
+        ensures found { FindsEnd result (marks_left self.old) (end_left self.old) }
+        ensures same { marks_left self.new ≡ marks_left self.old }
+        ensures end { end_left self.new ≡ end_left self.old }
+    {
+        self.skip();
+        if self.rest.is_empty() {
+            Some(self.place)
+        } else {
+            None
         }
     }
 

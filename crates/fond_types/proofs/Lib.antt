@@ -10,3 +10,6 @@ pub mod TaskLemmas
 pub mod TermLemmas
 pub mod WithinLemmas
 pub mod Numbering
+pub mod PlaceLemmas
+pub mod FilingLemmas
+pub mod SoundLemmas

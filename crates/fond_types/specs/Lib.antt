@@ -5,3 +5,4 @@ pub mod Context
 pub mod Kept
 pub mod Meanings
 pub mod Sound
+pub mod Patterns

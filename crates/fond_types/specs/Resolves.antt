@@ -14,6 +14,7 @@ use Rattle.fond_ast.specs.declared.names.Term.{Term}
 use Rattle.fond_ast.specs.declared.names.TypedName.{TypedName}
 use Rattle.fond_ast.specs.declared.files.Declared.{Declared}
 use Rattle.fond_ast.specs.declared.files.InitAtom.{InitAtom}
+use Rattle.fond_ast.specs.declared.files.Pattern.{Pattern}
 use Rattle.fond_ast.specs.declared.files.Schema.{Schema}
 use Rattle.fond_ast.specs.declared.files.Side.{Side}
 use Rattle.fond_ast.specs.declared.syntax.Cond.{Cond}
@@ -123,7 +124,22 @@ pub record IsResolvedPredicate (meanings : Meanings) (schemas : List Schema) (de
   pub ranges : are_ranges meanings declared.parameters number.ranges ≡ true
   pub fluent : number.fluent ≡ list_any (λ schema. mentions declared.name schema.effect) schemas
 
--- a schema over numbers is a written one: it is unfair if and only if a leaf of the side list is its name
+-- whether a number is that of a term among the terms of a pattern: a variable has the position where it occurs first
+abbrev pub is_pattern_term : Meanings → List Term → Term → LTerm → Bool
+is_pattern_term meanings terms term (Object number) = not term.variable && is_number_of meanings.objects term.name number
+is_pattern_term meanings terms term (Variable number) =
+    term.variable && option_map_or (λ at. at == number) (position (λ other. other.variable && bytes_eq other.name term.name) terms) false
+
+-- whether a pattern over numbers is a written one
+abbrev pub is_pattern : Meanings → Pattern → List LTerm → Bool
+is_pattern meanings pattern numbers = each_passes (map (is_pattern_term meanings pattern.terms) pattern.terms) numbers
+
+-- the patterns of a side list that name this schema, in order
+abbrev pub patterns_of : Side → List ℕ → List Pattern
+patterns_of side name = filter (λ pattern. bytes_eq pattern.schema.name name) side.patterns
+
+-- a schema over numbers is a written one: it is unfair if and only if a leaf of the side list outside parentheses is its
+-- name, and it has the patterns that name it
 pub record IsResolvedSchema (meanings : Meanings) (side : Side) (schema : Schema) (number : LSchema) : Type 0 where
   pub place : number.place ≡ schema.place
   pub named : number.name ≡ schema.name
@@ -131,6 +147,7 @@ pub record IsResolvedSchema (meanings : Meanings) (side : Side) (schema : Schema
   pub pre : is_condition meanings schema.pre (schema.parameters ∷ []) number.pre ≡ true
   pub effect : is_effect meanings schema.effect (schema.parameters ∷ []) number.effect ≡ true
   pub unfair : number.unfair ≡ list_any (λ leaf. bytes_eq leaf.name schema.name) side.names
+  pub patterns : each_passes (map (is_pattern meanings) (patterns_of side schema.name)) number.patterns ≡ true
 
 -- whether a ground atom is a written one without variables
 abbrev pub is_ground_atom : Meanings → ReadAtom → Atom → Bool

@@ -13,6 +13,7 @@ mod numbered_atom;
 mod numbered_predicates;
 mod numbers;
 mod parts;
+mod patterns;
 mod ranges;
 pub mod resolve;
 mod schemas;

@@ -7,20 +7,23 @@ ghost use Rattle.fond_names.specs.Files.{declarations_of};
 ghost use Rattle.fond_names.specs.Names.{is_among, objects_declared};
 ghost use Rattle.fond_names.specs.Same.{kind_names};
 ghost use Rattle.fond_names.specs.Sites.{domain_sites, schema_sites};
+ghost use Rattle.fond_text.specs.Lists.{each_passes};
 ghost use Rattle.fond_types.specs.Kept.{are_kept};
 ghost use Rattle.fond_types.specs.Meanings.{meanings, ranges_around};
-ghost use Rattle.fond_types.specs.Resolves.{is_condition, is_effect, IsResolvedSchema};
+ghost use Rattle.fond_types.specs.Patterns.{are_filed};
+ghost use Rattle.fond_types.specs.Resolves.{is_condition, is_effect, is_pattern, IsResolvedSchema, patterns_of};
 ghost use Rattle.fond_types.specs.Sound.{are_sound, is_mentioned, literals_pass};
 ghost use Rattle.std.specs.List.{AllZip, list_all};
-ghost use Rattle.std.specs.Prelude.{◌≡◌, ◌∷◌, [], ℕ, List, IfOk, OnOk, is_some, length, true};
+ghost use Rattle.std.specs.Prelude.{◌≡◌, ◌∷◌, [], ℕ, List, IfOk, OnOk, is_some, length, map, true};
 
 use crate::conditions::numbered_condition;
 use crate::context::Context;
 use crate::effects::numbered_effect;
 use crate::kept::KeptRanges;
+use crate::patterns::taken;
 use crate::ranges::ranges_of;
 use fond_ast::files::Schema;
-use fond_ast::form::{LCond, LEffect};
+use fond_ast::form::{LCond, LEffect, LPatterns};
 use fond_ast::task::{LSchema, LSchemas};
 use fond_lookup::text_index::TextIndex;
 use fond_names::scope::{Around, Variables};
@@ -83,14 +86,16 @@ fn numbered_body(
     body_inside(alloc, context, kept, schema, &parameters)
 }
 
-/// A sound schema over numbers. It is unfair if its name is among those of the side list.
+/// A sound schema over numbers, with these patterns. It is unfair if its name is among the leaves of the side list.
 fn numbered_schema(
     alloc: Global,
     context: &Context,
     kept: &mut KeptRanges,
     leaves: &TextIndex,
     schema: &Schema,
+    patterns: LPatterns,
 ) -> Result<LSchema, NoMemory>
+    requires patterns { each_passes (map (is_pattern (meanings (declarations_of context.now.table.now.files.now))) (patterns_of context.now.table.now.files.now.side.now schema.now.name)) patterns ≡ true }
     requires leaves { (name : List ℕ) → is_some (number_beside leaves.now name) ≡ is_among (kind_names context.now.table.now.files.now.side.now.names) name }
     requires sound { are_sound (declarations_of context.now.table.now.files.now) (schema_sites schema.now) ≡ true }
     requires choices { is_schema_with_choices schema.now ≡ true }
@@ -113,16 +118,19 @@ fn numbered_schema(
         pre,
         effect,
         unfair,
+        patterns,
     })
 }
 
-/// The schemas of a sound domain over numbers, in order.
+/// The schemas of a sound domain over numbers, in order. Takes the list of each schema out of those that are filed.
 pub(crate) fn numbered_schemas(
     alloc: Global,
     context: &Context,
     kept: &mut KeptRanges,
     leaves: &TextIndex,
+    filed: &mut Vec<LPatterns>,
 ) -> Result<LSchemas, NoMemory>
+    requires filed { are_filed (declarations_of context.now.table.now.files.now) context.now.table.now.files.now.side.now.patterns filed.old.items ≡ true }
     requires leaves { (name : List ℕ) → is_some (number_beside leaves.now name) ≡ is_among (kind_names context.now.table.now.files.now.side.now.names) name }
     requires sound { are_sound (declarations_of context.now.table.now.files.now) (domain_sites context.now.table.now.files.now.domain.now) ≡ true }
     requires kept { are_kept (declarations_of context.now.table.now.files.now) kept.old.entries.items ≡ true }
@@ -134,7 +142,9 @@ pub(crate) fn numbered_schemas(
     let domain = context.table.files.domain;
     let mut all = LSchemas::new(alloc);
     for i in 0..domain.schemas.len() {
-        all.push(numbered_schema(alloc, context, kept, leaves, domain.schemas.get(i))?)?;
+        let schema = domain.schemas.get(i);
+        let patterns = taken(alloc, filed, i);
+        all.push(numbered_schema(alloc, context, kept, leaves, schema, patterns)?)?;
     }
     Ok(all)
 }

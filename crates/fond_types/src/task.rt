@@ -24,6 +24,7 @@ use crate::mentioned::mentioned;
 use crate::numbered_predicates::numbered_predicates;
 use crate::numbers::Numbers;
 use crate::parts::Parts;
+use crate::patterns::filed_patterns;
 use crate::schemas::numbered_schemas;
 use crate::table::Table;
 use fond_ast::form::LCond;
@@ -67,7 +68,8 @@ fn numbered_goal(alloc: Global, context: &Context, kept: &mut KeptRanges) -> Res
     )
 }
 
-/// The schemas of sound files over numbers. Those that the side list names are unfair.
+/// The schemas of sound files over numbers. Those that the side list names outside parentheses are unfair, and each has
+/// the patterns that name it.
 fn numbered_actions(
     alloc: Global,
     context: &Context,
@@ -81,7 +83,8 @@ fn numbered_actions(
     ensures kept { OnOk result (are_kept (declarations_of context.now.table.now.files.now) kept.new.entries.items ≡ true) }
 {
     let leaves = index_kinds(alloc, &context.table.files.side.names)?;
-    numbered_schemas(alloc, context, kept, &leaves)
+    let mut filed = filed_patterns(alloc, context.table)?;
+    numbered_schemas(alloc, context, kept, &leaves, &mut filed)
 }
 
 /// The schemas, the initial atoms and the goal of sound files over numbers.

@@ -1,8 +1,8 @@
 use Rattle.fond_text.specs.Faults.{IsFirstAmong}
 use Rattle.fond_text.specs.declared.fault.Fault.{Fault}
-use Rattle.fond_text.specs.declared.place.FileKind.TheVariants.{Domain, Problem}
+use Rattle.fond_text.specs.declared.place.FileKind.TheVariants.{Domain, Problem, Side}
 use Rattle.fond_front.specs.Tasks.{OccursInTexts}
-use Rattle.fond_front.proofs.Tasks.{domain_first, handed_on, problem_first, refuses_also, side_first, text_clean, text_least}
+use Rattle.fond_front.proofs.Tasks.{domain_first, handed_on, problem_first, refuses_also, side_first, text_clean, text_least, forest_least}
 use Rattle.fond_front.proofs.parse.parse.Goals as goal
 
 pub returns-in_err-domain-clause-refused : goal.returns-in_err-domain-clause-refused
@@ -20,18 +20,18 @@ returns-in_err-problem-clause-refused c =
     let least = text_least Problem c.args.texts.now.problem error (rw c.as_slice-2.ensures at c.in_err-problem.ensures.refused) in
     handed_on _ error (IsFirstAmong occurs) c.from_residual-in_err-problem.ensures.1 (refuses_also _ (IsFirstAmong occurs) (λ (fault : Fault). problem_first occurs fault domain) error least)
 
-pub returns-in_err-check_side_text-clause-refused : goal.returns-in_err-check_side_text-clause-refused
-returns-in_err-check_side_text-clause-refused c =
+pub returns-in_err-side-clause-refused : goal.returns-in_err-side-clause-refused
+returns-in_err-side-clause-refused c =
     let occurs = OccursInTexts c.args.texts.now in
-    let error = c.in_err-check_side_text.field-0.0 in
+    let error = c.in_err-side.field-0.0 in
     let domain = text_clean c.args.texts.now.domain c.in_ok-domain.domain (rw c.as_slice.ensures at c.in_ok-domain.ensures.ok) in
     let problem = text_clean c.args.texts.now.problem c.in_ok-problem.problem (rw c.as_slice-2.ensures at c.in_ok-problem.ensures.ok) in
-    handed_on _ error (IsFirstAmong occurs) c.from_residual-in_err-check_side_text.ensures.1
-    (refuses_also _ (IsFirstAmong occurs) (λ (fault : Fault). side_first occurs fault domain problem) error (rw c.as_slice-3.ensures at c.in_err-check_side_text.ensures.refused))
+    let least = forest_least Side c.args.texts.now.side error (rw c.as_slice-3.ensures at c.in_err-side.ensures.refused) in
+    handed_on _ error (IsFirstAmong occurs) c.from_residual-in_err-side.ensures.1 (refuses_also _ (IsFirstAmong occurs) (λ (fault : Fault). side_first occurs fault domain problem) error least)
 
 pub returns-clause-read : goal.returns-clause-read
 returns-clause-read c = record {
   domain = rw c.as_slice.ensures at c.in_ok-domain.ensures.ok;
   problem = rw c.as_slice-2.ensures at c.in_ok-problem.ensures.ok;
-  side = rw c.as_slice-3.ensures at c.in_ok-check_side_text.ensures.clean;
+  side = rw c.as_slice-3.ensures at c.in_ok-side.ensures.ok;
 }

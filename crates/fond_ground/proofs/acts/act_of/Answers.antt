@@ -1,4 +1,4 @@
-use Rattle.std.proofs.Common.{◌≡◌, ◌<◌, ◌≤◌, ◌∙◌, ℕ, List, false, refl, sym, subst, length}
+use Rattle.std.proofs.Common.{◌≡◌, ◌<◌, ◌≤◌, ◌∙◌, ℕ, List, false, sym, subst, length}
 use Rattle.fond_meaning.specs.Outcomes.{outcomes}
 use Rattle.fond_oneof.specs.Outcomes.{outcome_lists}
 use Rattle.fond_text.specs.declared.code.TheConstants.{MOST_OUTCOMES, TOO_MANY_OUTCOMES}
@@ -23,7 +23,7 @@ returns-clause-act c =
       numbered = c.requires.there;
       named = λ i. record { schema = c.args.number; objects = named i };
       pre = subst (λ (env : List ℕ). StandsFor task env c.args.schema.now.pre c.in_ok-pre.pre) first c.in_ok-pre.ensures.value;
-      unfair = refl;
+      unfair = c.requires.unfair;
       outcomes = outcomes_stand task (outcomes c.args.objects.now c.args.schema.now.effect) c.in_ok-effect.effect c.in_ok-outcomes.outcomes has c.in_ok-outcomes.ensures.listed;
     }
 

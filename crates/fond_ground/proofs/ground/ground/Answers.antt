@@ -1,24 +1,21 @@
-use Rattle.std.proofs.Common.{◌≡◌, ◌∙◌, ◌≤◌, [], true, length, map, sym, ap, subst, arith}
+use Rattle.std.proofs.Common.{◌≡◌, ◌∙◌, length, sym, ap, arith}
 use Rattle.std.specs.FinSet as set
-use Rattle.std.specs.List.{AllZip, list_all}
+use Rattle.std.specs.List.{list_all}
 use Rattle.std.proofs.lemmas.List.{length-map}
-use Rattle.fond_ast.specs.declared.task.LiftedTask.{LiftedTask}
 use Rattle.fond_meaning.specs.Solutions.{initial}
 use Rattle.fond_task.specs.Within.{is_act_within, is_form_within}
 use Rattle.fond_task.specs.Distinct.{are_distinct_atoms}
 use Rattle.fond_task.specs.Named.{is_named_action, is_named_atom}
-use Rattle.fond_text.specs.Lists.{are_distinct_texts, Somewhere}
-use Rattle.fond_text.specs.declared.code.TheConstants.{MOST_ACTIONS, TOO_MANY_ACTIONS, TOO_MANY_ATOMS}
+use Rattle.fond_text.specs.Lists.{are_distinct_texts}
+use Rattle.fond_text.specs.declared.code.TheConstants.{TOO_MANY_ATOMS}
 use Rattle.fond_text.specs.declared.fault.Fault.{Fault}
 use Rattle.fond_ground.specs.Atoms.{fluent_atoms}
-use Rattle.fond_ground.specs.Faults.{at_domain, HasManyActions, HasManyAtoms, IsGroundFault}
+use Rattle.fond_ground.specs.Faults.{at_domain, HasManyAtoms, IsGroundFault}
 use Rattle.fond_ground.specs.Grounds.{kept_actions, IsActOf}
-use Rattle.fond_ground.specs.Limits.{has_few_outcomes, IsFirstMany}
-use Rattle.fond_ground.specs.Values.{StandsFor}
 use Rattle.fond_ground.proofs.Actions.{handed_on, refuses_map}
 use Rattle.fond_ground.proofs.Distincts.{acts-distinct, atoms-distinct}
 use Rattle.fond_ground.proofs.Named.{acts-named, atoms-named}
-use Rattle.fond_ground.proofs.Refusals.{no_fault, refused_actions, refused_atoms, refused_outcomes}
+use Rattle.fond_ground.proofs.Refusals.{no_fault, refused_atoms}
 use Rattle.fond_ground.proofs.Zips.{zip-length}
 use Rattle.fond_ground.proofs.ground.ground.Goals as goal
 

@@ -1,8 +1,7 @@
-use Rattle.std.proofs.Common.{◌≡◌, ◌≤◌, length, sym, subst, ap, ◌∙◌}
+use Rattle.std.proofs.Common.{subst}
 use Rattle.std.specs.Prelude.{IfOk, IfErr}
 use Rattle.fond_text.specs.Faults.{Refuses}
 use Rattle.fond_ast.specs.declared.task.LiftedTask.{LiftedTask}
-use Rattle.fond_ground.specs.Atoms.{fluent_atoms}
 use Rattle.fond_ground.specs.Faults.{IsGroundFault}
 use Rattle.fond_ground.specs.Parts.{ArePartsOf}
 use Rattle.fond_ground.proofs.ground.parts_of.Goals as goal

@@ -22,12 +22,12 @@ returns-in-Some-2-clause-first c =
     subst (IsFirstAmong occurs) (sym c.fault_in-in-Some-2.ensures)
     (first_in_problem occurs domain c.in-Some-2.found (subst (λ (one : Option Found). IsFirst (occurs kind.Problem) one) c.in-Some-2.is c.in_ok-found-2.ensures))
 
-pub returns-in-Some-unknown_schema-clause-first : goal.returns-in-Some-unknown_schema-clause-first
-returns-in-Some-unknown_schema-clause-first c =
+pub returns-in-Some-side_fault-clause-first : goal.returns-in-Some-side_fault-clause-first
+returns-in-Some-side_fault-clause-first c =
     let occurs = StandsInNames (declarations_of c.args.files.now) in
     let domain = subst (λ (one : Option Found). IsFirst (occurs kind.Domain) one) c.in_default.is c.in_ok-found.ensures in
     let problem = subst (λ (one : Option Found). IsFirst (occurs kind.Problem) one) c.in_default-2.is c.in_ok-found-2.ensures in
-    subst (IsFirstAmong occurs) (sym c.fault_in-in-Some-unknown_schema.ensures) (first_in_side occurs domain problem c.in-Some-unknown_schema.found c.in-Some-unknown_schema.ensures)
+    subst (IsFirstAmong occurs) (sym c.fault_in-in-Some-side_fault.ensures) (first_in_side occurs domain problem c.in-Some-side_fault.found c.in-Some-side_fault.ensures)
 
 pub returns-in-None-clause-none : goal.returns-in-None-clause-none
 returns-in-None-clause-none c =

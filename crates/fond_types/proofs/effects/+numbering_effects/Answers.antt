@@ -2,7 +2,6 @@ use Rattle.std.proofs.Common.{◌≡◌, ◌+◌, ◌++◌, ◌∷◌, [], Bool,
 use Rattle.std.specs.List.{list_all}
 use Rattle.std.proofs.lemmas.List.{take_all}
 use Rattle.std.proofs.lemmas.List.Folds.{list_all-map}
-use Rattle.fond_ast.specs.Ranges.{objects_of}
 use Rattle.fond_ast.specs.Read.{effect_variables, has_choices}
 use Rattle.fond_ast.specs.Within.{is_effect_fluent, is_effect_within}
 use Rattle.fond_ast.specs.declared.form.LEffect.{LEffect}

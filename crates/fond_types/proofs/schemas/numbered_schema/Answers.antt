@@ -24,6 +24,7 @@ returns-clause-resolved c =
       pre = c.in_ok-pre.ensures.pre;
       effect = c.in_ok-pre.ensures.effect;
       unfair = c.is_some-unfair.ensures ∙ ap (λ found. is_some found) (c.find.ensures ∙ ap (number_beside leaves) c.bytes.ensures.value) ∙ c.requires.leaves schema.name ∙ among_names (λ (leaf : Kind). leaf.name) names schema.name;
+      patterns = c.requires.patterns;
     }
 
 pub returns-clause-within : goal.returns-clause-within

@@ -10,7 +10,8 @@ use Rattle.fond_names.specs.Names.{all_objects}
 use Rattle.fond_types.proofs.CleanLemmas.{typed_if_clean}
 use Rattle.fond_types.proofs.Firsts.{names_of_firsts}
 use Rattle.fond_names.proofs.Members.{and_both, all_from}
-use Rattle.fond_types.proofs.TaskLemmas.{rooted_if_clean}
+use Rattle.fond_types.proofs.SoundLemmas.{sound_if_clean}
+use Rattle.fond_types.proofs.TaskLemmas.{rooted_if_clean, distinct_schemas}
 use Rattle.fond_types.proofs.task.table_of.Goals as goal
 
 pub invariant_of-result : goal.invariant_of-result
@@ -28,4 +29,6 @@ invariant_of-result c =
           (typed_if_clean types files.problem.objects (λ place code h. clean kind.Problem place code (inl h)));
       parameters_typed = all_from (λ (declared : Declared). are_typed types declared.parameters) files.domain.predicates
           (λ declared within. typed_if_clean types declared.parameters (λ place code h. clean kind.Domain place code (inr (inr (inr (inl (declared, within, h)))))));
+      schemas_distinct = distinct_schemas files.domain.schemas (λ place code h. clean kind.Domain place code (inr (inr (inr (inr (inr (inl h)))))));
+      patterns_sound = sound_if_clean files (clean kind.Side);
     }
