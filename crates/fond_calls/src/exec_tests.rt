@@ -1,3 +1,5 @@
+ghost use Rattle.std.specs.Prelude.{◌≡◌, ◌<◌, ◌-◌};
+
 use crate::coin::ground_coin;
 use fond_cert::error::CertError;
 use fond_cert::print::print_cert;
@@ -5,7 +7,8 @@ use fond_cert::read::read_cert;
 use fond_exec::executor::Executor;
 use fond_exec::laws::{lucky_steps_descend, lucky_steps_end};
 use fond_exec::script::read_script;
-use fond_exec::step::Step;
+use fond_exec::simulator::Simulator;
+use fond_exec::step::{SimStep, Step};
 use fond_exec::trace::trace;
 use fond_policy::cert::Cert;
 use fond_rules::rules::Rules;
@@ -49,8 +52,6 @@ fn a_policy_is_read_and_traced(rt: HostRuntime) -> Result<(), Fail> {
 
 #[test]
 fn a_policy_is_stepped(rt: HostRuntime) -> Result<(), Fail> {
-    lucky_steps_descend();
-    lucky_steps_end();
     let coin = ground_coin(rt.alloc())?;
     let rules = policy_rules(rt.alloc(), &coin)?;
     assert!(rt; rules.belong_to(&coin));
@@ -67,5 +68,33 @@ fn a_policy_is_stepped(rt: HostRuntime) -> Result<(), Fail> {
 fn a_script_is_read(rt: HostRuntime) -> Result<(), Fail> {
     let numbers = read_script(rt.alloc(), b" 0\n4294967295")?;
     assert_eq!(rt; numbers.as_slice(), [0, 4_294_967_295].as_slice());
+    Ok(())
+}
+
+#[test]
+fn the_last_outcome_is_picked(rt: HostRuntime) -> Result<(), Fail> {
+    lucky_steps_descend();
+    lucky_steps_end();
+    let coin = ground_coin(rt.alloc())?;
+    let rules = policy_rules(rt.alloc(), &coin)?;
+    assert!(rt; rules.belong_to(&coin));
+    let run = Executor::start(rt.alloc(), &coin, &rules)?;
+    let last = |_step: u64, count: u32|
+        requires { 0 < count }
+        ensures { result ≡ count - 1 }
+    { count - 1 };
+    let mut sim = Simulator::new(run, last);
+    let took = SimStep::Took {
+        rule: 0,
+        act: 0,
+        outcome: 1,
+    };
+    assert_eq!(rt; sim.step(), took);
+    assert!(rt; sim.steps() < 10);
+    assert_eq!(rt; sim.step(), took);
+    assert!(rt; sim.steps() < 10);
+    assert_eq!(rt; sim.step(), took);
+    assert_eq!(rt; sim.steps(), 3);
+    assert!(rt; !sim.done());
     Ok(())
 }

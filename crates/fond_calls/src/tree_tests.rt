@@ -1,5 +1,6 @@
+use fond_text::fault::{Fault, FrontError};
 use fond_text::place::{FileKind, Place};
-use fond_tree::read::read_tree;
+use fond_tree::read::{read_forest, read_tree};
 use fond_tree::scan::{Piece, Scanner};
 use fond_tree::tree::front;
 use std::test::Fail;
@@ -15,6 +16,21 @@ fn a_text_is_read_as_its_tree(rt: HostRuntime) -> Result<(), Fail> {
         assert_eq!(rt; members.len(), 2);
         assert_eq!(rt; front(members), Some(b"b".as_slice()));
     }
+    Ok(())
+}
+
+#[test]
+fn a_text_is_read_as_its_forest(rt: HostRuntime) -> Result<(), Fail> {
+    let trees = read_forest(rt.alloc(), FileKind::Side, b"flip ; (\n(flip c1)")?;
+    assert_eq!(rt; trees.len(), 2);
+    assert_eq!(rt; front(trees.as_slice()), Some(b"flip".as_slice()));
+    let unclosed = read_forest(rt.alloc(), FileKind::Side, b"(flip").err();
+    let fault = Fault {
+        file: FileKind::Side,
+        place: Place { line: 1, column: 6 },
+        code: 3,
+    };
+    assert_eq!(rt; unclosed, Some(FrontError::Refused(fault)));
     Ok(())
 }
 

@@ -1,12 +1,13 @@
 //! Worked examples of `check`: what is right with certificates, and what is wrong with them.
 
 use crate::tasks::{
-    COIN_FILES, DETOUR_FILES, MIX_FILES, PIT_FILES, SWAP_FILES, UNFAIR_FILES, WON_FILES, check_all,
+    COIN_FILES, DETOUR_FILES, MIX_FILES, MIX_PATTERN_FILES, PIT_FILES, SWAP_FILES, UNFAIR_FILES,
+    WON_FILES, check_all,
 };
 use std::test::Fail;
 
 /// A name, the files of the task, a certificate, and the status and the text of the answer.
-const ROWS: [(&str, [&str; 3], &str, u8, &str); 44] = [
+const ROWS: [(&str, [&str; 3], &str, u8, &str); 45] = [
     (
         "the coin is flipped until it shows heads",
         COIN_FILES,
@@ -17,6 +18,13 @@ const ROWS: [(&str, [&str; 3], &str, u8, &str); 44] = [
     (
         "four rules over an unfair action",
         MIX_FILES,
+        "dualfond 1 policy\nrule (fixl) fair 0 goal : +(left)\nrule (fixr) fair 0 goal : +(right)\nrule (split) unfair 0 1 : +(ready)\nrule (try) fair 0 2 :\nreach 6\nend\n",
+        0,
+        "accepted policy lean\n",
+    ),
+    (
+        "an action that a pattern makes unfair",
+        MIX_PATTERN_FILES,
         "dualfond 1 policy\nrule (fixl) fair 0 goal : +(left)\nrule (fixr) fair 0 goal : +(right)\nrule (split) unfair 0 1 : +(ready)\nrule (try) fair 0 2 :\nreach 6\nend\n",
         0,
         "accepted policy lean\n",

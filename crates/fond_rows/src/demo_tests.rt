@@ -1,6 +1,6 @@
 //! Worked examples of `demo`.
 
-use crate::rows::{Row, check};
+use crate::rows::{Row, check, check_demo};
 use fond_tool::laws::demos_are_accepted;
 use std::test::Fail;
 
@@ -16,12 +16,20 @@ const TEXTS: [(&str, &str); 2] = [
     ),
 ];
 
+/// A size, its word, and the first lines of what is printed.
+const HEADS: [(u64, &str, &str); 5] = [
+    (2, "2", "demo 2\natoms 5\nactions 4\n"),
+    (12, "12", "demo 12\natoms 25\nactions 24\n"),
+    (13, "13", "demo 13\natoms 26\nactions 25\n"),
+    (40, "40", "demo 40\natoms 53\nactions 52\n"),
+    (100, "100", "demo 100\natoms 113\nactions 112\n"),
+];
+
 /// Words that are no sizes.
 const BAD_WORDS: [&str; 5] = ["0", "101", "01", "", "x"];
 
 #[test]
 fn texts(rt: HostRuntime) -> Result<(), Fail> {
-    demos_are_accepted();
     for (size, text) in TEXTS {
         let row = Row {
             name: size,
@@ -31,6 +39,15 @@ fn texts(rt: HostRuntime) -> Result<(), Fail> {
             text,
         };
         check(&rt, rt.alloc(), row)?;
+    }
+    Ok(())
+}
+
+#[test]
+fn certificates(rt: HostRuntime) -> Result<(), Fail> {
+    demos_are_accepted();
+    for (size, word, head) in HEADS {
+        check_demo(&rt, rt.alloc(), size, word, head)?;
     }
     Ok(())
 }

@@ -85,7 +85,7 @@ const ZENO_P: &str =
     "(define (problem two-travelers)\n(:domain zeno)\n(:objects kos delos samos - city jet - plane cab - taxi ann bob - person half - level)\n(:init (at jet delos) (at cab kos) (at ann delos) (at bob kos) (booked ann jet) (road kos delos)\n (fuel jet half) (next empty half) (next half full) (pump delos)\n (alternate kos delos) (alternate samos delos) (alternate delos kos))\n(:goal (and (at ann samos) (at bob samos))))\n";
 
 /// The files of the example problems, the status of `plan`, and the text of `check` for what it prints.
-const EXAMPLES: [([&str; 3], u8, &str); 15] = [
+const EXAMPLES: [([&str; 3], u8, &str); 21] = [
     ([BLOCKS, BLOCKS_P, ""], 0, "accepted policy lean\n"),
     (
         [DIALOGUE, DIALOGUE_P, "ask\nconfirm\n"],
@@ -121,6 +121,41 @@ const EXAMPLES: [([&str; 3], u8, &str); 15] = [
     ),
     ([TIRE, TIRE_P, ""], 0, "accepted policy lean\n"),
     ([ZENO, ZENO_P, ""], 0, "accepted policy lean\n"),
+    // Side lists with patterns.
+    (
+        [DIALOGUE, DIALOGUE_P, "(ask to ?l ?m)\n(confirm to ?l ?m)\n"],
+        0,
+        "accepted policy lean\n",
+    ),
+    (
+        [DOORS, DOORS_P, "(go d1 ?r ?s)\n(go ?d r4 ?s)\n"],
+        0,
+        "accepted policy lean\n",
+    ),
+    (
+        [FAULTS, FAULTS_P, "(perform press)\n"],
+        0,
+        "accepted policy lean\n",
+    ),
+    (
+        [
+            FOREST,
+            FOREST_P,
+            "(push x0 x1 ?y ?u ?v)\n(push x3 x4 ?y ?u ?v)\n",
+        ],
+        0,
+        "accepted policy lean\n",
+    ),
+    (
+        [ISLANDS, ISLANDS_P, "(swim beach pier)\n"],
+        0,
+        "accepted policy lean\n",
+    ),
+    (
+        [SPIKY_TIRE, SPIKY_TIRE_P, "(drive ?from ford)\n"],
+        0,
+        "accepted policy lean\n",
+    ),
 ];
 
 #[test]

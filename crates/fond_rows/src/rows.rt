@@ -1,5 +1,6 @@
 //! What the tool answers over a shelf in memory.
 
+use fond_demo::demo::demo_files;
 use fond_edge::lists::{Calls, ShelfFiles};
 use fond_edge::memory_shelf::MemoryShelf;
 use fond_edge::memory_sink::MemorySink;
@@ -259,5 +260,54 @@ pub fn check_plan(
         .map_err(|_| "file")?;
     let checked = answer_to(alloc, &CHECK, files, None, None)?;
     assert_eq!(rt; checked.text.as_slice(), verdict.as_bytes(), "{domain}");
+    Ok(())
+}
+
+/// The files of a task.
+fn task_files(
+    alloc: Global,
+    domain: Bytes,
+    problem: Bytes,
+    side: Bytes,
+) -> Result<ShelfFiles, Fail> {
+    let mut files = ShelfFiles::new(alloc);
+    for (name, bytes) in [("domain", domain), ("problem", problem), ("side", side)] {
+        let name = Word::copy(alloc, name.as_bytes()).map_err(|_| "name")?;
+        files.push(ShelfFile { name, bytes }).map_err(|_| "file")?;
+    }
+    Ok(files)
+}
+
+/// `demo` answers this size with these first lines, a certificate and the line of `check`, which accepts the certificate for the
+/// files of this size.
+pub fn check_demo(
+    rt: &impl Abort,
+    alloc: Global,
+    size: u64,
+    word: &str,
+    head: &str,
+) -> Result<(), Fail> {
+    if size > 100 {
+        return Err(Fail::from("size"));
+    }
+    let told = answer_to(alloc, &["demo", word], ShelfFiles::new(alloc), None, None)?;
+    assert_eq!(rt; told.status, 0, "{head}");
+    let rest = told
+        .text
+        .as_slice()
+        .strip_prefix(head.as_bytes())
+        .ok_or("head")?;
+    let cert = rest.strip_suffix(b"accepted policy lean\n").ok_or("end")?;
+    let demo = demo_files(alloc, size).map_err(|_| "demo")?;
+    let mut files = task_files(alloc, demo.domain, demo.problem, demo.side)?;
+    let name = Word::copy(alloc, b"cert").map_err(|_| "name")?;
+    let bytes = Bytes::copy(alloc, cert).map_err(|_| "text")?;
+    files.push(ShelfFile { name, bytes }).map_err(|_| "file")?;
+    let checked = answer_to(alloc, &CHECK, files, None, None)?;
+    assert_eq!(rt;
+        checked.text.as_slice(),
+        b"accepted policy lean\n".as_slice(),
+        "{head}"
+    );
     Ok(())
 }

@@ -42,6 +42,8 @@ pub const UNFAIR_FILES: [&str; 3] = [COIN, COIN_P, "flip\n"];
 pub const WON_FILES: [&str; 3] = [COIN, WON_P, ""];
 /// A fair action, and one for which an opponent picks.
 pub const MIX_FILES: [&str; 3] = [MIX, MIX_P, "split\n"];
+/// The same, with a pattern in the place of the name.
+pub const MIX_PATTERN_FILES: [&str; 3] = [MIX, MIX_P, "(split)"];
 /// A jump that may end in a pit.
 pub const PIT_FILES: [&str; 3] = [PIT, PIT_P, ""];
 /// The pit with a way around it.
