@@ -1,4 +1,6 @@
 """Tasks of growing size: each function returns the texts of a domain, a problem and a side list."""
+import dataclasses
+import typing
 
 
 def places(count, goal_in_reach=True):
@@ -181,47 +183,235 @@ def doors(count, unfair=False):
     return domain, problem, "enter\n" if unfair else ""
 
 
+def numbered(letter, count):
+    """The names of so many objects."""
+    return [f"{letter}{i}" for i in range(count)]
+
+
+def locks(digits):
+    """A lock with so many digits, each of which is turned forward by one place or by two, as chance has it. So a digit that went
+    past its place has to be turned once around."""
+    domain = """(define (domain locks) (:requirements :typing :non-deterministic)
+(:types digit value)
+(:predicates (shows ?d - digit ?v - value) (next ?v ?w - value))
+(:action turn :parameters (?d - digit ?v ?w ?x - value) :precondition (and (shows ?d ?v) (next ?v ?w) (next ?w ?x))
+ :effect (and (not (shows ?d ?v)) (oneof (shows ?d ?w) (shows ?d ?x)))))
+"""
+    nexts = " ".join(f"(next v{i} v{(i + 1) % 10})" for i in range(10))
+    shown = " ".join(f"(shows {digit} v0)" for digit in numbered("d", digits))
+    goal = " ".join(f"(shows d{i} v{(3 * i + 7) % 10})" for i in range(digits))
+    problem = f"(define (problem lock) (:domain locks) (:objects {' '.join(numbered('d', digits))} - digit {' '.join(numbered('v', 10))} - value)\n" \
+        f"(:init {shown} {nexts})\n(:goal (and {goal})))\n"
+    return domain, problem, ""
+
+
+def climbers(count):
+    """Climbers on roofs: each one calls until a ladder comes, which may tip over on the way down. Whoever jumps may be hurt, and
+    that is never made good."""
+    domain = """(define (domain climbers) (:requirements :typing :negative-preconditions :non-deterministic)
+(:types climber)
+(:predicates (on-roof ?c - climber) (on-ground ?c - climber) (ladder ?c - climber) (hurt ?c - climber))
+(:action call :parameters (?c - climber) :precondition (and (on-roof ?c) (not (ladder ?c))) :effect (oneof (ladder ?c) ()))
+(:action climb :parameters (?c - climber) :precondition (and (on-roof ?c) (ladder ?c))
+ :effect (oneof (and (not (on-roof ?c)) (on-ground ?c)) (not (ladder ?c))))
+(:action jump :parameters (?c - climber) :precondition (on-roof ?c)
+ :effect (and (not (on-roof ?c)) (on-ground ?c) (oneof () (hurt ?c)))))
+"""
+    names = numbered("c", count)
+    problem = f"(define (problem roofs) (:domain climbers) (:objects {' '.join(names)} - climber)\n" \
+        f"(:init {' '.join(f'(on-roof {name})' for name in names)})\n(:goal (forall (?c - climber) (and (on-ground ?c) (not (hurt ?c))))))\n"
+    return domain, problem, ""
+
+
+def buses(count):
+    """Travelers without money, each of whom needs a fare of three coins: a coin is earned, and a bet wins or loses one."""
+    domain = """(define (domain buses) (:requirements :typing :non-deterministic)
+(:types traveler amount) (:constants none one fare - amount)
+(:predicates (has ?t - traveler ?a - amount) (next ?a ?b - amount) (aboard ?t - traveler))
+(:action earn :parameters (?t - traveler) :precondition (has ?t none) :effect (oneof (and (not (has ?t none)) (has ?t one)) ()))
+(:action bet :parameters (?t - traveler ?a ?b ?c - amount) :precondition (and (has ?t ?b) (next ?a ?b) (next ?b ?c))
+ :effect (and (not (has ?t ?b)) (oneof (has ?t ?c) (has ?t ?a))))
+(:action ride :parameters (?t - traveler) :precondition (has ?t fare) :effect (and (not (has ?t fare)) (aboard ?t))))
+"""
+    names = numbered("t", count)
+    problem = f"(define (problem stops) (:domain buses) (:objects {' '.join(names)} - traveler two - amount)\n" \
+        f"(:init {' '.join(f'(has {name} none)' for name in names)} (next none one) (next one two) (next two fare))\n" \
+        "(:goal (forall (?t - traveler) (aboard ?t))))\n"
+    return domain, problem, ""
+
+
+def rivers(count):
+    """People at rivers of their own, each with rocks to an island: one may come to it, across, or nowhere, and whoever wades from
+    the island may be swept back. Whoever swims may drown."""
+    domain = """(define (domain rivers) (:requirements :typing :non-deterministic)
+(:types person)
+(:predicates (near ?p - person) (on-island ?p - person) (far ?p - person) (drowned ?p - person))
+(:action hop :parameters (?p - person) :precondition (near ?p)
+ :effect (oneof (and (not (near ?p)) (on-island ?p)) (and (not (near ?p)) (far ?p)) ()))
+(:action wade :parameters (?p - person) :precondition (on-island ?p)
+ :effect (and (not (on-island ?p)) (oneof (far ?p) (near ?p))))
+(:action swim :parameters (?p - person) :precondition (near ?p)
+ :effect (and (not (near ?p)) (oneof (far ?p) (drowned ?p)))))
+"""
+    names = numbered("p", count)
+    problem = f"(define (problem banks) (:domain rivers) (:objects {' '.join(names)} - person)\n" \
+        f"(:init {' '.join(f'(near {name})' for name in names)})\n(:goal (forall (?p - person) (far ?p))))\n"
+    return domain, problem, ""
+
+
+def rooms(count):
+    """Rooms that are swept and then waxed: sweeping may leave a room as it is, and waxing may raise the dust again."""
+    domain = """(define (domain rooms) (:requirements :typing :non-deterministic)
+(:types room)
+(:predicates (dusty ?r - room) (swept ?r - room) (waxed ?r - room))
+(:action sweep :parameters (?r - room) :precondition (dusty ?r) :effect (oneof (and (not (dusty ?r)) (swept ?r)) ()))
+(:action wax :parameters (?r - room) :precondition (swept ?r)
+ :effect (and (not (swept ?r)) (oneof (waxed ?r) (dusty ?r)))))
+"""
+    names = numbered("r", count)
+    problem = f"(define (problem house) (:domain rooms) (:objects {' '.join(names)} - room)\n" \
+        f"(:init {' '.join(f'(dusty {name})' for name in names)})\n(:goal (forall (?r - room) (waxed ?r))))\n"
+    return domain, problem, ""
+
+
+def machines(count):
+    """Machines to be started, each of which an opponent may break instead. A part repairs one, and there is one part too few."""
+    domain = """(define (domain machines) (:requirements :typing :negative-preconditions :non-deterministic)
+(:types machine part)
+(:predicates (running ?m - machine) (broken ?m - machine) (used ?p - part))
+(:action start :parameters (?m - machine) :precondition (and (not (running ?m)) (not (broken ?m)))
+ :effect (oneof (running ?m) (broken ?m)))
+(:action repair :parameters (?m - machine ?p - part) :precondition (and (broken ?m) (not (used ?p)))
+ :effect (and (not (broken ?m)) (running ?m) (used ?p))))
+"""
+    problem = f"(define (problem hall) (:domain machines)\n" \
+        f"(:objects {' '.join(numbered('m', count))} - machine {' '.join(numbered('p', count - 1))} - part)\n" \
+        "(:init) (:goal (forall (?m - machine) (running ?m))))\n"
+    return domain, problem, "start\n"
+
+
+def bridge(stones):
+    """A bridge that has to be crossed and may fall under whoever crosses it. Nothing that is done before, with any of the stones on
+    the bank, makes it safe."""
+    domain = """(define (domain bridge) (:requirements :typing :negative-preconditions :non-deterministic)
+(:types place stone) (:constants bank head far - place)
+(:predicates (at ?p - place) (path ?p ?q - place) (carries ?s - stone) (fell))
+(:action walk :parameters (?p ?q - place) :precondition (and (at ?p) (path ?p ?q)) :effect (and (not (at ?p)) (at ?q)))
+(:action take :parameters (?s - stone) :precondition (and (at bank) (not (carries ?s))) :effect (carries ?s))
+(:action drop :parameters (?s - stone) :precondition (and (at bank) (carries ?s)) :effect (not (carries ?s)))
+(:action cross :precondition (at head) :effect (and (not (at head)) (oneof (at far) (fell)))))
+"""
+    problem = f"(define (problem gorge) (:domain bridge) (:objects {' '.join(numbered('s', stones))} - stone)\n" \
+        "(:init (at bank) (path bank head) (path head bank)) (:goal (at far)))\n"
+    return domain, problem, ""
+
+
+def islands(count):
+    """A chain of islands with a monkey on each bridge, who leaves it for a banana, and one banana too few. Whoever swims may
+    drown."""
+    domain = """(define (domain islands) (:requirements :typing :negative-preconditions :non-deterministic)
+(:types island banana)
+(:predicates (at ?i - island) (bridge ?i ?j - island) (guarded ?i - island) (lies ?b - banana ?i - island) (carries ?b - banana))
+(:action take :parameters (?b - banana ?i - island) :precondition (and (at ?i) (lies ?b ?i))
+ :effect (and (not (lies ?b ?i)) (carries ?b)))
+(:action lure :parameters (?b - banana ?i - island) :precondition (and (at ?i) (guarded ?i) (carries ?b))
+ :effect (oneof (and (not (guarded ?i)) (not (carries ?b))) ()))
+(:action cross :parameters (?i ?j - island) :precondition (and (at ?i) (bridge ?i ?j) (not (guarded ?i)))
+ :effect (and (not (at ?i)) (at ?j)))
+(:action swim :parameters (?i ?j - island) :precondition (and (at ?i) (bridge ?i ?j)) :effect (and (not (at ?i)) (oneof (at ?j) ()))))
+"""
+    bridges = " ".join(f"(bridge i{i} i{i + 1}) (guarded i{i})" for i in range(count))
+    lying = " ".join(f"(lies {banana} i0)" for banana in numbered("b", count - 1))
+    problem = f"(define (problem monkeys) (:domain islands)\n" \
+        f"(:objects {' '.join(numbered('i', count + 1))} - island {' '.join(numbered('b', count - 1))} - banana)\n" \
+        f"(:init (at i0) {bridges} {lying}) (:goal (at i{count})))\n"
+    return domain, problem, ""
+
+
+def forest(side):
+    """A square forest: each second column is a thicket with one gap, at its far end and at its near end by turns. Whoever pushes into
+    a thicket comes through, or a tree falls there and bars that way for good, so each way but the detour may be lost."""
+    domain = """(define (domain forest) (:requirements :typing :negative-preconditions :non-deterministic)
+(:types cell)
+(:predicates (at ?c - cell) (beside ?c ?d - cell) (thick ?c - cell) (barred ?c - cell))
+(:action walk :parameters (?c ?d - cell) :precondition (and (at ?c) (beside ?c ?d) (not (thick ?d)))
+ :effect (and (not (at ?c)) (at ?d)))
+(:action push :parameters (?c ?d - cell) :precondition (and (at ?c) (beside ?c ?d) (thick ?d) (not (barred ?d)))
+ :effect (oneof (and (not (at ?c)) (at ?d)) (barred ?d))))
+"""
+    cells = [(x, y) for x in range(side) for y in range(side)]
+    gaps = {x: side - 1 if x % 4 == 1 else 0 for x in range(1, side, 2)}
+    facts = [f"(thick c{x}-{y})" for x, y in cells if x in gaps and y != gaps[x]]
+    for x, y in cells:
+        steps = [(x + 1, y), (x - 1, y), (x, y + 1), (x, y - 1)]
+        facts += [f"(beside c{x}-{y} c{a}-{b})" for a, b in steps if 0 <= a < side and 0 <= b < side]
+    problem = f"(define (problem woods) (:domain forest) (:objects {' '.join(f'c{x}-{y}' for x, y in cells)} - cell)\n" \
+        f"(:init (at c0-0) {' '.join(facts)})\n(:goal (at c{side - 1}-0)))\n"
+    return domain, problem, ""
+
+
+def gates(count):
+    """Rooms in a row with a door between each two: whenever a room is entered, an opponent opens or closes any one of the doors. A
+    closed door can be knocked open."""
+    rooms_in_row = numbered("r", count)
+    moves = " ".join(f"(open {room}) (not (open {room}))" for room in rooms_in_row)
+    domain = f"""(define (domain gates) (:requirements :typing :negative-preconditions :non-deterministic)
+(:types room) (:constants {' '.join(rooms_in_row)} - room)
+(:predicates (at ?r - room) (next ?r ?s - room) (open ?r - room))
+(:action enter :parameters (?r ?s - room) :precondition (and (at ?r) (next ?r ?s) (open ?r))
+ :effect (and (not (at ?r)) (at ?s) (oneof () {moves})))
+(:action knock :parameters (?r - room) :precondition (and (at ?r) (not (open ?r))) :effect (open ?r)))
+"""
+    steps = " ".join(f"(next r{i} r{i + 1})" for i in range(count))
+    problem = f"(define (problem gates) (:domain gates) (:objects r{count} - room)\n(:init (at r0) {steps}) (:goal (at r{count})))\n"
+    return domain, problem, "enter\n"
+
+
+@dataclasses.dataclass(frozen=True)
+class Task:
+    """A task of a kind: how large it is, and what makes its texts."""
+
+    kind: str
+    size: str
+    texts: typing.Callable[[], tuple[str, str, str]]
+
+    @property
+    def name(self):
+        head, comma, tail = self.kind.partition(",")
+        return f"{head} {self.size}{comma}{tail}"
+
+
+def sized(kind, make, sizes, join=" ", **how):
+    """Tasks of a kind: the function that makes them takes a number, or several, as a size."""
+    rows = [size if isinstance(size, tuple) else (size,) for size in sizes]
+    return [Task(kind, join.join(map(str, row)), lambda row=row: make(*row, **how)) for row in rows]
+
+
+# Each kind at three sizes or more, so that the smallest needs little of any planner.
 TASKS = [
-    ("counter 14", counter(14)),
-    ("counter 16", counter(16)),
-    ("counter 17", counter(17)),
-    ("counter 12, unfair", counter(12, unfair=True)),
-    ("counter 16, unfair", counter(16, unfair=True)),
-    ("grid 4 by 12", grid(4, 12)),
-    ("grid 5 by 13", grid(5, 13)),
-    ("grid 4 by 12, refused", grid(4, 12, goal_in_reach=False)),
-    ("grid 5 by 13, refused", grid(5, 13, goal_in_reach=False)),
-    ("places 1000", places(1000)),
-    ("places 4000", places(4000)),
-    ("places 4000, refused", places(4000, goal_in_reach=False)),
-    ("wide 14 with 50", wide(14, 50)),
-    ("wide 14 with 5000", wide(14, 5000)),
-    ("lamps 12", lamps(12)),
-    ("lamps 40", lamps(40)),
-    ("lamps 100", lamps(100)),
-    ("blocks 6", blocks(6)),
-    ("blocks 8", blocks(8)),
-    ("blocks 12", blocks(12)),
-    ("blocks 20", blocks(20)),
-    ("blocks 40", blocks(40)),
-    ("blocks 60", blocks(60)),
-    ("roads 3", roads(3)),
-    ("roads 5", roads(5)),
-    ("roads 6", roads(6)),
-    ("roads 10", roads(10)),
-    ("roads 20", roads(20)),
-    ("roads 40", roads(40)),
-    ("roads 5, unfair", roads(5, unfair=True)),
-    ("roads 10, unfair", roads(10, unfair=True)),
-    ("rescue 2", rescue(2)),
-    ("rescue 4", rescue(4)),
-    ("rescue 6", rescue(6)),
-    ("rescue 8", rescue(8)),
-    ("rescue 10", rescue(10)),
-    ("rescue 4, unfair", rescue(4, unfair=True)),
-    ("rescue 6, unfair", rescue(6, unfair=True)),
-    ("doors 12", doors(12)),
-    ("doors 20", doors(20)),
-    ("doors 40", doors(40)),
-    ("doors 20, unfair", doors(20, unfair=True)),
+    *sized("counter", counter, (8, 14, 16, 17)),
+    *sized("counter, unfair", counter, (8, 12, 16), unfair=True),
+    *sized("grid", grid, ((3, 8), (4, 12), (5, 13)), " by "),
+    *sized("grid, refused", grid, ((3, 8), (4, 12), (5, 13)), " by ", goal_in_reach=False),
+    *sized("places", places, (100, 1000, 4000)),
+    *sized("places, refused", places, (100, 1000, 4000), goal_in_reach=False),
+    *sized("wide", wide, ((8, 50), (14, 50), (14, 5000)), " with "),
+    *sized("lamps", lamps, (6, 12, 40, 100)),
+    *sized("blocks", blocks, (6, 8, 12, 20, 40, 60)),
+    *sized("roads", roads, (3, 5, 6, 10, 20, 40)),
+    *sized("roads, unfair", roads, (3, 5, 10, 20), unfair=True),
+    *sized("rescue", rescue, (2, 4, 6, 8, 10)),
+    *sized("rescue, unfair", rescue, (2, 4, 6, 8), unfair=True),
+    *sized("doors", doors, (12, 20, 40)),
+    *sized("doors, unfair", doors, (12, 20, 40), unfair=True),
+    *sized("gates", gates, (4, 12, 40)),
+    *sized("locks", locks, (2, 4, 12)),
+    *sized("climbers", climbers, (3, 5, 20)),
+    *sized("buses", buses, (3, 5, 20)),
+    *sized("rivers", rivers, (3, 6, 20)),
+    *sized("rooms", rooms, (4, 8, 30)),
+    *sized("forest", forest, (3, 5, 9)),
+    *sized("machines", machines, (3, 6, 9)),
+    *sized("bridge", bridge, (4, 12, 40)),
+    *sized("islands", islands, (3, 5, 7)),
 ]
