@@ -1,5 +1,6 @@
 ghost use Rattle.std.specs.Prelude.{◌≡◌, All, length, IfOk};
 
+use fond_match::index::Index;
 use fond_match::matcher::Matcher;
 use fond_state::cube::Cube;
 use fond_state::state::State;
@@ -43,5 +44,16 @@ fn the_first_cube_around_a_state_or_a_cube_is_found(rt: HostRuntime) -> Result<(
     assert_eq!(rt; matcher.first(cubes.as_slice(), &known), Some(2));
     let free = cube(rt.alloc(), None, Some(true))?;
     assert_eq!(rt; matcher.first(cubes.as_slice(), &free), None);
+    Ok(())
+}
+
+#[test]
+fn an_index_that_grows_finds_the_first_cube_around_a_state(rt: HostRuntime) -> Result<(), Fail> {
+    let cubes = cubes(rt.alloc())?;
+    assert!(rt; cubes.len() < 5);
+    let mut index = Index::new(rt.alloc());
+    index.grow(cubes.as_slice())?;
+    let state = State::new(rt.alloc(), 2)?;
+    assert_eq!(rt; index.first(cubes.as_slice(), &state), Some(3));
     Ok(())
 }

@@ -3,3 +3,4 @@ pub mod Found
 pub mod Searched
 pub mod Kept
 pub mod Joined
+pub mod Growing

@@ -4,3 +4,4 @@ pub mod Runs
 pub mod Matchers
 pub mod Lying
 pub mod Besides
+pub mod Blocks

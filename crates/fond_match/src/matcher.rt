@@ -1,6 +1,6 @@
 //! Indexes of cubes.
 
-ghost use Rattle.fond_match.specs.Matchers.{Indexes, IsMatcherOf};
+ghost use Rattle.fond_match.specs.Matchers.{HasAll, Indexes, IsMatcherOf};
 ghost use Rattle.std.specs.Prelude.{◌≡◌, ◌<◌, ◌^◌, List, Bool, Option, All, map, length, position, IfOk};
 ghost use Rattle.std.specs.List.{range_with_len};
 
@@ -13,14 +13,11 @@ use std::alloc::Global;
 /// How many branches lie on one path of an index at most, which bounds the stack.
 const DEPTH: u32 = 500;
 
-/// How many items are gone through without an index.
-const FEW: usize = 32;
-
 /// An index of the cubes of some items, or of the first of them. It copies no cube.
 #[derive(Drop)]
 pub struct Matcher {
     root: Node,
-    count: u32,
+    pub(crate) count: u32,
 }
 
 /// The numbers below this one.
@@ -35,7 +32,7 @@ fn numbers_below(alloc: Global, count: u32) -> Result<Vec<u32>, NoMemory>
 }
 
 /// The index of the first item in whose cube the query lies. Takes time in their number times that of the atoms.
-fn first_of<T: HasCube, Q: Query>(items: &[T], query: &Q) -> Option<usize>
+pub(crate) fn first_of<T: HasCube, Q: Query>(items: &[T], query: &Q) -> Option<usize>
     requires { All (λ item. length (T.cube item) ≡ Q.atoms query.now) items.now }
     ensures { result ≡ position (λ item. Q.lies query.now (T.cube item)) items.now }
 {
@@ -67,7 +64,8 @@ impl Matcher {
     /// more for each branch on which they stay together; memory in their number.
     pub fn build<T: HasCube>(alloc: Global, items: &[T]) -> Result<Matcher, NoMemory>
         requires { length items.now < 2 ^ 32 }
-        ensures { IfOk result (IsMatcherOf (map T.cube items.now)) }
+        ensures of { IfOk result (IsMatcherOf (map T.cube items.now)) }
+        ensures all { IfOk result (HasAll (length items.now)) }
     {
         let count = items.len() as u32;
         let numbers = numbers_below(alloc, count)?;
@@ -75,14 +73,8 @@ impl Matcher {
         Ok(Matcher { root, count })
     }
 
-    /// Whether there are so many items after those that are indexed that an index of all of them pays off: if it is built
-    /// each time that this is so, adding items one by one takes no more than twice the time of one index in the end.
-    pub fn is_behind(&self, items: usize) -> bool {
-        items.saturating_sub(self.count as usize) > FEW.max(self.count as usize)
-    }
-
     /// The number of the first item in whose cube the query lies, if all items are indexed.
-    fn first_indexed<T: HasCube, Q: Query>(&self, items: &[T], query: &Q) -> Option<u32>
+    pub(crate) fn first_indexed<T: HasCube, Q: Query>(&self, items: &[T], query: &Q) -> Option<u32>
         requires all { length items.now ≡ self.now.count }
         requires of { Indexes (map T.cube items.now) self.now }
         requires over { All (λ item. length (T.cube item) ≡ Q.atoms query.now) items.now }

@@ -6,7 +6,7 @@ ghost use Rattle.fond_match.specs.Besides.{is_beside};
 ghost use Rattle.std.specs.Prelude.{◌≡◌, ◌<◌, ◌-◌, ◌^◌, List, [], ◌∷◌, ◌++◌, length, position, slice_get, Some, true, All, IfSome, OnOk, OnErr};
 
 use fond_game::rule::Rule;
-use fond_match::matcher::Matcher;
+use fond_match::index::Index;
 use fond_match::query::{Beside, HasCube};
 use fond_state::cube::Cube;
 use fond_state::state::State;
@@ -37,24 +37,24 @@ impl HasCube for Item {
     }
 }
 
-/// Fewer than 2^32 rules, in order. In a state, the first rule whose literals all hold counts. The conditions of the
-/// first rules are indexed.
+/// Fewer than 2^32 rules, in order. In a state, the first rule whose literals all hold counts. The conditions of all but a
+/// few of the rules are indexed.
 #[derive(Drop)]
 pub struct Rules {
     items: Vec<Item>,
-    matcher: Matcher,
+    index: Index,
 }
 
 impl Model for Rules {
     ghost use Rattle.std.specs.Prelude.{List, ◌<◌, ◌^◌, length, map};
     ghost use Rattle.fond_game.specs.declared.rule.Rule.{Rule};
-    ghost use Rattle.fond_match.specs.Matchers.{IsMatcherOf};
+    ghost use Rattle.fond_match.specs.Blocks.{IsIndexOf};
 
     ghost Value = { List Rule };
 
     ghost view = { λ l. l.items.items };
 
-    ghost invariant = { λ l. (length l.items.items < 2 ^ 32) × IsMatcherOf (map (λ rule. rule.cond) l.items.items) l.matcher };
+    ghost invariant = { λ l. (length l.items.items < 2 ^ 32) × IsIndexOf (map (λ rule. rule.cond) l.items.items) l.index };
 }
 
 impl Rules {
@@ -64,21 +64,19 @@ impl Rules {
     {
         Rules {
             items: Vec::new(alloc),
-            matcher: Matcher::new(alloc),
+            index: Index::new(alloc),
         }
     }
 
-    /// Indexes all rules, which makes `select` fast for those that were added since the last time, or leaves the list as
-    /// it was if memory runs out. Takes time in the number of rules times that of atoms.
+    /// Indexes all rules at once, which makes `select` somewhat faster than the index does that grows as rules are added, or
+    /// leaves the list as it was if memory runs out. Takes time in the number of rules times that of atoms.
     pub fn index(&mut self) -> Result<(), NoMemory>
         ensures { self.new ≡ self.old }
     {
-        let alloc = *self.items.allocator();
-        self.matcher = Matcher::build(alloc, self.items.as_slice())?;
-        Ok(())
+        self.index.pack(self.items.as_slice())
     }
 
-    /// Adds a rule at the end, which is not indexed.
+    /// Adds a rule at the end, which is not indexed yet.
     fn append(&mut self, rule: Rule) -> Result<(), NoMemory>
         requires { length self.old < 2 ^ 32 - 1 }
         ensures ok { OnOk result (self.new ≡ self.old ++ rule ∷ []) }
@@ -88,16 +86,14 @@ impl Rules {
         Ok(())
     }
 
-    /// Adds a rule at the end. Indexes the rules before it once more of them are not indexed than are, so that adding
-    /// many takes time in their number times that of atoms.
+    /// Adds a rule at the end, once the rules before it are indexed but for a few. On average over many rules, takes time in
+    /// the number of atoms times the logarithm of that of the rules.
     pub fn push(&mut self, rule: Rule) -> Result<(), NoMemory>
         requires { length self.old < 2 ^ 32 - 1 }
         ensures ok { OnOk result (self.new ≡ self.old ++ rule ∷ []) }
         ensures err { OnErr result (self.new ≡ self.old) }
     {
-        if self.matcher.is_behind(self.items.len()) {
-            self.index()?;
-        }
+        self.index.grow(self.items.as_slice())?;
         self.append(rule)
     }
 
@@ -157,7 +153,7 @@ impl Rules {
         requires { AreOver (length s.now) self.now }
         ensures { result ≡ selected_rule self.now s.now }
     {
-        self.matcher.first(self.items.as_slice(), s)
+        self.index.first(self.items.as_slice(), s)
     }
 
     /// The number of the first rule whose condition the cube does not contradict, if there is one. Takes time in the number of
@@ -166,6 +162,6 @@ impl Rules {
         requires { AreOver (length c.now) self.now }
         ensures { result ≡ position (λ rule. is_beside c.now rule.cond) self.now }
     {
-        self.matcher.first(self.items.as_slice(), &Beside::new(c))
+        self.index.first(self.items.as_slice(), &Beside::new(c))
     }
 }

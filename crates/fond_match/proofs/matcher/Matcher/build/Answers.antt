@@ -12,8 +12,8 @@ grow-requires g c =
     let Q : List ℕ → Type 0 = λ numbers. All P numbers in
     subst Q (sym c.in_ok-numbers.ensures) (All-from_members P (range_with_len 0 count) (range_below count))
 
-pub returns : goal.returns
-returns g c =
+pub returns-clause-of : goal.returns-clause-of
+returns-clause-of g c =
     let items = c.args.items.now in
     let cubes = map g.T.HasCube.cube items in
     let P : List ℕ → Type 0 = λ numbers. Keeps cubes (λ _. numbers) (λ has. visits has c.in_ok-root.root) in
