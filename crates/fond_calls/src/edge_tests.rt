@@ -3,6 +3,7 @@ use fond_edge::host_sink::HostSink;
 use fond_edge::lists::{Calls, ShelfFiles};
 use fond_edge::memory_shelf::MemoryShelf;
 use fond_edge::memory_sink::MemorySink;
+use fond_edge::pen::Pen;
 use fond_edge::send::send;
 use fond_edge::shelf::{FetchFault, Shelf, ShelfFile};
 use fond_edge::sink::{Failed, Sink};
@@ -33,6 +34,17 @@ fn a_sink_in_memory_takes_a_text(rt: HostRuntime) -> Result<(), Fail> {
     let mut sink = MemorySink::new(rt.alloc(), 5, 2, Calls::new(rt.alloc()))?;
     assert_eq!(rt; send(&mut sink, b"abc"), Ok(()));
     assert_eq!(rt; sink.bytes(), b"abc".as_slice());
+    Ok(())
+}
+
+#[test]
+fn a_pen_writes_what_was_put(rt: HostRuntime) -> Result<(), Fail> {
+    let mut sink = MemorySink::new(rt.alloc(), 5, 2, Calls::new(rt.alloc()))?;
+    let mut pen = Pen::new();
+    assert_eq!(rt; pen.put(&mut sink, b"abc"), Ok(()));
+    assert_eq!(rt; pen.put(&mut sink, b"de"), Ok(()));
+    assert_eq!(rt; pen.finish(&mut sink), Ok(()));
+    assert_eq!(rt; sink.bytes(), b"abcde".as_slice());
     Ok(())
 }
 

@@ -11,7 +11,7 @@ pub record Progress (old now : Option (List ℕ)) (bytes rest : List ℕ) : Type
   pub split : front ++ rest ≡ bytes
   pub appended : Appended old now front
 
-appended_twice : (old now new : Option (List ℕ)) (front more : List ℕ) → Appended old now front → Appended now new more → Appended old new (front ++ more)
+pub appended_twice : (old now new : Option (List ℕ)) (front more : List ℕ) → Appended old now front → Appended now new more → Appended old new (front ++ more)
 appended_twice None now new front more first second = rw first at second
 appended_twice (Some written) now new front more first second =
     (rw first at second) ∙ ap Some (append_assoc written front more)

@@ -4,4 +4,6 @@ pub mod Files
 pub mod HostSinkState
 pub mod MemoryShelfState
 pub mod MemorySinkState
+pub mod PenState
+pub mod Pens
 pub mod Written

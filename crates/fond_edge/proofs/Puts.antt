@@ -1,0 +1,168 @@
+-- Bytes that are put one after the other.
+use Rattle.std.proofs.Common.{◌≡◌, ℕ, ◌+◌, inl, inr, ◌≤◌, Bool, true, false, List, [], ◌++◌, length, take, Option, None, Some, Result, Ok, Err, OnOk, OnErr, refl, sym, subst, ap, ◌∙◌, arith, append-nil, append_assoc, length-append}
+use Rattle.std.proofs.Math.Seq.{take-append-add}
+use Rattle.std.proofs.lemmas.Bool.{false≢true}
+use Rattle.std.proofs.lemmas.List.{take-append-le}
+use Rattle.fond_edge.specs.Faults.{Rose}
+use Rattle.fond_edge.specs.Written.{Appended, AppendedPart}
+use Rattle.fond_edge.specs.PenState.{PenState}
+use Rattle.fond_edge.specs.Pens.{Flow, flow, IsPut, IsLost, Adds}
+use Rattle.fond_edge.proofs.Progress.{appended_twice}
+
+-- a part of the later bytes after all of the earlier ones
+part_after : (old now new : Option (List ℕ)) (front bytes : List ℕ) → Appended old now front → AppendedPart now new bytes → AppendedPart old new (front ++ bytes)
+part_after old now new front bytes first part = record {
+  count = length front + part.count;
+  proper = omega (arith, part.proper, length-append front bytes);
+  appended =
+      rw (take-append-add front bytes part.count) (appended_twice old now new front (take part.count bytes) first part.appended);
+}
+
+-- a part of bytes is a part of more bytes
+part_of_more : (old new : Option (List ℕ)) (bytes more : List ℕ) → AppendedPart old new bytes → AppendedPart old new (bytes ++ more)
+part_of_more old new bytes more part = record {
+  count = part.count;
+  proper = omega (arith, part.proper, length-append bytes more);
+  appended =
+      let within : part.count ≤ length bytes = omega (arith, part.proper) in
+      rw (take-append-le part.count bytes more within) part.appended;
+}
+
+rose_then : (a b c : ℕ) → Rose a b → b ≤ c → Rose a c
+rose_then a b c rose le = omega (arith, rose, le)
+
+then_rose : (a b c : ℕ) → a ≤ b → Rose b c → Rose a c
+then_rose a b c le rose = omega (arith, rose, le)
+
+module _ (before now after : Flow) (bytes more : List ℕ) where
+  pub put_twice : IsPut before now bytes → IsPut now after more → IsPut before after (bytes ++ more)
+  put_twice first second = record {
+    front = first.front ++ second.front;
+    appended = appended_twice before.written now.written after.written first.front second.front first.appended second.appended;
+    split =
+        append_assoc first.front second.front after.pen.pending ∙ ap (λ t. first.front ++ t) second.split
+        ∙ sym (append_assoc first.front now.pen.pending more) ∙ ap (λ t. t ++ more) first.split
+        ∙ append_assoc before.pen.pending bytes more;
+    was_sound = first.was_sound;
+    is_sound = second.is_sound;
+    counted = omega (arith, first.counted, second.counted);
+  }
+
+  pub put_then_lost : IsPut before now bytes → IsLost now after more → IsLost before after (bytes ++ more)
+  put_then_lost first second = record {
+    failed = second.failed;
+    part = λ e.
+        let whole : first.front ++ (now.pen.pending ++ more) ≡ before.pen.pending ++ (bytes ++ more) =
+        sym (append_assoc first.front now.pen.pending more) ∙ ap (λ t. t ++ more) first.split ∙ append_assoc before.pen.pending bytes more in
+        rw (sym whole) (part_after before.written now.written after.written first.front (now.pen.pending ++ more) first.appended (second.part first.is_sound));
+    rose = λ e. then_rose before.faults now.faults after.faults first.counted (second.rose first.is_sound);
+    still = λ e. absurd (false≢true (sym first.was_sound ∙ e));
+    counted = omega (arith, first.counted, second.counted);
+  }
+
+  pub lost_then : IsLost before now bytes → IsLost now after more → IsLost before after (bytes ++ more)
+  lost_then first second =
+      let still : after.written ≡ now.written = second.still first.failed in record {
+        failed = second.failed;
+        part = λ e.
+            rw (sym (append_assoc before.pen.pending bytes more))
+            (rw still (part_of_more before.written now.written (before.pen.pending ++ bytes) more (first.part e)));
+        rose = λ e. rose_then before.faults now.faults after.faults (first.rose e) second.counted;
+        still = λ e. still ∙ first.still e;
+        counted = omega (arith, first.counted, second.counted);
+      }
+
+  -- what is added one after the other is added as a whole
+  pub adds_then : Adds before now bytes → Adds now after more → Adds before after (bytes ++ more)
+  adds_then (inl first) (inl second) = inl (put_twice first second)
+  adds_then (inl first) (inr second) = inr (put_then_lost first second)
+  adds_then (inr first) (inl second) = absurd (false≢true (sym second.was_sound ∙ first.failed))
+  adds_then (inr first) (inr second) = inr (lost_then first second)
+
+nothing_appended : (written : Option (List ℕ)) → Appended written written []
+nothing_appended None = refl
+nothing_appended (Some written) = ap Some (sym (append-nil written))
+
+nothing_at : (written : Option (List ℕ)) (faults : ℕ) (pen : PenState) (failed : Bool) → pen.failed ≡ failed → Adds (flow written faults pen) (flow written faults pen) []
+nothing_at written faults pen false e = inl (record {
+  front = [];
+  appended = nothing_appended written;
+  split = sym (append-nil pen.pending);
+  was_sound = e;
+  is_sound = e;
+  counted = omega arith;
+})
+nothing_at written faults pen true e = inr (record {
+  failed = e;
+  part = λ sound. absurd (false≢true (sym sound ∙ e));
+  rose = λ sound. absurd (false≢true (sym sound ∙ e));
+  still = λ _. refl;
+  counted = omega arith;
+})
+
+-- nothing is added by doing nothing
+pub adds_nothing : (written : Option (List ℕ)) (faults : ℕ) (pen : PenState) → Adds (flow written faults pen) (flow written faults pen) []
+adds_nothing written faults pen = nothing_at written faults pen pen.failed refl
+
+-- all pending bytes were written, and then bytes past the buffer
+module _ {T E : Type 0} (w0 w1 w2 : Option (List ℕ)) (f0 f1 f2 : ℕ) (old new : PenState) (bytes : List ℕ) (sound : old.failed ≡ false)
+    (flushed : Appended w0 w1 old.pending) (up : f0 ≤ f1) (further : f1 ≤ f2) where
+  pub passed : (r : Result T E) → OnOk r (Appended w1 w2 bytes) → OnOk r (new ≡ record { pending = []; failed = false }) →
+      OnOk r (IsPut (flow w0 f0 old) (flow w2 f2 new) bytes)
+  passed (Ok _) appended same = rw same (record {
+    front = old.pending ++ bytes;
+    appended = appended_twice w0 w1 w2 old.pending bytes flushed appended;
+    split = append-nil (old.pending ++ bytes);
+    was_sound = sound;
+    is_sound = refl;
+    counted = omega (arith, up, further);
+  })
+  passed (Err _) appended same = tt
+
+  pub lost : (r : Result T E) → OnErr r (AppendedPart w1 w2 bytes) → OnErr r (Rose f1 f2) → OnErr r (new.failed ≡ true) →
+      OnErr r (IsLost (flow w0 f0 old) (flow w2 f2 new) bytes)
+  lost (Ok _) part rose failed = tt
+  lost (Err _) part rose failed = record {
+    failed = failed;
+    part = λ _. part_after w0 w1 w2 old.pending bytes flushed part;
+    rose = λ _. then_rose f0 f1 f2 up rose;
+    still = λ e. absurd (false≢true (sym sound ∙ e));
+    counted = omega (arith, up, further);
+  }
+
+-- what holds holds after an error
+pub on_err : {T E X : Type 0} (r : Result T E) → X → OnErr r X
+on_err (Ok _) holds = tt
+on_err (Err _) holds = holds
+
+-- a text was put into a new pen
+module _ (before now : Flow) (text : List ℕ) (new : before.pen ≡ record { pending = []; failed = false }) where
+  was_sound : before.pen.failed ≡ false
+  was_sound = ap (λ pen. pen.failed) new
+
+  whole_is : (front rest : List ℕ) → front ++ rest ≡ before.pen.pending ++ text → front ++ rest ≡ text
+  whole_is front rest split = split ∙ ap (λ pen. pen.pending ++ text) new
+
+  pub lost_part : IsLost before now text → AppendedPart before.written now.written text
+  lost_part first = subst (λ whole. AppendedPart before.written now.written whole) (ap (λ pen. pen.pending ++ text) new) (first.part was_sound)
+
+  pub lost_rose : IsLost before now text → Rose before.faults now.faults
+  lost_rose first = first.rose was_sound
+
+  -- and then the pen was finished
+  module _ {T E : Type 0} (last : Option (List ℕ)) (faults : ℕ) (first : IsPut before now text) where
+    pub sent_whole : (r : Result T E) → OnOk r (Appended now.written last now.pen.pending) → OnOk r (Appended before.written last text)
+    sent_whole (Ok _) second =
+        subst (λ whole. Appended before.written last whole) (whole_is first.front now.pen.pending first.split)
+        (appended_twice before.written now.written last first.front now.pen.pending first.appended second)
+    sent_whole (Err _) second = tt
+
+    pub sent_part : (r : Result T E) → (now.pen.failed ≡ false → OnErr r (AppendedPart now.written last now.pen.pending)) → OnErr r (AppendedPart before.written last text)
+    sent_part (Ok _) second = tt
+    sent_part (Err _) second =
+        subst (λ whole. AppendedPart before.written last whole) (whole_is first.front now.pen.pending first.split)
+        (part_after before.written now.written last first.front now.pen.pending first.appended (second first.is_sound))
+
+    pub sent_rose : (r : Result T E) → (now.pen.failed ≡ false → OnErr r (Rose now.faults faults)) → OnErr r (Rose before.faults faults)
+    sent_rose (Ok _) second = tt
+    sent_rose (Err _) second = then_rose before.faults now.faults faults first.counted (second first.is_sound)
