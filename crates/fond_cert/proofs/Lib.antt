@@ -12,6 +12,8 @@ pub mod Shapes
 pub mod ItemShapes
 pub mod CubeTexts
 pub mod Acts
+pub mod Appending
+pub mod Adding
 pub mod Pairs
 pub mod FairRules
 pub mod UnfairRules

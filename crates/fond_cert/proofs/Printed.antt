@@ -1,10 +1,11 @@
 -- What is printed is how certificates are written.
-use Rattle.std.proofs.Common.{◌≡◌, ℕ, ◌+◌, zero, suc, Bool, List, [], ◌∷◌, ◌++◌, Option, Some, None, map, codes, refl, sym, ap, ◌∙◌, arith, append_assoc, drop, get_or, All as Each}
+use Rattle.std.proofs.Common.{◌≡◌, ℕ, ◌+◌, ◌<◌, ◌≤◌, length, zero, suc, Bool, List, [], ◌∷◌, ◌++◌, Option, Some, None, map, codes, refl, sym, ap, ◌∙◌, arith, append_assoc, drop, get_or, All as Each}
 use Rattle.std.specs.Prelude.{slice_get}
 use Rattle.std.specs.Fmt.{decimal}
 use Rattle.std.specs.List.{filter_map, flat_map, enumerate_from, cons_option}
 use Rattle.std.specs.Option.{option_map, option_map_or}
 use Rattle.std.proofs.lemmas.Grind.{flat_map-append}
+use Rattle.std.proofs.lemmas.List.{append-nil, at_drop_more}
 use Rattle.std.proofs.lemmas.Option.{slice_get-get_or}
 use Rattle.fond_text.specs.declared.atom.Atom.{Atom}
 use Rattle.fond_task.specs.declared.task.Act.{Act}
@@ -63,13 +64,31 @@ drop_at [] i x e = absurd (cc)
 drop_at (y ∷ xs) zero x e = ap (λ o. item_of y o ∷ xs) e
 drop_at (y ∷ xs) (suc i) x e = drop_at xs i x e
 
--- what is left of a text after the next item
-pub next_text : {X : Type 0} (f : X → List ℕ) (xs : List X) (i : ℕ) (x : X) (before after whole : List ℕ) → slice_get xs i ≡ Some x → before ++ flat_map f (drop i xs) ≡ whole → after ≡ before ++ f x →
-    after ++ flat_map f (drop (i + 1) xs) ≡ whole
-next_text f xs i x before after whole at e is =
+-- the text of the items from this one on
+pub next_item : {X : Type 0} (f : X → List ℕ) (xs : List X) (i : ℕ) (x : X) → slice_get xs i ≡ Some x → flat_map f (drop i xs) ≡ f x ++ flat_map f (drop (i + 1) xs)
+next_item f xs i x at =
     let one : i + 1 ≡ suc i = omega arith in
-    rw one
-    (ap (λ t. t ++ flat_map f (drop (suc i) xs)) is ∙ append_assoc before (f x) (flat_map f (drop (suc i) xs)) ∙ ap (λ l. before ++ flat_map f l) (sym (drop_at xs i x at)) ∙ e)
+    rw one (ap (flat_map f) (drop_at xs i x at))
+
+-- a text of the items from this one on
+pub next_of : {X : Type 0} (F : List X → List ℕ) (xs : List X) (i : ℕ) (x : X) → i < length xs → x ≡ get_or xs i x → F (drop i xs) ≡ F (x ∷ drop (i + 1) xs)
+next_of F xs i x lt at = at_drop_more F xs i x lt ∙ ap (λ y. F (y ∷ drop (i + 1) xs)) (sym at)
+
+-- a text of the items past the last one
+pub none_of : {X : Type 0} (F : List X → List ℕ) (xs : List X) (i : ℕ) → length xs ≤ i → F (drop i xs) ≡ F []
+none_of F [] zero le = refl
+none_of F [] (suc i) le = refl
+none_of F (x ∷ xs) zero le = absurd (omega (arith, le))
+none_of F (x ∷ xs) (suc i) le = none_of F xs i (omega (arith, le))
+
+number_line : (number : ℕ) → decimal number ++ codes "\n" ≡ (decimal number ++ []) ++ codes "\n"
+number_line number = ap (λ t. t ++ codes "\n") (sym (append-nil (decimal number)))
+
+pub reach_is : (reach : ℕ) → codes "reach " ++ (decimal reach ++ codes "\n") ≡ fed (ReachLine (decimal reach))
+reach_is reach = ap (λ t. codes "reach " ++ t) (number_line reach)
+
+pub start_is : (start : ℕ) → codes "start " ++ (decimal start ++ codes "\n") ≡ fed (StartLine (decimal start))
+start_is start = ap (λ t. codes "start " ++ t) (number_line start)
 
 -- lines of which each item makes several, item by item
 pub several_lines : {X : Type 0} (f : X → List WrittenLine) (xs : List X) → lines_text (flat_map f xs) ≡ flat_map (λ (x : X). lines_text (f x)) xs

@@ -1,6 +1,6 @@
 //! The text of certificates. A text is read as the certificate that it spells over the actions and atoms of a task, or
-//! refused with the code and the byte of its first fault; a certificate is printed in its one spelling. Whether a
-//! certificate is correct is left to others.
+//! refused with the code and the byte of its first fault; a certificate is printed in its one spelling, as a whole or in
+//! pieces. Whether a certificate is correct is left to others.
 #![tactic(auto)]
 
 mod cut;
@@ -15,6 +15,7 @@ pub mod laws;
 mod line;
 mod lines;
 mod literal;
+mod names;
 mod part;
 mod place;
 pub mod print;
@@ -22,4 +23,5 @@ mod put;
 pub mod read;
 mod scan;
 mod target;
+pub mod text;
 mod word;

@@ -1,17 +1,25 @@
-//! Printing a certificate.
+//! Printing a certificate, into a pen or at the end of a text. A failure of the sink is remembered by the pen, so that the
+//! functions for the parts answer nothing.
 
 ghost use Rattle.fond_policy.specs.Belongs.{Belongs};
 ghost use Rattle.fond_cert.specs.Items.{IsPairOf, IsRuleOf};
 ghost use Rattle.fond_cert.specs.Lines.{CubeLine, ReachLine, StartLine};
-ghost use Rattle.fond_cert.specs.Printed.{fed, chosen_text, places_text, cond_text, pair_text, rule_text, layer_text, way_text, item_text, plan_text, policy_text, items_text, cover_text, refusal_text};
-ghost use Rattle.fond_cert.specs.Spellings.{written_cube, spelling};
+ghost use Rattle.fond_cert.specs.Printed.{fed, chosen_text, places_text, cond_text, pair_text, rule_text, layer_text, way_text, item_text, plan_text, items_text};
+ghost use Rattle.fond_cert.specs.Spellings.{written_cube, lines_text, spelling};
+ghost use Rattle.fond_edge.specs.Pens.{flow, IsPut, IsLost, Adds};
+ghost use Rattle.fond_game.specs.Layers.{CubeView};
 ghost use Rattle.std.specs.Fmt.{decimal};
 ghost use Rattle.std.specs.List.{flat_map};
-ghost use Rattle.std.specs.Prelude.{◌≡◌, ◌++◌, ℕ, List, All, codes, OnOk, OnErr};
+ghost use Rattle.std.specs.Prelude.{◌≡◌, ◌++◌, ℕ, List, All, codes, map, OnOk, OnErr};
 
-use crate::put::{put_act, put_cube, put_item_numbers, put_spaced, put_target, put_targets};
+use crate::put::{
+    put_act, put_cube, put_item_numbers, put_number, put_spaced, put_target, put_targets,
+};
 use fond_cover::item::{Item, Way};
 use fond_cover::items::Items;
+use fond_edge::pen::Pen;
+use fond_edge::send::WriteFault;
+use fond_edge::sink::Sink;
 use fond_game::rule::{Pair, Rule, Targets};
 use fond_layers::layers::{Layer, Layers};
 use fond_policy::cert::Cert;
@@ -20,277 +28,226 @@ use fond_rules::rules::Rules;
 use fond_state::cube::Cube;
 use fond_task::task::Task;
 use fond_text::fault::NoMemory;
-use fond_text::number::put_number;
-use std::alloc::Global;
 
-/// Appends the line of a cube.
-fn put_cube_line(task: &Task, cube: &Cube, out: &mut Vec<u8>) -> Result<(), NoMemory>
-    ensures ok { OnOk result (out.new.items ≡ out.old.items ++ fed (CubeLine (written_cube task.now cube.now))) }
-    ensures grew { (more : List ℕ) × (out.new.items ≡ out.old.items ++ more) }
+/// Adds the line of a cube.
+fn put_cube_line<K: Sink>(task: &Task, cube: &Cube, pen: &mut Pen, sink: &mut K)
+    ensures { Adds (flow (K.written sink.old) (K.faults sink.old) pen.old)
+        (flow (K.written sink.new) (K.faults sink.new) pen.new) (fed (CubeLine (written_cube task.now cube.now))) }
 {
-    out.extend_from_slice(b"cube")?;
-    put_cube(task, cube, out)?;
-    out.extend_from_slice(b"\n")?;
-    Ok(())
+    pen.add(sink, b"cube");
+    put_cube(task, cube, pen, sink);
+    pen.add(sink, b"\n");
 }
 
-/// Appends the lines of a layer.
-fn put_layer(task: &Task, layer: &Layer, out: &mut Vec<u8>) -> Result<(), NoMemory>
-    ensures ok { OnOk result (out.new.items ≡ out.old.items ++ layer_text task.now layer.now) }
-    ensures grew { (more : List ℕ) × (out.new.items ≡ out.old.items ++ more) }
+/// Adds the lines of a layer's cubes.
+fn put_cube_lines<K: Sink>(task: &Task, layer: &Layer, pen: &mut Pen, sink: &mut K)
+    ensures { Adds (flow (K.written sink.old) (K.faults sink.old) pen.old)
+        (flow (K.written sink.new) (K.faults sink.new) pen.new) (lines_text (map (λ (cube : CubeView). CubeLine (written_cube task.now cube)) layer.now)) }
 {
-    out.extend_from_slice(b"layer\n")?;
     for cube in layer.as_slice() {
-        put_cube_line(task, cube, out)?;
+        put_cube_line(task, cube, pen, sink);
     }
-    Ok(())
 }
 
-/// Appends the lines of layers.
-fn put_layers(task: &Task, layers: &Layers, out: &mut Vec<u8>) -> Result<(), NoMemory>
-    ensures ok { OnOk result (out.new.items ≡ out.old.items ++ flat_map (layer_text task.now) layers.now) }
-    ensures grew { (more : List ℕ) × (out.new.items ≡ out.old.items ++ more) }
+/// Adds the lines of a layer.
+fn put_layer<K: Sink>(task: &Task, layer: &Layer, pen: &mut Pen, sink: &mut K)
+    ensures { Adds (flow (K.written sink.old) (K.faults sink.old) pen.old)
+        (flow (K.written sink.new) (K.faults sink.new) pen.new) (layer_text task.now layer.now) }
+{
+    pen.add(sink, b"layer\n");
+    put_cube_lines(task, layer, pen, sink);
+}
+
+/// Adds the lines of layers.
+fn put_layers<K: Sink>(task: &Task, layers: &Layers, pen: &mut Pen, sink: &mut K)
+    ensures { Adds (flow (K.written sink.old) (K.faults sink.old) pen.old)
+        (flow (K.written sink.new) (K.faults sink.new) pen.new) (flat_map (layer_text task.now) layers.now) }
 {
     for i in 0..layers.len() {
-        put_layer(task, layers.get(i), out)?;
+        put_layer(task, layers.get(i), pen, sink);
     }
-    Ok(())
 }
 
-/// Appends a condition at the end of a line.
-fn put_cond(task: &Task, cond: &Cube, out: &mut Vec<u8>) -> Result<(), NoMemory>
-    ensures ok { OnOk result (out.new.items ≡ out.old.items ++ cond_text task.now cond.now) }
-    ensures grew { (more : List ℕ) × (out.new.items ≡ out.old.items ++ more) }
+/// Adds a condition at the end of a line.
+fn put_cond<K: Sink>(task: &Task, cond: &Cube, pen: &mut Pen, sink: &mut K)
+    ensures { Adds (flow (K.written sink.old) (K.faults sink.old) pen.old)
+        (flow (K.written sink.new) (K.faults sink.new) pen.new) (cond_text task.now cond.now) }
 {
-    out.extend_from_slice(b" :")?;
-    put_cube(task, cond, out)?;
-    out.extend_from_slice(b"\n")?;
-    Ok(())
+    pen.add(sink, b" :");
+    put_cube(task, cond, pen, sink);
+    pen.add(sink, b"\n");
 }
 
-/// Appends the numbers of a pair, each after a space.
-fn put_places(pair: &Pair, out: &mut Vec<u8>) -> Result<(), NoMemory>
-    ensures ok { OnOk result (out.new.items ≡ out.old.items ++ places_text pair.now) }
-    ensures grew { (more : List ℕ) × (out.new.items ≡ out.old.items ++ more) }
+/// Adds the numbers of a pair, each after a space.
+fn put_places<K: Sink>(pair: &Pair, pen: &mut Pen, sink: &mut K)
+    ensures { Adds (flow (K.written sink.old) (K.faults sink.old) pen.old)
+        (flow (K.written sink.new) (K.faults sink.new) pen.new) (places_text pair.now) }
 {
-    put_spaced(pair.outcome, out)?;
-    put_spaced(pair.layer, out)?;
-    put_spaced(pair.cube, out)
+    put_spaced(pair.outcome, pen, sink);
+    put_spaced(pair.layer, pen, sink);
+    put_spaced(pair.cube, pen, sink);
 }
 
-/// Appends the line of a pair.
-fn put_pair(task: &Task, pair: &Pair, out: &mut Vec<u8>) -> Result<(), NoMemory>
+/// Adds the line of a pair.
+fn put_pair<K: Sink>(task: &Task, pair: &Pair, pen: &mut Pen, sink: &mut K)
     requires { IsPairOf task.now pair.now }
-    ensures ok { OnOk result (out.new.items ≡ out.old.items ++ pair_text task.now pair.now) }
-    ensures grew { (more : List ℕ) × (out.new.items ≡ out.old.items ++ more) }
+    ensures { Adds (flow (K.written sink.old) (K.faults sink.old) pen.old)
+        (flow (K.written sink.new) (K.faults sink.new) pen.new) (pair_text task.now pair.now) }
 {
-    out.extend_from_slice(b"pair ")?;
-    put_act(task, pair.act, out)?;
-    put_places(pair, out)?;
-    put_cond(task, &pair.cond, out)
+    pen.add(sink, b"pair ");
+    put_act(task, pair.act, pen, sink);
+    put_places(pair, pen, sink);
+    put_cond(task, &pair.cond, pen, sink);
 }
 
-/// Appends the lines of pairs.
-fn put_pairs(task: &Task, pairs: &Pairs, out: &mut Vec<u8>) -> Result<(), NoMemory>
+/// Adds the lines of pairs.
+fn put_pairs<K: Sink>(task: &Task, pairs: &Pairs, pen: &mut Pen, sink: &mut K)
     requires { All (IsPairOf task.now) pairs.now }
-    ensures ok { OnOk result (out.new.items ≡ out.old.items ++ flat_map (pair_text task.now) pairs.now) }
-    ensures grew { (more : List ℕ) × (out.new.items ≡ out.old.items ++ more) }
+    ensures { Adds (flow (K.written sink.old) (K.faults sink.old) pen.old)
+        (flow (K.written sink.new) (K.faults sink.new) pen.new) (flat_map (pair_text task.now) pairs.now) }
 {
     for i in 0..pairs.len() {
-        put_pair(task, pairs.get(i), out)?;
+        put_pair(task, pairs.get(i), pen, sink);
     }
-    Ok(())
 }
 
-/// Appends the targets of a rule, after its action.
-fn put_rule_targets(targets: &Targets, out: &mut Vec<u8>) -> Result<(), NoMemory>
-    ensures ok { OnOk result (out.new.items ≡ out.old.items ++ chosen_text targets.now) }
-    ensures grew { (more : List ℕ) × (out.new.items ≡ out.old.items ++ more) }
+/// Adds the targets of a rule, after its action.
+fn put_rule_targets<K: Sink>(targets: &Targets, pen: &mut Pen, sink: &mut K)
+    ensures { Adds (flow (K.written sink.old) (K.faults sink.old) pen.old)
+        (flow (K.written sink.new) (K.faults sink.new) pen.new) (chosen_text targets.now) }
 {
     match targets {
         Targets::One { outcome, target } => {
-            out.extend_from_slice(b" fair ")?;
-            put_number(out, *outcome as u64)?;
-            out.extend_from_slice(b" ")?;
-            put_target(*target, out)
+            pen.add(sink, b" fair ");
+            put_number(*outcome as u64, pen, sink);
+            pen.add(sink, b" ");
+            put_target(*target, pen, sink);
         }
         Targets::All(targets) => {
-            out.extend_from_slice(b" unfair")?;
-            put_targets(targets, out)
+            pen.add(sink, b" unfair");
+            put_targets(targets, pen, sink);
         }
     }
 }
 
-/// Appends the line of a rule.
-fn put_rule(task: &Task, rule: &Rule, out: &mut Vec<u8>) -> Result<(), NoMemory>
+/// Adds the line of a rule.
+fn put_rule<K: Sink>(task: &Task, rule: &Rule, pen: &mut Pen, sink: &mut K)
     requires { IsRuleOf task.now rule.now }
-    ensures ok { OnOk result (out.new.items ≡ out.old.items ++ rule_text task.now rule.now) }
-    ensures grew { (more : List ℕ) × (out.new.items ≡ out.old.items ++ more) }
+    ensures { Adds (flow (K.written sink.old) (K.faults sink.old) pen.old)
+        (flow (K.written sink.new) (K.faults sink.new) pen.new) (rule_text task.now rule.now) }
 {
-    out.extend_from_slice(b"rule ")?;
-    put_act(task, rule.act, out)?;
-    put_rule_targets(&rule.targets, out)?;
-    put_cond(task, &rule.cond, out)
+    pen.add(sink, b"rule ");
+    put_act(task, rule.act, pen, sink);
+    put_rule_targets(&rule.targets, pen, sink);
+    put_cond(task, &rule.cond, pen, sink);
 }
 
-/// Appends the lines of rules.
-fn put_rules(task: &Task, rules: &Rules, out: &mut Vec<u8>) -> Result<(), NoMemory>
+/// Adds the lines of rules.
+fn put_rules<K: Sink>(task: &Task, rules: &Rules, pen: &mut Pen, sink: &mut K)
     requires { All (IsRuleOf task.now) rules.now }
-    ensures ok { OnOk result (out.new.items ≡ out.old.items ++ flat_map (rule_text task.now) rules.now) }
-    ensures grew { (more : List ℕ) × (out.new.items ≡ out.old.items ++ more) }
+    ensures { Adds (flow (K.written sink.old) (K.faults sink.old) pen.old)
+        (flow (K.written sink.new) (K.faults sink.new) pen.new) (flat_map (rule_text task.now) rules.now) }
 {
     for i in 0..rules.len() {
-        put_rule(task, rules.get(i), out)?;
+        put_rule(task, rules.get(i), pen, sink);
     }
-    Ok(())
 }
 
-/// Appends the reach line.
-fn put_reach(reach: u64, out: &mut Vec<u8>) -> Result<(), NoMemory>
-    ensures ok { OnOk result (out.new.items ≡ out.old.items ++ fed (ReachLine (decimal reach))) }
-    ensures grew { (more : List ℕ) × (out.new.items ≡ out.old.items ++ more) }
+/// Adds the reach line.
+fn put_reach<K: Sink>(reach: u64, pen: &mut Pen, sink: &mut K)
+    ensures { Adds (flow (K.written sink.old) (K.faults sink.old) pen.old)
+        (flow (K.written sink.new) (K.faults sink.new) pen.new) (fed (ReachLine (decimal reach))) }
 {
-    out.extend_from_slice(b"reach ")?;
-    put_number(out, reach)?;
-    out.extend_from_slice(b"\n")?;
-    Ok(())
+    pen.add(sink, b"reach ");
+    put_number(reach, pen, sink);
+    pen.add(sink, b"\n");
 }
 
-/// Appends the start line.
-fn put_start(start: u32, out: &mut Vec<u8>) -> Result<(), NoMemory>
-    ensures ok { OnOk result (out.new.items ≡ out.old.items ++ fed (StartLine (decimal start))) }
-    ensures grew { (more : List ℕ) × (out.new.items ≡ out.old.items ++ more) }
+/// Adds the start line.
+fn put_start<K: Sink>(start: u32, pen: &mut Pen, sink: &mut K)
+    ensures { Adds (flow (K.written sink.old) (K.faults sink.old) pen.old)
+        (flow (K.written sink.new) (K.faults sink.new) pen.new) (fed (StartLine (decimal start))) }
 {
-    out.extend_from_slice(b"start ")?;
-    put_number(out, start as u64)?;
-    out.extend_from_slice(b"\n")?;
-    Ok(())
+    pen.add(sink, b"start ");
+    put_number(start as u64, pen, sink);
+    pen.add(sink, b"\n");
 }
 
-/// Appends a way, after the word of its line.
-fn put_way(way: &Way, out: &mut Vec<u8>) -> Result<(), NoMemory>
-    ensures ok { OnOk result (out.new.items ≡ out.old.items ++ way_text way.now) }
-    ensures grew { (more : List ℕ) × (out.new.items ≡ out.old.items ++ more) }
+/// Adds a way, after the word of its line.
+fn put_way<K: Sink>(way: &Way, pen: &mut Pen, sink: &mut K)
+    ensures { Adds (flow (K.written sink.old) (K.faults sink.old) pen.old)
+        (flow (K.written sink.new) (K.faults sink.new) pen.new) (way_text way.now) }
 {
     match way {
-        Way::Goal => {
-            out.extend_from_slice(b"goal")?;
-            Ok(())
-        }
+        Way::Goal => pen.add(sink, b"goal"),
         Way::Rule { rule, items } => {
-            put_number(out, *rule as u64)?;
-            put_item_numbers(items, out)
+            put_number(*rule as u64, pen, sink);
+            put_item_numbers(items, pen, sink);
         }
     }
 }
 
-/// Appends the line of an item.
-fn put_item(task: &Task, item: &Item, out: &mut Vec<u8>) -> Result<(), NoMemory>
-    ensures ok { OnOk result (out.new.items ≡ out.old.items ++ item_text task.now item.now) }
-    ensures grew { (more : List ℕ) × (out.new.items ≡ out.old.items ++ more) }
+/// Adds the line of an item.
+fn put_item<K: Sink>(task: &Task, item: &Item, pen: &mut Pen, sink: &mut K)
+    ensures { Adds (flow (K.written sink.old) (K.faults sink.old) pen.old)
+        (flow (K.written sink.new) (K.faults sink.new) pen.new) (item_text task.now item.now) }
 {
-    out.extend_from_slice(b"item ")?;
-    put_way(&item.way, out)?;
-    put_cond(task, &item.cube, out)
+    pen.add(sink, b"item ");
+    put_way(&item.way, pen, sink);
+    put_cond(task, &item.cube, pen, sink);
 }
 
-/// Appends the lines of items.
-fn put_items(task: &Task, items: &Items, out: &mut Vec<u8>) -> Result<(), NoMemory>
-    ensures ok { OnOk result (out.new.items ≡ out.old.items ++ flat_map (item_text task.now) items.now) }
-    ensures grew { (more : List ℕ) × (out.new.items ≡ out.old.items ++ more) }
+/// Adds the lines of items.
+fn put_items<K: Sink>(task: &Task, items: &Items, pen: &mut Pen, sink: &mut K)
+    ensures { Adds (flow (K.written sink.old) (K.faults sink.old) pen.old)
+        (flow (K.written sink.new) (K.faults sink.new) pen.new) (flat_map (item_text task.now) items.now) }
 {
     for i in 0..items.len() {
-        put_item(task, items.get(i), out)?;
+        put_item(task, items.get(i), pen, sink);
     }
-    Ok(())
 }
 
-/// Appends the lines of items and the start line.
-fn put_cover(task: &Task, items: &Items, start: u32, out: &mut Vec<u8>) -> Result<(), NoMemory>
-    ensures ok { OnOk result (out.new.items ≡ out.old.items ++ items_text task.now items.now start) }
-    ensures grew { (more : List ℕ) × (out.new.items ≡ out.old.items ++ more) }
+/// Adds the lines of items and the start line.
+fn put_cover<K: Sink>(task: &Task, items: &Items, start: u32, pen: &mut Pen, sink: &mut K)
+    ensures { Adds (flow (K.written sink.old) (K.faults sink.old) pen.old)
+        (flow (K.written sink.new) (K.faults sink.new) pen.new) (items_text task.now items.now start) }
 {
-    put_items(task, items, out)?;
-    put_start(start, out)
+    put_items(task, items, pen, sink);
+    put_start(start, pen, sink);
 }
 
-/// Appends the lines of layers, pairs and rules.
-fn put_plan(
+/// Adds the lines of layers, pairs and rules.
+fn put_plan<K: Sink>(
     task: &Task,
     layers: &Layers,
     pairs: &Pairs,
     rules: &Rules,
-    out: &mut Vec<u8>,
-) -> Result<(), NoMemory>
+    pen: &mut Pen,
+    sink: &mut K,
+)
     requires pairs { All (IsPairOf task.now) pairs.now }
     requires rules { All (IsRuleOf task.now) rules.now }
-    ensures ok { OnOk result (out.new.items ≡ out.old.items ++ plan_text task.now layers.now pairs.now rules.now) }
-    ensures grew { (more : List ℕ) × (out.new.items ≡ out.old.items ++ more) }
+    ensures { Adds (flow (K.written sink.old) (K.faults sink.old) pen.old)
+        (flow (K.written sink.new) (K.faults sink.new) pen.new) (plan_text task.now layers.now pairs.now rules.now) }
 {
-    put_layers(task, layers, out)?;
-    put_pairs(task, pairs, out)?;
-    put_rules(task, rules, out)
+    put_layers(task, layers, pen, sink);
+    put_pairs(task, pairs, pen, sink);
+    put_rules(task, rules, pen, sink);
 }
 
-/// Appends the lines of a policy with a reach number.
-fn put_policy(
-    task: &Task,
-    layers: &Layers,
-    pairs: &Pairs,
-    rules: &Rules,
-    reach: u64,
-    out: &mut Vec<u8>,
-) -> Result<(), NoMemory>
-    requires pairs { All (IsPairOf task.now) pairs.now }
-    requires rules { All (IsRuleOf task.now) rules.now }
-    ensures ok { OnOk result (out.new.items ≡ out.old.items ++ policy_text task.now layers.now pairs.now rules.now reach) }
-    ensures grew { (more : List ℕ) × (out.new.items ≡ out.old.items ++ more) }
+/// Adds the last line.
+fn put_end<K: Sink>(pen: &mut Pen, sink: &mut K)
+    ensures { Adds (flow (K.written sink.old) (K.faults sink.old) pen.old)
+        (flow (K.written sink.new) (K.faults sink.new) pen.new) (codes "end\n") }
 {
-    out.extend_from_slice(b"dualfond 1 policy\n")?;
-    put_plan(task, layers, pairs, rules, out)?;
-    put_reach(reach, out)?;
-    out.extend_from_slice(b"end\n")?;
-    Ok(())
+    pen.add(sink, b"end\n");
 }
 
-/// Appends the lines of a policy with a cover.
-fn put_covered(
-    task: &Task,
-    layers: &Layers,
-    pairs: &Pairs,
-    rules: &Rules,
-    items: &Items,
-    start: u32,
-    out: &mut Vec<u8>,
-) -> Result<(), NoMemory>
-    requires pairs { All (IsPairOf task.now) pairs.now }
-    requires rules { All (IsRuleOf task.now) rules.now }
-    ensures ok { OnOk result (out.new.items ≡ out.old.items ++ cover_text task.now layers.now pairs.now rules.now items.now start) }
-    ensures grew { (more : List ℕ) × (out.new.items ≡ out.old.items ++ more) }
-{
-    out.extend_from_slice(b"dualfond 2 policy\n")?;
-    put_plan(task, layers, pairs, rules, out)?;
-    put_cover(task, items, start, out)?;
-    out.extend_from_slice(b"end\n")?;
-    Ok(())
-}
-
-/// Appends the lines of a refusal.
-fn put_refusal(task: &Task, layers: &Layers, out: &mut Vec<u8>) -> Result<(), NoMemory>
-    ensures ok { OnOk result (out.new.items ≡ out.old.items ++ refusal_text task.now layers.now) }
-    ensures grew { (more : List ℕ) × (out.new.items ≡ out.old.items ++ more) }
-{
-    out.extend_from_slice(b"dualfond 1 refusal\n")?;
-    put_layers(task, layers, out)?;
-    out.extend_from_slice(b"end\n")?;
-    Ok(())
-}
-
-/// Appends the lines of a certificate.
-fn put_lines(task: &Task, cert: &Cert, out: &mut Vec<u8>) -> Result<(), NoMemory>
+/// Adds the lines of a certificate.
+fn put_lines<K: Sink>(task: &Task, cert: &Cert, pen: &mut Pen, sink: &mut K)
     requires { Belongs task.now cert.now }
-    ensures ok { OnOk result (out.new.items ≡ out.old.items ++ spelling task.now cert.now) }
-    ensures grew { (more : List ℕ) × (out.new.items ≡ out.old.items ++ more) }
+    ensures { Adds (flow (K.written sink.old) (K.faults sink.old) pen.old)
+        (flow (K.written sink.new) (K.faults sink.new) pen.new) (spelling task.now cert.now) }
 {
     match cert {
         Cert::Policy {
@@ -298,16 +255,62 @@ fn put_lines(task: &Task, cert: &Cert, out: &mut Vec<u8>) -> Result<(), NoMemory
             pairs,
             rules,
             reach,
-        } => put_policy(task, layers, pairs, rules, *reach, out),
-        Cert::Refusal { layers } => put_refusal(task, layers, out),
+        } => {
+            pen.add(sink, b"dualfond 1 policy\n");
+            put_plan(task, layers, pairs, rules, pen, sink);
+            put_reach(*reach, pen, sink);
+            put_end(pen, sink);
+        }
+        Cert::Refusal { layers } => {
+            pen.add(sink, b"dualfond 1 refusal\n");
+            put_layers(task, layers, pen, sink);
+            put_end(pen, sink);
+        }
         Cert::Covered {
             layers,
             pairs,
             rules,
             items,
             start,
-        } => put_covered(task, layers, pairs, rules, items, *start, out),
+        } => {
+            pen.add(sink, b"dualfond 2 policy\n");
+            put_plan(task, layers, pairs, rules, pen, sink);
+            put_cover(task, items, *start, pen, sink);
+            put_end(pen, sink);
+        }
     }
+}
+
+/// Puts the text of a certificate into a pen. Takes time in the length of the text, and in the number of the task's atoms
+/// for each cube, pair, rule and item; no memory.
+pub fn send_cert<K: Sink>(
+    task: &Task,
+    cert: &Cert,
+    pen: &mut Pen,
+    sink: &mut K,
+) -> Result<(), WriteFault>
+    requires { Belongs task.now cert.now }
+    ensures ok { OnOk result (IsPut (flow (K.written sink.old) (K.faults sink.old) pen.old)
+        (flow (K.written sink.new) (K.faults sink.new) pen.new) (spelling task.now cert.now)) }
+    ensures err { OnErr result (IsLost (flow (K.written sink.old) (K.faults sink.old) pen.old)
+        (flow (K.written sink.new) (K.faults sink.new) pen.new) (spelling task.now cert.now)) }
+{
+    put_lines(task, cert, pen, sink);
+    if pen.has_failed() {
+        return Err(WriteFault);
+    }
+    Ok(())
+}
+
+/// Appends the text of a certificate, or a part of it if memory runs out.
+fn append_cert(task: &Task, cert: &Cert, out: &mut Vec<u8>) -> Result<(), WriteFault>
+    requires { Belongs task.now cert.now }
+    ensures ok { OnOk result (out.new.items ≡ out.old.items ++ spelling task.now cert.now) }
+    ensures part { OnErr result ((more : List ℕ) × (out.new.items ≡ out.old.items ++ more)) }
+{
+    let mut pen = Pen::new();
+    send_cert(task, cert, &mut pen, out)?;
+    pen.finish(out)
 }
 
 /// Appends the text of a certificate, or nothing if memory runs out. Takes time in the length of the text, and in the
@@ -318,11 +321,11 @@ pub fn print_cert(task: &Task, cert: &Cert, out: &mut Vec<u8>) -> Result<(), NoM
     ensures err { OnErr result (out.new.items ≡ out.old.items) }
 {
     let before = out.len();
-    match put_lines(task, cert, out) {
+    match append_cert(task, cert, out) {
         Ok(()) => Ok(()),
-        Err(e) => {
+        Err(WriteFault) => {
             out.truncate(before);
-            Err(e)
+            Err(NoMemory)
         }
     }
 }

@@ -1,113 +1,134 @@
-//! Printing the parts of lines. Each call takes time in the length of what it appends, and in the number of the task's
-//! atoms for each cube.
+//! Printing the parts of lines. Each call takes time in the length of what it adds, and in the number of the task's
+//! atoms for each cube, and no memory. A failure of the sink is remembered by the pen.
 
 ghost use Rattle.fond_cert.specs.Cutting.{literals_text, target_text, targets_text};
-ghost use Rattle.fond_cert.specs.Lines.{group_text, spaced};
+ghost use Rattle.fond_cert.specs.Lines.{group_text, spaced, sign_text};
 ghost use Rattle.fond_cert.specs.Printed.{atom_literal_text, cube_text};
 ghost use Rattle.fond_cert.specs.Spellings.{act_leaves, written_cube, written_target};
+ghost use Rattle.fond_edge.specs.Pens.{flow, Adds};
 ghost use Rattle.std.specs.Fmt.{decimal};
-ghost use Rattle.std.specs.Prelude.{◌≡◌, ◌++◌, ◌<◌, ℕ, List, codes, length, map, OnOk};
+ghost use Rattle.std.specs.Prelude.{◌++◌, ◌<◌, codes, length, map};
 
+use crate::names::{put_action, put_atom};
 use fond_cover::item::ItemNumbers;
+use fond_edge::pen::Pen;
+use fond_edge::sink::Sink;
 use fond_game::rule::{Target, TargetList};
 use fond_state::cube::Cube;
 use fond_task::task::{Labels, Task};
-use fond_task::text::{put_action, put_atom};
 use fond_text::atom::Atom;
-use fond_text::fault::NoMemory;
-use fond_text::number::put_number;
+use fond_text::number::Digits;
 
-/// Appends the atom's literal, if there is one.
-fn put_literal(
+/// Adds the digits of a number.
+pub(crate) fn put_number<K: Sink>(number: u64, pen: &mut Pen, sink: &mut K)
+    ensures { Adds (flow (K.written sink.old) (K.faults sink.old) pen.old)
+        (flow (K.written sink.new) (K.faults sink.new) pen.new) (decimal number) }
+{
+    let digits = Digits::of(number);
+    pen.add(sink, digits.bytes());
+}
+
+/// Adds a sign after a space.
+fn put_sign<K: Sink>(sign: bool, pen: &mut Pen, sink: &mut K)
+    ensures { Adds (flow (K.written sink.old) (K.faults sink.old) pen.old)
+        (flow (K.written sink.new) (K.faults sink.new) pen.new) (codes " " ++ sign_text sign) }
+{
+    if sign {
+        pen.add(sink, b" +");
+    } else {
+        pen.add(sink, b" -");
+    }
+}
+
+/// Adds the atom's literal, if there is one.
+fn put_literal<K: Sink>(
     labels: &Labels,
     atom: &Atom,
     literal: Option<bool>,
-    out: &mut Vec<u8>,
-) -> Result<(), NoMemory>
-    ensures ok { OnOk result (out.new.items ≡ out.old.items ++ atom_literal_text labels.now atom.now literal) }
-    ensures grew { (more : List ℕ) × (out.new.items ≡ out.old.items ++ more) }
+    pen: &mut Pen,
+    sink: &mut K,
+)
+    ensures { Adds (flow (K.written sink.old) (K.faults sink.old) pen.old)
+        (flow (K.written sink.new) (K.faults sink.new) pen.new) (atom_literal_text labels.now atom.now literal) }
 {
-    let Some(sign) = literal else {
-        return Ok(());
-    };
-    if sign {
-        out.extend_from_slice(b" +")?;
-    } else {
-        out.extend_from_slice(b" -")?;
+    if let Some(sign) = literal {
+        put_sign(sign, pen, sink);
+        put_atom(labels, atom, pen, sink);
     }
-    put_atom(labels, atom, out)
 }
 
-/// Appends the literals of the cube, atom by atom.
-fn put_literals(task: &Task, cube: &Cube, out: &mut Vec<u8>) -> Result<(), NoMemory>
-    ensures ok { OnOk result (out.new.items ≡ out.old.items ++ cube_text task.now cube.now) }
-    ensures grew { (more : List ℕ) × (out.new.items ≡ out.old.items ++ more) }
+/// Adds the literals of the cube, atom by atom.
+fn put_literals<K: Sink>(task: &Task, cube: &Cube, pen: &mut Pen, sink: &mut K)
+    ensures { Adds (flow (K.written sink.old) (K.faults sink.old) pen.old)
+        (flow (K.written sink.new) (K.faults sink.new) pen.new) (cube_text task.now cube.now) }
 {
     for (i, atom) in task.atoms.as_slice().iter().enumerate() {
-        put_literal(&task.labels, atom, cube.literal(i as u32), out)?;
+        put_literal(&task.labels, atom, cube.literal(i as u32), pen, sink);
     }
-    Ok(())
 }
 
-/// Appends the literals of the cube.
-pub(crate) fn put_cube(task: &Task, cube: &Cube, out: &mut Vec<u8>) -> Result<(), NoMemory>
-    ensures ok { OnOk result (out.new.items ≡ out.old.items ++ literals_text (written_cube task.now cube.now)) }
-    ensures grew { (more : List ℕ) × (out.new.items ≡ out.old.items ++ more) }
+/// Adds the literals of the cube.
+pub(crate) fn put_cube<K: Sink>(task: &Task, cube: &Cube, pen: &mut Pen, sink: &mut K)
+    ensures { Adds (flow (K.written sink.old) (K.faults sink.old) pen.old)
+        (flow (K.written sink.new) (K.faults sink.new) pen.new) (literals_text (written_cube task.now cube.now)) }
 {
-    put_literals(task, cube, out)
+    put_literals(task, cube, pen, sink);
 }
 
-/// Appends the action of this number.
-pub(crate) fn put_act(task: &Task, act: u32, out: &mut Vec<u8>) -> Result<(), NoMemory>
+/// Adds the action of this number.
+pub(crate) fn put_act<K: Sink>(task: &Task, act: u32, pen: &mut Pen, sink: &mut K)
     requires { act < length task.now.acts }
-    ensures ok { OnOk result (out.new.items ≡ out.old.items ++ group_text (act_leaves task.now act)) }
-    ensures grew { (more : List ℕ) × (out.new.items ≡ out.old.items ++ more) }
+    ensures { Adds (flow (K.written sink.old) (K.faults sink.old) pen.old)
+        (flow (K.written sink.new) (K.faults sink.new) pen.new) (group_text (act_leaves task.now act)) }
 {
-    put_action(&task.labels, &task.acts.get(act as usize).ground, out)
+    put_action(&task.labels, &task.acts.get(act as usize).ground, pen, sink);
 }
 
-/// Appends a target.
-pub(crate) fn put_target(target: Target, out: &mut Vec<u8>) -> Result<(), NoMemory>
-    ensures ok { OnOk result (out.new.items ≡ out.old.items ++ target_text (written_target target)) }
-    ensures grew { (more : List ℕ) × (out.new.items ≡ out.old.items ++ more) }
+/// Adds a target.
+pub(crate) fn put_target<K: Sink>(target: Target, pen: &mut Pen, sink: &mut K)
+    ensures { Adds (flow (K.written sink.old) (K.faults sink.old) pen.old)
+        (flow (K.written sink.new) (K.faults sink.new) pen.new) (target_text (written_target target)) }
 {
     match target {
-        Target::Goal => {
-            out.extend_from_slice(b"goal")?;
-            Ok(())
-        }
-        Target::Rule(number) => put_number(out, number as u64),
+        Target::Goal => pen.add(sink, b"goal"),
+        Target::Rule(number) => put_number(number as u64, pen, sink),
     }
 }
 
-/// Appends targets, each after a space.
-pub(crate) fn put_targets(targets: &TargetList, out: &mut Vec<u8>) -> Result<(), NoMemory>
-    ensures ok { OnOk result (out.new.items ≡ out.old.items ++ targets_text (map written_target targets.now)) }
-    ensures grew { (more : List ℕ) × (out.new.items ≡ out.old.items ++ more) }
+/// Adds a target after a space.
+fn put_next_target<K: Sink>(target: Target, pen: &mut Pen, sink: &mut K)
+    ensures { Adds (flow (K.written sink.old) (K.faults sink.old) pen.old)
+        (flow (K.written sink.new) (K.faults sink.new) pen.new) (codes " " ++ target_text (written_target target)) }
+{
+    pen.add(sink, b" ");
+    put_target(target, pen, sink);
+}
+
+/// Adds targets, each after a space.
+pub(crate) fn put_targets<K: Sink>(targets: &TargetList, pen: &mut Pen, sink: &mut K)
+    ensures { Adds (flow (K.written sink.old) (K.faults sink.old) pen.old)
+        (flow (K.written sink.new) (K.faults sink.new) pen.new) (targets_text (map written_target targets.now)) }
 {
     for target in targets.as_slice() {
-        out.extend_from_slice(b" ")?;
-        put_target(*target, out)?;
+        put_next_target(*target, pen, sink);
     }
-    Ok(())
 }
 
-/// Appends a number after a space.
-pub(crate) fn put_spaced(number: u32, out: &mut Vec<u8>) -> Result<(), NoMemory>
-    ensures ok { OnOk result (out.new.items ≡ out.old.items ++ (codes " " ++ decimal number)) }
-    ensures grew { (more : List ℕ) × (out.new.items ≡ out.old.items ++ more) }
+/// Adds a number after a space.
+pub(crate) fn put_spaced<K: Sink>(number: u32, pen: &mut Pen, sink: &mut K)
+    ensures { Adds (flow (K.written sink.old) (K.faults sink.old) pen.old)
+        (flow (K.written sink.new) (K.faults sink.new) pen.new) (codes " " ++ decimal number) }
 {
-    out.extend_from_slice(b" ")?;
-    put_number(out, number as u64)
+    pen.add(sink, b" ");
+    put_number(number as u64, pen, sink);
 }
 
-/// Appends the numbers of items, each after a space.
-pub(crate) fn put_item_numbers(items: &ItemNumbers, out: &mut Vec<u8>) -> Result<(), NoMemory>
-    ensures ok { OnOk result (out.new.items ≡ out.old.items ++ spaced (map decimal items.now)) }
-    ensures grew { (more : List ℕ) × (out.new.items ≡ out.old.items ++ more) }
+/// Adds the numbers of items, each after a space.
+pub(crate) fn put_item_numbers<K: Sink>(items: &ItemNumbers, pen: &mut Pen, sink: &mut K)
+    ensures { Adds (flow (K.written sink.old) (K.faults sink.old) pen.old)
+        (flow (K.written sink.new) (K.faults sink.new) pen.new) (spaced (map decimal items.now)) }
 {
     for item in items.as_slice() {
-        put_spaced(*item, out)?;
+        put_spaced(*item, pen, sink);
     }
-    Ok(())
 }

@@ -1,3 +1,4 @@
+pub mod Bodies
 pub mod Budgets
 pub mod Certified
 pub mod Checks

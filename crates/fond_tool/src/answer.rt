@@ -1,26 +1,33 @@
 //! Answers: a text that is to be written, and the status to end with once it is.
 
+ghost use Rattle.fond_edge.specs.Faults.{Rose};
+ghost use Rattle.fond_edge.specs.Written.{Appended, AppendedPart};
 ghost use Rattle.fond_tool.specs.Replies.{line_reply};
-ghost use Rattle.std.specs.Prelude.{◌≡◌, IfOk};
+ghost use Rattle.std.specs.Prelude.{◌≡◌, ◌≤◌, IfOk, OnOk, OnErr};
 
+use crate::body::Body;
 use crate::status::Status;
+use fond_cert::text::CertText;
+use fond_edge::send::WriteFault;
+use fond_edge::sink::Sink;
 use fond_text::fault::NoMemory;
 use std::alloc::Global;
 use std::marker::Model;
 
-/// A text that is to be written, and the status to end with once it is.
+/// A text that is to be written, and the status to end with once it is. The text of a certificate is not held.
 #[derive(Drop)]
 pub struct Answer {
-    text: Vec<u8>,
+    body: Body,
     status: Status,
 }
 
 impl Model for Answer {
+    ghost use Rattle.fond_tool.specs.Bodies.{body_text};
     ghost use Rattle.fond_tool.specs.Replies.{Reply};
 
     ghost Value = { Reply };
 
-    ghost view = { λ a. record { text = a.text.items; status = a.status } };
+    ghost view = { λ a. record { text = body_text a.body; status = a.status } };
 }
 
 impl Answer {
@@ -28,14 +35,37 @@ impl Answer {
     pub fn new(text: Vec<u8>, status: Status) -> Answer
         ensures { result ≡ record { text = text.items; status = status } }
     {
-        Answer { text, status }
+        Answer {
+            body: Body::Held(text),
+            status,
+        }
     }
 
-    /// The text.
-    pub fn text(&self) -> &[u8]
-        ensures { result.now ≡ self.now.text }
+    /// The answer of a certificate and a status.
+    pub fn of_cert(text: CertText, status: Status) -> Answer
+        ensures { result ≡ record { text = text; status = status } }
     {
-        self.text.as_slice()
+        Answer {
+            body: Body::Printed(text),
+            status,
+        }
+    }
+
+    /// Writes the text, or fails after a proper prefix of it. It takes no memory.
+    pub fn send<K: Sink>(&self, sink: &mut K) -> Result<(), WriteFault>
+        ensures ok { OnOk result (Appended (K.written sink.old) (K.written sink.new) self.now.text) }
+        ensures part { OnErr result (AppendedPart (K.written sink.old) (K.written sink.new) self.now.text) }
+        ensures counted { K.faults sink.old ≤ K.faults sink.new }
+        ensures failed { OnErr result (Rose (K.faults sink.old) (K.faults sink.new)) }
+    {
+        self.body.send(sink)
+    }
+
+    /// The text in memory.
+    pub fn into_text(self, alloc: Global) -> Result<Vec<u8>, NoMemory>
+        ensures { IfOk result (λ text. text.items ≡ self.text) }
+    {
+        self.body.into_text(alloc)
     }
 
     /// The status.
@@ -52,5 +82,5 @@ pub fn line(alloc: Global, words: &[u8], status: Status) -> Result<Answer, NoMem
 {
     let mut text = Vec::from_slice(alloc, words)?;
     text.push(b'\n')?;
-    Ok(Answer { text, status })
+    Ok(Answer::new(text, status))
 }

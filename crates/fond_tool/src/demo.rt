@@ -1,12 +1,13 @@
 //! The command `demo`: a task that is made from a number, and its policy.
 
+ghost use Rattle.fond_demo.specs.Demos.{shown_text};
 ghost use Rattle.fond_ground.specs.Grounds.{IsGroundOf};
 ghost use Rattle.fond_tool.specs.Budgets.{IsSize};
-ghost use Rattle.fond_tool.specs.Demos.{AnswersDemo, demo_text, demo_texts, DemoReply};
+ghost use Rattle.fond_tool.specs.Demos.{AnswersDemo, demo_texts, DemoReply};
 ghost use Rattle.fond_tool.specs.Plans.{AnswersPlan};
 ghost use Rattle.fond_tool.specs.Rejections.{Rejects};
 ghost use Rattle.fond_tool.specs.declared.status.Status.TheVariants.{Done as IsDone};
-ghost use Rattle.std.specs.Prelude.{◌≡◌, ◌≤◌, ◌++◌, ℕ, IfOk, IfErr, OnOk};
+ghost use Rattle.std.specs.Prelude.{◌≡◌, ◌≤◌, ℕ, IfOk, IfErr};
 
 use crate::answer::Answer;
 use crate::plan::planned;
@@ -17,7 +18,6 @@ use crate::words::read_size;
 use fond_demo::demo::demo_files;
 use fond_demo::show::put_shown;
 use fond_front::texts::TaskTexts;
-use fond_task::task::Task;
 use fond_text::fault::NoMemory;
 use fond_text::word::Word;
 use std::alloc::Global;
@@ -38,32 +38,32 @@ fn texts_of(alloc: Global, size: u32) -> Result<TaskTexts, NoMemory>
     })
 }
 
-/// Appends a certificate between the lines of `demo`.
-fn put_demo(game: &Task, size: u32, cert: &[u8], out: &mut Vec<u8>) -> Result<(), NoMemory>
-    ensures { OnOk result (out.new.items ≡ out.old.items ++ demo_text size game.now cert.now) }
+/// The answer of a certificate between the lines of `demo`, with the numbers of atoms and actions.
+fn demo_answer(
+    alloc: Global,
+    size: u32,
+    atoms: u64,
+    actions: u64,
+    planned: Answer,
+) -> Result<Answer, NoMemory>
+    ensures { IfOk result (λ answer. answer ≡ record { text = shown_text size atoms actions planned.text; status = IsDone }) }
 {
-    let atoms = game.atoms.len() as u64;
-    let actions = game.acts.len() as u64;
-    put_shown(u64::from(size), atoms, actions, cert, out)
-}
-
-/// The answer of a certificate between the lines of `demo`.
-fn demo_answer(alloc: Global, game: &Task, size: u32, cert: &[u8]) -> Result<Answer, NoMemory>
-    ensures { IfOk result (λ answer. answer ≡ record { text = demo_text size game.now cert.now; status = IsDone }) }
-{
+    let cert = planned.into_text(alloc)?;
     let mut text = Vec::new(alloc);
-    put_demo(game, size, cert, &mut text)?;
+    put_shown(u64::from(size), atoms, actions, &cert, &mut text)?;
     Ok(Answer::new(text, Status::Done))
 }
 
 /// The answer in the task of this size: its policy between the lines of `demo`, or what else `plan` answers.
-fn demonstrated(alloc: Global, files: &TaskFiles, size: u32) -> Result<Answer, NoMemory>
-    requires { IsGroundOf files.now.task.value files.now.game.value }
-    ensures { IfOk result (AnswersDemo size files.now.task.value files.now.game.value) }
+fn demonstrated(alloc: Global, files: TaskFiles, size: u32) -> Result<Answer, NoMemory>
+    requires { IsGroundOf files.task.value files.game.value }
+    ensures { IfOk result (AnswersDemo size files.task.value files.game.value) }
 {
+    let atoms = files.game.atoms.len() as u64;
+    let actions = files.game.acts.len() as u64;
     let planned = planned(alloc, files, BUDGET)?;
     match planned.status() {
-        Status::Done => demo_answer(alloc, &files.game, size, planned.text()),
+        Status::Done => demo_answer(alloc, size, atoms, actions, planned),
         _ => Ok(planned),
     }
 }
@@ -79,5 +79,5 @@ pub fn demo(alloc: Global, size: &Word) -> Result<Answer, Rejection>
     };
     let texts = texts_of(alloc, number)?;
     let files = read_files(alloc, &texts)?;
-    Ok(demonstrated(alloc, &files, number)?)
+    Ok(demonstrated(alloc, files, number)?)
 }

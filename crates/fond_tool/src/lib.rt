@@ -4,6 +4,7 @@
 #![tactic(auto)]
 
 mod answer;
+mod body;
 mod check;
 mod commands;
 mod demo;

@@ -18,7 +18,7 @@ use crate::rejection::Rejection;
 use crate::status::Status;
 use crate::task_files::{TaskFiles, read_files};
 use crate::words::read_budget;
-use fond_cert::print::print_cert;
+use fond_cert::text::CertText;
 use fond_decide::decide::{Decision, decide};
 use fond_front::texts::TaskTexts;
 use fond_policy::cert::Cert;
@@ -40,13 +40,12 @@ fn status_of(cert: &Cert) -> Status
 }
 
 /// The answer of a certificate: its text.
-fn cert_text(alloc: Global, game: &Task, cert: &Cert) -> Result<Answer, NoMemory>
-    requires { IsRightCert game.now cert.now }
-    ensures { IfOk result (λ answer. answer ≡ record { text = spelling game.now cert.now; status = cert_status cert.now }) }
+fn cert_answer(game: Box<Task>, cert: Cert) -> Answer
+    requires { IsRightCert game.value cert }
+    ensures { result ≡ record { text = spelling game.value cert; status = cert_status cert } }
 {
-    let mut text = Vec::new(alloc);
-    print_cert(game, cert, &mut text)?;
-    Ok(Answer::new(text, status_of(cert)))
+    let status = status_of(&cert);
+    Answer::of_cert(CertText::new(game, cert), status)
 }
 
 /// The answer that nothing is decided within a budget.
@@ -59,24 +58,23 @@ fn undecided(alloc: Global, budget: u32) -> Result<Answer, NoMemory>
 }
 
 /// The answer to a task and a budget: what is decided about it.
-fn decision_answer(alloc: Global, game: &Task, budget: u32) -> Result<Answer, NoMemory>
+fn decision_answer(alloc: Global, game: Box<Task>, budget: u32) -> Result<Answer, NoMemory>
     requires { budget ≤ 1000000 }
-    ensures { IfOk result (λ answer. (decision : Decision) × IsDecision game.now budget decision × (answer ≡ decision_reply game.now budget decision)) }
+    ensures { IfOk result (λ answer. (decision : Decision) × IsDecision game.value budget decision × (answer ≡ decision_reply game.value budget decision)) }
 {
-    match decide(alloc, game, budget)? {
-        Decision::Certified(cert) => cert_text(alloc, game, &cert),
+    match decide(alloc, &game, budget)? {
+        Decision::Certified(cert) => Ok(cert_answer(game, cert)),
         Decision::Undecided => undecided(alloc, budget),
     }
 }
 
 /// The answer to a budget in a task.
-pub(crate) fn planned(alloc: Global, files: &TaskFiles, budget: u32) -> Result<Answer, NoMemory>
+pub(crate) fn planned(alloc: Global, files: TaskFiles, budget: u32) -> Result<Answer, NoMemory>
     requires few { budget ≤ 1000000 }
-    requires ground { IsGroundOf files.now.task.value files.now.game.value }
-    ensures { IfOk result (AnswersPlan files.now.task.value files.now.game.value budget) }
+    requires ground { IsGroundOf files.task.value files.game.value }
+    ensures { IfOk result (AnswersPlan files.task.value files.game.value budget) }
 {
-    let game: &Task = &files.game;
-    decision_answer(alloc, game, budget)
+    decision_answer(alloc, files.game, budget)
 }
 
 /// The answer to `plan`: a policy, that there is none, or that more states are reachable than the budget and the initial state
@@ -90,5 +88,5 @@ pub fn plan(alloc: Global, texts: &TaskTexts, budget: &Word) -> Result<Answer, R
         unreachable!()
     };
     let files = read_files(alloc, texts)?;
-    Ok(planned(alloc, &files, number)?)
+    Ok(planned(alloc, files, number)?)
 }

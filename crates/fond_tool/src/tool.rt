@@ -12,7 +12,6 @@ use crate::fetch::{Content, fetch_all};
 use crate::rejection::answer_to;
 use crate::status::Status;
 use crate::words::{Command, given_words};
-use fond_edge::send::send;
 use fond_edge::shelf::{FetchFault, Shelf};
 use fond_edge::sink::Sink;
 use fond_text::fault::NoMemory;
@@ -81,7 +80,7 @@ pub fn run_tool<S: Shelf, K: Sink>(
     ensures sink_counted { K.faults sink.old ≤ K.faults sink.new }
 {
     match answer(alloc, words, shelf) {
-        Ok(answer) => match send(sink, answer.text()) {
+        Ok(answer) => match answer.send(sink) {
             Ok(()) => answer.status(),
             Err(_) => Status::WriteFault,
         },

@@ -1,13 +1,17 @@
+use Rattle.std.proofs.Common.{arith}
+use Rattle.std.specs.List.{flat_map}
 use Rattle.fond_cert.specs.Printed.{item_text}
-use Rattle.fond_text.proofs.Grown.{grew_more, grew_twice}
-use Rattle.fond_cert.proofs.Printed.{next_text}
+use Rattle.fond_cert.proofs.Adding.{adding_all, adding_more, adding_none}
+use Rattle.fond_cert.proofs.Printed.{next_item, none_of}
 use Rattle.fond_cert.proofs.print.put_items.Goals as goal
 
-pub loop-i-preserved : goal.loop-i-preserved
-loop-i-preserved c = record {
-  text = next_text (item_text c.args.task.now) c.args.items.now _ _ _ _ _ c.get.ensures c.loop-i.invariant.text c.in_ok-put_item.ensures.ok;
-  grew = grew_more _ _ _ _ c.loop-i.invariant.grew c.in_ok-put_item.ensures.ok;
-}
+pub loop-i-init : goal.loop-i-init
+loop-i-init g c = adding_all _ _ _ _
 
-pub returns-in_err-put_item-clause-grew : goal.returns-in_err-put_item-clause-grew
-returns-in_err-put_item-clause-grew c = grew_twice _ _ _ c.loop-i.invariant.grew c.in_err-put_item.ensures.grew
+pub loop-i-preserved : goal.loop-i-preserved
+loop-i-preserved g c =
+    adding_more _ _ _ _ _ _ _ (next_item (item_text c.args.task.now) c.args.items.now _ _ c.get.ensures) c.loop-i.invariant c.put_item.ensures
+
+pub returns : goal.returns
+returns g c =
+    adding_none _ _ _ _ (none_of (flat_map (item_text c.args.task.now)) c.args.items.now c.loop-i.i (omega (arith, c.loop-i-test.false, c.len-i-end.ensures))) c.loop-i.invariant

@@ -1,5 +1,6 @@
-use Rattle.fond_text.proofs.Grown.{grew_twice}
+use Rattle.fond_edge.proofs.Puts.{adds_then}
 use Rattle.fond_cert.proofs.print.put_layer.Goals as goal
 
-pub returns-in_err-put_cube_line-clause-grew : goal.returns-in_err-put_cube_line-clause-grew
-returns-in_err-put_cube_line-clause-grew c = grew_twice _ _ _ c.loop-cube.invariant.grew c.in_err-put_cube_line.ensures.grew
+pub returns : goal.returns
+returns g c =
+    adds_then _ _ _ _ _ c.add.ensures c.put_cube_lines.ensures

@@ -1,10 +1,12 @@
-use Rattle.std.proofs.Common.{◌≡◌, ℕ, List, ◌++◌, drop}
+use Rattle.std.proofs.Common.{drop}
 use Rattle.std.specs.List.{flat_map}
 use Rattle.fond_cert.specs.Printed.{pair_text}
+use Rattle.fond_edge.specs.Pens.{flow}
+use Rattle.fond_cert.proofs.Adding.{Adding}
 use Rattle.fond_cert.proofs.print.put_pairs.Given as goal
 
 abbrev pub invariant-loop-i : goal.invariant-loop-i
-invariant-loop-i l = record {
-  text : l.out.items ++ flat_map (pair_text l.task) (drop l.i l.pairs) ≡ l.initial.out.items ++ flat_map (pair_text l.task) l.pairs;
-  grew : (more : List ℕ) × (l.out.items ≡ l.initial.out.items ++ more);
-}
+invariant-loop-i g l =
+    Adding (flow (g.K.Sink.written l.initial.sink) (g.K.Sink.faults l.initial.sink) l.initial.pen) (flow (g.K.Sink.written l.sink) (g.K.Sink.faults l.sink) l.pen)
+    (flat_map (pair_text l.task) l.pairs)
+    (flat_map (pair_text l.task) (drop l.i l.pairs))

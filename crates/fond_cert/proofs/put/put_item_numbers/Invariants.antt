@@ -1,10 +1,12 @@
-use Rattle.std.proofs.Common.{◌≡◌, ℕ, List, ◌++◌, drop, map}
+use Rattle.std.proofs.Common.{drop, map}
 use Rattle.std.specs.Fmt.{decimal}
 use Rattle.fond_cert.specs.Lines.{spaced}
+use Rattle.fond_edge.specs.Pens.{flow}
+use Rattle.fond_cert.proofs.Adding.{Adding}
 use Rattle.fond_cert.proofs.put.put_item_numbers.Given as goal
 
 abbrev pub invariant-loop-item : goal.invariant-loop-item
-invariant-loop-item l = record {
-  text : l.out.items ++ spaced (map decimal (drop l.item-index l.item-items)) ≡ l.initial.out.items ++ spaced (map decimal l.item-items);
-  grew : (more : List ℕ) × (l.out.items ≡ l.initial.out.items ++ more);
-}
+invariant-loop-item g l =
+    Adding (flow (g.K.Sink.written l.initial.sink) (g.K.Sink.faults l.initial.sink) l.initial.pen) (flow (g.K.Sink.written l.sink) (g.K.Sink.faults l.sink) l.pen)
+    (spaced (map decimal l.item-items))
+    (spaced (map decimal (drop l.item-index l.item-items)))

@@ -4,4 +4,4 @@ use Rattle.fond_tool.proofs.Planned.{decided}
 use Rattle.fond_tool.proofs.plan.planned.Goals as goal
 
 pub returns : goal.returns
-returns c = IfOk-weaker c.decision_answer.result _ _ (λ (reply : Reply) h. decided c.args.files.now.task.value c.args.files.now.game.value c.args.budget c.requires.ground reply h) (rw c.deref-game.ensures at c.decision_answer.ensures)
+returns c = IfOk-weaker c.decision_answer.result _ _ (λ (reply : Reply) h. decided c.args.files.task.value c.args.files.game.value c.args.budget c.requires.ground reply h) c.decision_answer.ensures

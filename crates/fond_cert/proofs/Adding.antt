@@ -1,0 +1,31 @@
+-- A text that is added part by part.
+use Rattle.std.proofs.Common.{◌≡◌, ℕ, List, [], ◌++◌, Option, refl, sym, subst, ap, ◌∙◌, append_assoc}
+use Rattle.std.proofs.lemmas.List.{append-nil}
+use Rattle.fond_edge.specs.PenState.{PenState}
+use Rattle.fond_edge.specs.Pens.{Flow, flow, Adds}
+use Rattle.fond_edge.proofs.Puts.{adds_nothing, adds_then}
+
+-- what is added as one text is added as the same text in other words
+pub adds_same : (before after : Flow) (text other : List ℕ) → text ≡ other → Adds before after text → Adds before after other
+adds_same before after text other same added = subst (λ t. Adds before after t) same added
+
+-- a front of the text was added, and the rest is left
+pub record Adding (before now : Flow) (whole left : List ℕ) : Type 0 where
+  pub done : List ℕ
+  pub added : Adds before now done
+  pub split : done ++ left ≡ whole
+
+pub adding_all : (written : Option (List ℕ)) (faults : ℕ) (pen : PenState) (whole : List ℕ) → Adding (flow written faults pen) (flow written faults pen) whole whole
+adding_all written faults pen whole = record { done = []; added = adds_nothing written faults pen; split = refl }
+
+module _ (before now after : Flow) (whole left : List ℕ) where
+  pub adding_more : (item rest : List ℕ) → left ≡ item ++ rest → Adding before now whole left → Adds now after item → Adding before after whole rest
+  adding_more item rest same adding more = record {
+    done = adding.done ++ item;
+    added = adds_then before now after adding.done item adding.added more;
+    split = append_assoc adding.done item rest ∙ ap (λ t. adding.done ++ t) (sym same) ∙ adding.split;
+  }
+
+pub adding_none : (before now : Flow) (whole left : List ℕ) → left ≡ [] → Adding before now whole left → Adds before now whole
+adding_none before now whole left none adding =
+    adds_same before now adding.done whole (sym (append-nil adding.done) ∙ ap (λ t. adding.done ++ t) (sym none) ∙ adding.split) adding.added

@@ -1,0 +1,21 @@
+use Rattle.std.proofs.Common.{ap, codes, arith, ◌++◌, ℕ, List}
+use Rattle.std.proofs.lemmas.List.{at_drop_more}
+use Rattle.std.specs.List.{flat_map}
+use Rattle.fond_task.specs.Texts.{name_at}
+use Rattle.fond_cert.proofs.Adding.{adds_same, adding_all, adding_more, adding_none}
+use Rattle.fond_cert.proofs.Printed.{none_of}
+use Rattle.fond_cert.proofs.names.put_objects.Goals as goal
+
+pub loop-object-init : goal.loop-object-init
+loop-object-init g c = adding_all _ _ _ _
+
+pub loop-object-preserved : goal.loop-object-preserved
+loop-object-preserved g c =
+    let text : List ℕ → List ℕ = flat_map (λ object. codes " " ++ name_at c.args.names.now object) in
+    adding_more _ _ _ _ _ _ _ (at_drop_more text c.as_slice-object-items.result.now c.loop-object.object-index 0 c.loop-object-test.true) c.loop-object.invariant c.put_object.ensures
+
+pub returns : goal.returns
+returns g c =
+    let text : List ℕ → List ℕ = flat_map (λ object. codes " " ++ name_at c.args.names.now object) in
+    adds_same _ _ _ _ (ap text c.as_slice-object-items.ensures)
+    (adding_none _ _ _ _ (none_of text c.as_slice-object-items.result.now c.loop-object.object-index (omega (arith, c.loop-object-test.false))) c.loop-object.invariant)
