@@ -1,11 +1,12 @@
 //! The engine: what others call.
 
 use crate::aim::Aim;
-use crate::cubes::{Masks, masks_of};
-use crate::dead::Prover;
 use crate::known::Known;
 use crate::search::{Ended, Limits, Search};
-use fond_heuristic::index::{put_bit, size};
+use fond_deadends::cubes::{Masks, masks_of};
+use fond_deadends::dead::Prover;
+use fond_deadends::layers::{LayerSearch, Limits as LayerLimits, Stage};
+use fond_heuristic::index::{copy_words, put_bit, size};
 use fond_heuristic::part::Part;
 use fond_heuristic::step::PlanSteps;
 use fond_state::cube::Cube;
@@ -40,12 +41,24 @@ pub enum Hint {
     Spent,
 }
 
+/// What a search for layers came to.
+#[derive(Drop)]
+pub enum LayerHint {
+    /// A layer that may be sure above the dead cubes so far.
+    Layer(List<Cube>),
+    /// The state is dead.
+    Found,
+    /// There is none, or it takes too long.
+    Nothing,
+}
+
 /// A searching engine.
 #[derive(Drop)]
 pub struct Engine {
     known: Known,
     search: Search,
     prover: Prover,
+    layers: LayerSearch,
     aim: Aim,
     /// The state and the cube that were read last.
     start: Vec<u64>,
@@ -93,11 +106,13 @@ impl Engine {
         let start = vec![in alloc; 0; known.moves.width as usize]?;
         let cube = Part::new(alloc, known.moves.width)?;
         let prover = Prover::new(alloc, known.moves.width)?;
+        let layers = LayerSearch::new(alloc, &known.facts())?;
         let aim = Aim::new(alloc, known.moves.width)?;
         Ok(Engine {
             known,
             search,
             prover,
+            layers,
             aim,
             start,
             cube,
@@ -152,9 +167,12 @@ impl Engine {
         self.known.respond(act, &self.start, outcome)
     }
 
-    /// The work done by all searches so far: updates of the relaxation, and entries of the queues.
+    /// The work done by all searches so far: updates of the relaxation, entries of the queues, and looks at actions for dead cubes.
     pub fn work(&self) -> u64 {
-        self.search.work().saturating_add(self.prover.work)
+        self.search
+            .work()
+            .saturating_add(self.prover.work)
+            .saturating_add(self.layers.work())
     }
 
     /// Searches with a limit, and once more with lookahead if that was too few.
@@ -247,9 +265,63 @@ impl Engine {
     /// them; or is unfair, and leads back into it by some.
     pub fn dead_cube(&mut self, alloc: Global, state: &State) -> Result<Option<Cube>, NoMemory> {
         read(&mut self.start, state);
-        if !self.prover.find(&self.known, &self.start)? {
+        if !self.prover.find(&self.known.facts(), &self.start)? {
             return Ok(None);
         }
         Ok(Some(cube_of(alloc, &self.prover.best, self.known.moves.atoms)?))
+    }
+
+    /// Begins to look for layers around a state. Visits at most `states` states, and does not much more than `work` work.
+    pub fn begin_layers(&mut self, state: &State, states: u32, work: u64) -> Result<(), NoMemory> {
+        read(&mut self.start, state);
+        let limits = LayerLimits { states, work };
+        self.layers.begin(&self.known.facts(), &self.start, limits)
+    }
+
+    /// Begins to look for layers around the state of a full cube, with these limits.
+    pub fn begin_layers_in(&mut self, cube: &Cube, states: u32, work: u64) -> Result<(), NoMemory> {
+        read_cube(&mut self.cube, cube);
+        copy_words(&mut self.start, &self.cube.value);
+        let limits = LayerLimits { states, work };
+        self.layers.begin(&self.known.facts(), &self.start, limits)
+    }
+
+    /// Knows of no lost state any more.
+    pub fn forget_lost(&mut self) -> Result<(), NoMemory> {
+        self.layers.forget_lost()
+    }
+
+    /// The state of a full cube is known to be lost. If any are, the opponent's responses are sought among these states.
+    pub fn add_lost(&mut self, cube: &Cube) -> Result<(), NoMemory> {
+        read_cube(&mut self.cube, cube);
+        self.layers.add_lost(&self.cube.value)
+    }
+
+    /// The next layer, given the dead cubes so far: cubes that no action surely leaves. The last one has the state around which it
+    /// was to be.
+    pub fn next_layer(&mut self, alloc: Global) -> Result<LayerHint, NoMemory> {
+        if self.known.dead.holds(&self.start) {
+            return Ok(LayerHint::Found);
+        }
+        match self.layers.run(&self.known.facts())? {
+            Stage::Cube => {
+                let mut layer = List::new(alloc);
+                layer.push(cube_of(alloc, self.layers.dead_cube(), self.known.moves.atoms)?)?;
+                Ok(LayerHint::Layer(layer))
+            }
+            Stage::Layer => Ok(LayerHint::Layer(self.layer_of_nodes(alloc)?)),
+            Stage::Open | Stage::Failed => Ok(LayerHint::Nothing),
+        }
+    }
+
+    /// The cubes of the nodes, but for those that lie in others.
+    fn layer_of_nodes(&mut self, alloc: Global) -> Result<List<Cube>, NoMemory> {
+        let mut layer = List::new(alloc);
+        for node in 0..self.layers.len() {
+            if self.layers.load(node, &mut self.cube) {
+                layer.push(cube_of(alloc, &self.cube, self.known.moves.atoms)?)?;
+            }
+        }
+        Ok(layer)
     }
 }

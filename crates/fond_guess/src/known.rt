@@ -1,8 +1,9 @@
 //! What a search knows: the task, the rules and pairs of a policy, the cubes that are dead, and the responses of the
 //! opponent.
 
-use crate::cubes::{CubeSet, Masks};
-use crate::states::StateSet;
+use fond_deadends::cubes::{CubeSet, Masks};
+use fond_deadends::facts::Facts;
+use fond_deadends::states::StateSet;
 use fond_heuristic::applicable::ActIndex;
 use fond_heuristic::bar::Givers;
 use fond_heuristic::condition::all_hold;
@@ -154,6 +155,16 @@ impl Known {
             bars,
             responses,
         })
+    }
+
+    /// What searches for dead cubes go by.
+    pub(crate) fn facts(&self) -> Facts<'_> {
+        Facts {
+            moves: &self.moves,
+            weights: &self.weights,
+            net: &self.net,
+            dead: &self.dead,
+        }
     }
 
     /// Drops the rules and pairs.

@@ -6,7 +6,7 @@
 
 use crate::known::Known;
 use crate::queue::{Agenda, Open};
-use crate::states::StateSet;
+use fond_deadends::states::StateSet;
 use fond_heuristic::cost::FAR;
 use fond_heuristic::index::{NONE, copy_words, size};
 use fond_heuristic::relaxed::{Chosen, Estimate};

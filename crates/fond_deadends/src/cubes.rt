@@ -8,11 +8,11 @@ use fond_text::fault::NoMemory;
 use std::alloc::Global;
 
 /// The literals of a cube.
-pub(crate) type Masks = Vec<Mask>;
+pub type Masks = Vec<Mask>;
 
 /// Cubes under a literal each.
 #[derive(Drop)]
-pub(crate) struct CubeSet {
+pub struct CubeSet {
     cubes: Vec<Masks>,
     /// By atom: the cubes under the literal that the atom is true, and under the one that it is false.
     lists: Vec<Lists>,
@@ -43,7 +43,7 @@ fn all_known(masks: &[Mask], part: &Part) -> bool {
 }
 
 /// The masks of a partial state.
-pub(crate) fn masks_of(alloc: Global, part: &Part) -> Result<Masks, NoMemory> {
+pub fn masks_of(alloc: Global, part: &Part) -> Result<Masks, NoMemory> {
     let mut masks = Vec::new(alloc);
     for (word, (care, value)) in part.care.iter().zip(part.value.iter()).enumerate() {
         if *care != 0 {
@@ -59,7 +59,7 @@ pub(crate) fn masks_of(alloc: Global, part: &Part) -> Result<Masks, NoMemory> {
 
 impl CubeSet {
     /// No cubes, over this many atoms.
-    pub(crate) fn new(alloc: Global, atoms: u32, width: u32) -> Result<CubeSet, NoMemory> {
+    pub fn new(alloc: Global, atoms: u32, width: u32) -> Result<CubeSet, NoMemory> {
         let mut lists = Vec::new(alloc);
         for _ in 0..atoms {
             lists.push(Lists {
@@ -77,7 +77,7 @@ impl CubeSet {
     }
 
     /// Drops all cubes.
-    pub(crate) fn clear(&mut self) {
+    pub fn clear(&mut self) {
         self.cubes.clear();
         for lists in self.lists.iter_mut() {
             lists.positive.clear();
@@ -93,7 +93,7 @@ impl CubeSet {
     }
 
     /// Whether there are no cubes.
-    pub(crate) fn is_empty(&self) -> bool {
+    pub fn is_empty(&self) -> bool {
         self.cubes.is_empty()
     }
 
@@ -158,7 +158,7 @@ impl CubeSet {
     }
 
     /// Adds a cube.
-    pub(crate) fn add(&mut self, masks: Masks) -> Result<(), NoMemory> {
+    pub fn add(&mut self, masks: Masks) -> Result<(), NoMemory> {
         let mut best = None;
         for mask in &masks {
             best = self.best_of(*mask, best);
@@ -237,7 +237,7 @@ impl CubeSet {
 
     /// Whether one of the cubes holds in the state. Takes time in the width of the state and in the number of cubes that
     /// are filed under its literals.
-    pub(crate) fn holds(&self, state: &[u64]) -> bool {
+    pub fn holds(&self, state: &[u64]) -> bool {
         if self.whole.is_some() {
             return true;
         }
@@ -284,7 +284,7 @@ impl CubeSet {
     }
 
     /// The number of the first cube that holds in the state, or `NONE`. Takes time as `holds` does.
-    pub(crate) fn first(&self, state: &[u64]) -> u32 {
+    pub fn first(&self, state: &[u64]) -> u32 {
         let mut first = self.whole.unwrap_or(NONE);
         for (i, word) in state.iter().enumerate() {
             let number = size(i);
@@ -296,7 +296,7 @@ impl CubeSet {
     }
 
     /// The literals of a cube.
-    pub(crate) fn masks(&self, cube: u32) -> &[Mask] {
+    pub fn masks(&self, cube: u32) -> &[Mask] {
         match self.cubes.get(cube as usize) {
             Some(masks) => masks.as_slice(),
             None => &[],
@@ -304,7 +304,7 @@ impl CubeSet {
     }
 
     /// The cube in which the partial state lies.
-    pub(crate) fn cover(&self, part: &Part) -> Option<u32> {
+    pub fn cover(&self, part: &Part) -> Option<u32> {
         if self.whole.is_some() {
             return self.whole;
         }
@@ -321,7 +321,7 @@ impl CubeSet {
     }
 
     /// Adds the literals of a partial state over the atoms of a cube to `into`.
-    pub(crate) fn mention(&self, cube: u32, from: &Part, into: &mut Part) {
+    pub fn mention(&self, cube: u32, from: &Part, into: &mut Part) {
         if let Some(masks) = self.cubes.get(cube as usize) {
             copy_mentioned(masks, from, into);
         }

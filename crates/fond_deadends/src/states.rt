@@ -9,7 +9,7 @@ const LEAST: usize = 256;
 
 /// States of the same width, by numbers in the order in which they were added.
 #[derive(Drop)]
-pub(crate) struct StateSet {
+pub struct StateSet {
     width: usize,
     words: Vec<u64>,
     table: Vec<u32>,
@@ -28,7 +28,7 @@ fn hash_of(words: &[u64]) -> usize {
 
 impl StateSet {
     /// The empty set of states of this many words.
-    pub(crate) fn new(alloc: Global, width: u32) -> Result<StateSet, NoMemory> {
+    pub fn new(alloc: Global, width: u32) -> Result<StateSet, NoMemory> {
         Ok(StateSet {
             width: width as usize,
             words: Vec::new(alloc),
@@ -38,12 +38,12 @@ impl StateSet {
     }
 
     /// The number of states.
-    pub(crate) fn len(&self) -> u32 {
+    pub fn len(&self) -> u32 {
         self.count
     }
 
     /// Drops all states. Takes time in their number.
-    pub(crate) fn clear(&mut self) -> Result<(), NoMemory> {
+    pub fn clear(&mut self) -> Result<(), NoMemory> {
         if self.table.len() / 16 > self.count as usize {
             self.table = vec![in *self.words.allocator(); NONE; LEAST]?;
         } else {
@@ -55,7 +55,7 @@ impl StateSet {
     }
 
     /// The words of a state.
-    pub(crate) fn get(&self, number: u32) -> &[u64] {
+    pub fn get(&self, number: u32) -> &[u64] {
         let start = (number as usize).saturating_mul(self.width);
         let Some((_, rest)) = self.words.as_slice().split_at_checked(start) else {
             return &[];
@@ -93,7 +93,7 @@ impl StateSet {
     }
 
     /// The number of a state.
-    pub(crate) fn find(&self, state: &[u64]) -> Option<u32> {
+    pub fn find(&self, state: &[u64]) -> Option<u32> {
         let number = self.number_at(self.place(state));
         if number == NONE { None } else { Some(number) }
     }
@@ -117,7 +117,7 @@ impl StateSet {
     }
 
     /// Adds a state unless it is there. Returns its number, and whether it is new.
-    pub(crate) fn add(&mut self, state: &[u64]) -> Result<(u32, bool), NoMemory> {
+    pub fn add(&mut self, state: &[u64]) -> Result<(u32, bool), NoMemory> {
         if let Some(number) = self.find(state) {
             return Ok((number, false));
         }

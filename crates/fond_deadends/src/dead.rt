@@ -9,7 +9,7 @@
 //! reason away do not apply, or do no harm. Then each literal is dropped that the others have no need of, and at last
 //! ranges of them with all that falls with these, as long as what is left is dead.
 
-use crate::known::Known;
+use crate::facts::Facts;
 use fond_heuristic::index::{Literal, NONE, has, size};
 use fond_heuristic::moves::Move;
 use fond_heuristic::part::Part;
@@ -25,12 +25,12 @@ const SPARE: u64 = 300_000;
 
 /// A search for a dead cube. Its buffers serve one search after the other.
 #[derive(Drop)]
-pub(crate) struct Prover {
+pub struct Prover {
     /// What is left of what was assumed.
     part: Part,
     image: Part,
     /// The best dead cube so far.
-    pub(crate) best: Part,
+    pub best: Part,
     /// The literals of the best cube, in the order in which they are tried.
     literals: Vec<Literal>,
     /// The literals that are assumed next.
@@ -40,12 +40,12 @@ pub(crate) struct Prover {
     taker: u32,
     /// How many looks at an action are left, and how many were taken for all cubes.
     left: u64,
-    pub(crate) work: u64,
+    pub work: u64,
 }
 
 impl Prover {
     /// A search that has not begun.
-    pub(crate) fn new(alloc: Global, width: u32) -> Result<Prover, NoMemory> {
+    pub fn new(alloc: Global, width: u32) -> Result<Prover, NoMemory> {
         let part = Part::new(alloc, width)?;
         let image = Part::new(alloc, width)?;
         let best = Part::new(alloc, width)?;
@@ -62,13 +62,13 @@ impl Prover {
     }
 
     /// The outcome that leads from what is left into a dead cube, and that cube.
-    fn blocked(&mut self, known: &Known, one: &Move) -> Option<(u32, u32)> {
-        if known.dead.is_empty() {
+    fn blocked(&mut self, facts: &Facts, one: &Move) -> Option<(u32, u32)> {
+        if facts.dead.is_empty() {
             return None;
         }
         for (k, effect) in one.effects.iter().enumerate() {
             effect.image(&self.part, &mut self.image);
-            if let Some(cube) = known.dead.cover(&self.image) {
+            if let Some(cube) = facts.dead.cover(&self.image) {
                 return Some((size(k), cube));
             }
         }
@@ -101,17 +101,17 @@ impl Prover {
     }
 
     /// Drops what an action may take away. Returns whether anything was dropped.
-    fn press(&mut self, known: &Known, act: u32) -> bool {
+    fn press(&mut self, facts: &Facts, act: u32) -> bool {
         self.left = self.left.saturating_sub(1);
         self.work = self.work.saturating_add(1);
-        let Some(one) = known.moves.acts.get(act as usize) else {
+        let Some(one) = facts.moves.acts.get(act as usize) else {
             return false;
         };
         if one.needs.value(&self.part) == Kleene::No {
             return false;
         }
         let (best, least, harmless) = self.least_harmful(one);
-        if harmless || (one.unfair && least == 0) || self.blocked(known, one).is_some() {
+        if harmless || (one.unfair && least == 0) || self.blocked(facts, one).is_some() {
             return false;
         }
         self.lose(one, best);
@@ -119,21 +119,21 @@ impl Prover {
     }
 
     /// Looks at each action once. Returns whether anything was dropped.
-    fn round(&mut self, known: &Known) -> bool {
+    fn round(&mut self, facts: &Facts) -> bool {
         let mut dropped = false;
-        for act in 0..size(known.moves.acts.len()) {
-            dropped |= self.press(known, act);
+        for act in 0..size(facts.moves.acts.len()) {
+            dropped |= self.press(facts, act);
         }
         dropped
     }
 
     /// Drops literals until no action takes any away. Returns whether what is left is dead.
-    fn settle(&mut self, known: &Known) -> bool {
+    fn settle(&mut self, facts: &Facts) -> bool {
         for _ in 0..u64::MAX {
-            if known.moves.goal.value(&self.part) != Kleene::No || self.left == 0 {
+            if facts.moves.goal.value(&self.part) != Kleene::No || self.left == 0 {
                 return false;
             }
-            if !self.round(known) {
+            if !self.round(facts) {
                 return true;
             }
         }
@@ -149,9 +149,9 @@ impl Prover {
     }
 
     /// Assumes the literals of the trial and settles. If what is left is dead, it is the best cube.
-    fn try_trial(&mut self, known: &Known) -> bool {
+    fn try_trial(&mut self, facts: &Facts) -> bool {
         self.assume_trial();
-        if !self.settle(known) {
+        if !self.settle(facts) {
             return false;
         }
         self.best.copy_from(&self.part);
@@ -159,12 +159,12 @@ impl Prover {
     }
 
     /// Adds to what is left the literals of the best cube because of which an action takes nothing of that away.
-    fn explain_harmless(&mut self, known: &Known, one: &Move) {
+    fn explain_harmless(&mut self, facts: &Facts, one: &Move) {
         std::mem::swap(&mut self.part, &mut self.best);
-        let blocked = self.blocked(known, one);
+        let blocked = self.blocked(facts, one);
         std::mem::swap(&mut self.part, &mut self.best);
         if let Some((_, cube)) = blocked {
-            known.dead.mention(cube, &self.best, &mut self.part);
+            facts.dead.mention(cube, &self.best, &mut self.part);
         }
         for effect in &one.effects {
             effect.mention(&self.best, &mut self.part);
@@ -173,24 +173,24 @@ impl Prover {
 
     /// Adds to what is left literals of the best cube because of which an action takes nothing away. Returns whether any
     /// were missing.
-    fn explain_act(&mut self, known: &Known, act: u32) -> bool {
+    fn explain_act(&mut self, facts: &Facts, act: u32) -> bool {
         self.left = self.left.saturating_sub(1);
         self.work = self.work.saturating_add(1);
-        let Some(one) = known.moves.acts.get(act as usize) else {
+        let Some(one) = facts.moves.acts.get(act as usize) else {
             return false;
         };
         if one.needs.value(&self.part) == Kleene::No {
             return false;
         }
         let (_, least, harmless) = self.least_harmful(one);
-        if harmless || (one.unfair && least == 0) || self.blocked(known, one).is_some() {
+        if harmless || (one.unfair && least == 0) || self.blocked(facts, one).is_some() {
             return false;
         }
         let before = self.part.count();
         if one.needs.value(&self.best) == Kleene::No {
-            one.needs.refute(&self.best, &known.weights, &mut self.part);
+            one.needs.refute(&self.best, facts.weights, &mut self.part);
         } else {
-            self.explain_harmless(known, one);
+            self.explain_harmless(facts, one);
         }
         if self.part.count() == before {
             self.part.copy_from(&self.best);
@@ -199,10 +199,10 @@ impl Prover {
     }
 
     /// Looks at each action once. Returns whether literals were added.
-    fn explain_round(&mut self, known: &Known) -> bool {
+    fn explain_round(&mut self, facts: &Facts) -> bool {
         let mut added = false;
-        for act in 0..size(known.moves.acts.len()) {
-            added |= self.explain_act(known, act);
+        for act in 0..size(facts.moves.acts.len()) {
+            added |= self.explain_act(facts, act);
         }
         added
     }
@@ -220,19 +220,19 @@ impl Prover {
 
     /// Replaces the best cube by one of few of its literals: a reason why the goal is false, and for each action that would
     /// take some of the literals away, a reason why it does not.
-    fn explain(&mut self, known: &Known) -> Result<(), NoMemory> {
+    fn explain(&mut self, facts: &Facts) -> Result<(), NoMemory> {
         self.part.clear();
-        known
+        facts
             .moves
             .goal
-            .refute(&self.best, &known.weights, &mut self.part);
+            .refute(&self.best, facts.weights, &mut self.part);
         for _ in 0..self.best.count().saturating_add(1) {
             if self.left == 0 {
                 return Ok(());
             }
-            if !self.explain_round(known) {
-                self.assume_part(known.moves.atoms)?;
-                self.try_trial(known);
+            if !self.explain_round(facts) {
+                self.assume_part(facts.moves.atoms)?;
+                self.try_trial(facts);
                 return Ok(());
             }
         }
@@ -279,7 +279,7 @@ impl Prover {
     }
 
     /// Tries to drop each range of this length in turn.
-    fn drop_ranges(&mut self, known: &Known, length: usize) -> Result<(), NoMemory> {
+    fn drop_ranges(&mut self, facts: &Facts, length: usize) -> Result<(), NoMemory> {
         let mut from = 0;
         for _ in 0..u32::MAX {
             if from >= self.literals.len() || self.left == 0 {
@@ -287,7 +287,7 @@ impl Prover {
             }
             let to = from.saturating_add(length);
             self.cut(from, to)?;
-            from = if self.try_trial(known) {
+            from = if self.try_trial(facts) {
                 self.shrink(from)?
             } else {
                 to
@@ -304,9 +304,9 @@ impl Prover {
     }
 
     /// Whether one of the actions in a range takes a literal of what is left away. The first one that does is the taker.
-    fn is_taken(&mut self, known: &Known, from: u32, to: u32) -> bool {
+    fn is_taken(&mut self, facts: &Facts, from: u32, to: u32) -> bool {
         for act in from..to {
-            if self.press(known, act) {
+            if self.press(facts, act) {
                 self.taker = act;
                 return true;
             }
@@ -315,26 +315,26 @@ impl Prover {
     }
 
     /// Whether no action takes any literal of the trial away, and the goal is false on it.
-    fn is_stable(&mut self, known: &Known) -> bool {
+    fn is_stable(&mut self, facts: &Facts) -> bool {
         self.assume_trial();
-        if known.moves.goal.value(&self.part) != Kleene::No {
+        if facts.moves.goal.value(&self.part) != Kleene::No {
             return false;
         }
-        let acts = size(known.moves.acts.len());
+        let acts = size(facts.moves.acts.len());
         let first = self.taker;
-        !self.is_taken(known, first, acts) && !self.is_taken(known, 0, first)
+        !self.is_taken(facts, first, acts) && !self.is_taken(facts, 0, first)
     }
 
     /// Drops each literal in turn of which the others have no need.
-    fn drop_each(&mut self, known: &Known) -> Result<(), NoMemory> {
-        self.list_best(known.moves.atoms)?;
+    fn drop_each(&mut self, facts: &Facts) -> Result<(), NoMemory> {
+        self.list_best(facts.moves.atoms)?;
         let mut from = 0;
         for _ in 0..self.literals.len() {
             if self.left == 0 {
                 return Ok(());
             }
             self.cut(from, from.saturating_add(1))?;
-            if self.is_stable(known) {
+            if self.is_stable(facts) {
                 self.best.copy_from(&self.part);
                 from = self.shrink(from)?;
             } else {
@@ -345,15 +345,15 @@ impl Prover {
     }
 
     /// Drops ranges of literals, shorter and shorter ones, with all that falls with them.
-    fn generalise(&mut self, known: &Known) -> Result<(), NoMemory> {
+    fn generalise(&mut self, facts: &Facts) -> Result<(), NoMemory> {
         self.left = self.left.min(SPARE);
-        self.list_best(known.moves.atoms)?;
+        self.list_best(facts.moves.atoms)?;
         let mut length = self.literals.len();
         for _ in 0..64 {
             if length == 0 {
                 return Ok(());
             }
-            self.drop_ranges(known, length.saturating_add(1) / 2)?;
+            self.drop_ranges(facts, length.saturating_add(1) / 2)?;
             length /= 2;
         }
         Ok(())
@@ -361,18 +361,18 @@ impl Prover {
 
     /// Looks for a dead cube around the state, and makes it the best one. Takes time in the number of actions for each
     /// literal that is dropped, up to a limit.
-    pub(crate) fn find(&mut self, known: &Known, state: &[u64]) -> Result<bool, NoMemory> {
+    pub fn find(&mut self, facts: &Facts, state: &[u64]) -> Result<bool, NoMemory> {
         self.left = LOOKS;
         self.trial.clear();
-        for atom in 0..known.moves.atoms {
+        for atom in 0..facts.moves.atoms {
             let sign = has(state, atom);
             self.trial.push(Literal { atom, sign })?;
         }
-        let found = self.try_trial(known);
+        let found = self.try_trial(facts);
         if found {
-            self.explain(known)?;
-            self.drop_each(known)?;
-            self.generalise(known)?;
+            self.explain(facts)?;
+            self.drop_each(facts)?;
+            self.generalise(facts)?;
         }
         Ok(found)
     }

@@ -1,0 +1,16 @@
+//! What a search for dead cubes goes by.
+
+use crate::cubes::CubeSet;
+use fond_heuristic::moves::Moves;
+use fond_heuristic::net::Net;
+use fond_heuristic::weight::Weights;
+
+/// The actions of a task with the goal, how much literals are worth as reasons, the relaxed task, and the cubes that are dead
+/// already.
+#[derive(Clone, Copy)]
+pub struct Facts<'a> {
+    pub moves: &'a Moves,
+    pub weights: &'a Weights,
+    pub net: &'a Net,
+    pub dead: &'a CubeSet,
+}
