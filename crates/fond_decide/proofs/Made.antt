@@ -22,7 +22,7 @@ use Rattle.fond_decide.proofs.Unlost.{unbarred}
 
 -- after a lean rule is added that holds in a state, a rule holds there
 pub ruled_more : (task : Task) (draft after : Draft) (state : List Bool) (rule : Rule) → IsDraft task draft → length rule.cond ≡ length task.atoms → LiesIn state rule.cond
-    → IsLeanRule task draft.pairs draft.rules (length draft.rules) rule → after ≡ record draft { rules = draft.rules ++ rule ∷ []; indexed = after.indexed } → IsRuledIn task state draft after
+    → IsLeanRule task draft.pairs draft.rules (length draft.rules) rule → after ≡ record draft { rules = draft.rules ++ rule ∷ [] } → IsRuledIn task state draft after
 ruled_more task draft after state rule is over lies lean made = subst (λ (a : Draft). IsRuledIn task state draft a) (sym made) (record {
   has = holds_last draft.rules rule state lies;
   kept = λ other has. holds_more draft.rules (rule ∷ []) other has;

@@ -173,7 +173,7 @@ fn quick_budget(t: &Task, budget: u32) -> u32 {
             return budget.min(50000);
         }
     }
-    budget.min(5000)
+    budget.min(100)
 }
 
 /// The refusal of a task whose initial state is hopeless by this cube. Its one layer is the cube.

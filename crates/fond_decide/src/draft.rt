@@ -16,15 +16,13 @@ use fond_text::fault::NoMemory;
 use std::alloc::Global;
 
 /// A policy in the making: layers, pairs that lead into them, and rules, each of which contradicts the pairs of its action.
-/// Fresh pairs were found while these rules were made, which need not contradict them. At least the first `indexed` rules
-/// are indexed.
+/// Fresh pairs were found while these rules were made, which need not contradict them.
 #[derive(Drop)]
 pub(crate) struct Draft {
     pub(crate) layers: Layers,
     pub(crate) pairs: Pairs,
     pub(crate) fresh: Vec<Pair>,
     pub(crate) rules: Rules,
-    indexed: u32,
 }
 
 /// A copy of a pair.
@@ -50,28 +48,14 @@ impl Draft {
             pairs: Pairs::new(alloc),
             fresh: Vec::new(alloc),
             rules: Rules::new(alloc),
-            indexed: 0,
         }
-    }
-
-    /// Indexes all rules, once those that are not indexed are more than a small part of them.
-    fn keep_indexed(&mut self) -> Result<(), NoMemory>
-        ensures { self.new ≡ record self.old { indexed = self.new.indexed } }
-    {
-        let count = self.rules.len();
-        if count - self.indexed.min(count) > 64 + self.indexed / 16 {
-            self.rules.index()?;
-            self.indexed = count;
-        }
-        Ok(())
     }
 
     /// Adds a rule at the end.
     pub(crate) fn push_rule(&mut self, rule: Rule) -> Result<(), NoMemory>
         requires { length self.old.rules < 2 ^ 32 - 1 }
-        ensures { OnOk result (self.new ≡ record self.old { rules = self.old.rules ++ rule ∷ []; indexed = self.new.indexed }) }
+        ensures { OnOk result (self.new ≡ record self.old { rules = self.old.rules ++ rule ∷ [] }) }
     {
-        self.keep_indexed()?;
         self.rules.push(rule)?;
         Ok(())
     }
@@ -99,7 +83,6 @@ impl Draft {
         ensures moved { OnOk result ((pair : Pair) → Contains self.old.fresh.items pair → Contains self.new.pairs pair) }
     {
         self.rules = Rules::new(alloc);
-        self.indexed = 0;
         for at in 0..self.fresh.len() {
             let pair = copy_pair(alloc, &self.fresh[at])?;
             self.pairs.push(pair)?;

@@ -19,6 +19,7 @@ use crate::plan::{Plan, plan_of};
 use crate::planner::Planner;
 use fond_explicit::answer::{Choices, Solved};
 use fond_explicit::solve::solve;
+use fond_layers::layers::Layers;
 use fond_state::state::State;
 use fond_task::task::Task;
 use fond_text::fault::NoMemory;
@@ -32,6 +33,7 @@ fn first_effort(budget: u32) -> Effort {
     Effort {
         states: budget.min(4000),
         work: 30000000,
+        layers: 20000000,
     }
 }
 
@@ -40,6 +42,7 @@ fn second_effort(budget: u32) -> Effort {
     Effort {
         states: budget.min(20000),
         work: 300000000,
+        layers: 200000000,
     }
 }
 
@@ -48,6 +51,7 @@ fn last_effort(budget: u32) -> Effort {
     Effort {
         states: budget,
         work: 20000000000,
+        layers: 2000000000,
     }
 }
 
@@ -126,6 +130,29 @@ impl Planner {
         Ok(())
     }
 
+    /// Keeps layers for a state that is stuck in these: others of few cubes, if the engine finds some, or else these.
+    fn lose(
+        &mut self,
+        alloc: Global,
+        t: &Task,
+        state: &State,
+        layers: Layers,
+    ) -> Result<(), NoMemory>
+        requires planner { IsPlanner t.now self.old }
+        requires long { length state.now ≡ length t.now.atoms }
+        requires stuck { AreStuck t.now state.now layers }
+        requires lies { LiesInLayers state.now layers }
+        ensures planner { OnOk result (IsPlanner t.now self.new) }
+        ensures lies { OnOk result (LiesInLayers state.now self.new.draft.layers) }
+    {
+        self.learn_lost(alloc, t, &layers)?;
+        if self.draft.layers.dead(state).is_some() {
+            return Ok(());
+        }
+        self.draft.learn(alloc, t, layers)?;
+        Ok(())
+    }
+
     /// Finds out about a state by opening states from it. None only if more than `budget` states are reachable.
     fn find_by_states(
         &mut self,
@@ -148,7 +175,7 @@ impl Planner {
                 Ok(Some(Found::Ruled))
             }
             Solved::Lost(layers) => {
-                self.draft.learn(alloc, t, layers)?;
+                self.lose(alloc, t, state, layers)?;
                 Ok(Some(Found::Dead))
             }
             Solved::Spent => Ok(None),

@@ -2,19 +2,21 @@
 
 use crate::draft::Draft;
 use fond_game::rule::{Target, Targets};
-use fond_guess::engine::{Engine, Hint};
-use fond_layers::layers::Layer;
+use fond_guess::engine::{Engine, Hint, LayerHint};
+use fond_layers::layers::{Layer, Layers};
 use fond_state::cube::Cube;
 use fond_state::state::State;
 use fond_task::task::Task;
 use fond_text::fault::NoMemory;
 use std::alloc::Global;
 
-/// How much searches may do: how many states each may expand, and how many updates of the relaxed task all may make.
+/// How much searches may do: how many states each may expand, or visit for layers, how many updates of the relaxed task all may make,
+/// and how much work all may do for layers.
 #[derive(Clone, Copy)]
 pub(crate) struct Effort {
     pub(crate) states: u32,
     pub(crate) work: u64,
+    pub(crate) layers: u64,
 }
 
 /// How many of a draft's rules, pairs and layers the engine was told.
@@ -101,6 +103,14 @@ fn tell(engine: &mut Engine, draft: &Draft, told: Told) -> Result<Told, NoMemory
     })
 }
 
+/// The states of the full cubes of a layer are known to be lost.
+fn add_lost(engine: &mut Engine, layer: &Layer) -> Result<(), NoMemory> {
+    for cube in layer {
+        engine.add_lost(cube)?;
+    }
+    Ok(())
+}
+
 impl Guide {
     /// A guide without an engine. It takes no memory.
     pub(crate) fn new() -> Guide {
@@ -111,7 +121,11 @@ impl Guide {
                 pairs: 0,
                 layers: 0,
             },
-            effort: Effort { states: 0, work: 0 },
+            effort: Effort {
+                states: 0,
+                work: 0,
+                layers: 0,
+            },
         }
     }
 
@@ -188,5 +202,60 @@ impl Guide {
         };
         self.told = tell(engine, draft, self.told)?;
         engine.dead_cube(alloc, state)
+    }
+
+    /// Begins to look for layers around a state.
+    pub(crate) fn begin_layers(&mut self, draft: &Draft, state: &State) -> Result<(), NoMemory> {
+        let Some(engine) = &mut self.engine else {
+            return Ok(());
+        };
+        self.told = tell(engine, draft, self.told)?;
+        engine.begin_layers(state, self.effort.states, self.effort.layers)
+    }
+
+    /// Begins to look for layers around the state of a full cube.
+    pub(crate) fn begin_layers_in(&mut self, draft: &Draft, cube: &Cube) -> Result<(), NoMemory> {
+        let Some(engine) = &mut self.engine else {
+            return Ok(());
+        };
+        self.told = tell(engine, draft, self.told)?;
+        engine.begin_layers_in(cube, self.effort.states, self.effort.layers)
+    }
+
+    /// The next layer, if the engine finds one. What it takes is no more there for further ones.
+    pub(crate) fn next_layer(
+        &mut self,
+        alloc: Global,
+        draft: &Draft,
+    ) -> Result<LayerHint, NoMemory> {
+        let Some(engine) = &mut self.engine else {
+            return Ok(LayerHint::Nothing);
+        };
+        self.told = tell(engine, draft, self.told)?;
+        let before = engine.work();
+        let hint = engine.next_layer(alloc)?;
+        let done = engine.work().saturating_sub(before);
+        self.effort.layers = self.effort.layers.saturating_sub(done);
+        Ok(hint)
+    }
+
+    /// The states of the full cubes of these layers are known to be lost, and no others.
+    pub(crate) fn know_lost(&mut self, layers: &Layers) -> Result<(), NoMemory> {
+        let Some(engine) = &mut self.engine else {
+            return Ok(());
+        };
+        engine.forget_lost()?;
+        for number in 0..layers.len() {
+            add_lost(engine, layers.get(number))?;
+        }
+        Ok(())
+    }
+
+    /// No state is known to be lost any more.
+    pub(crate) fn forget_lost(&mut self) -> Result<(), NoMemory> {
+        match &mut self.engine {
+            Some(engine) => engine.forget_lost(),
+            None => Ok(()),
+        }
     }
 }

@@ -97,7 +97,7 @@ impl Planner {
 
     /// Appends a layer of one cube with the state, if one is found: the engine's, or that of a hopeless state. Returns whether one
     /// is.
-    pub(crate) fn learn_dead(
+    pub(crate) fn learn_cube(
         &mut self,
         alloc: Global,
         t: &Task,
@@ -114,6 +114,24 @@ impl Planner {
             }
         }
         self.draft.learn_hopeless(alloc, t, state)
+    }
+
+    /// Appends layers of which one has the state, if some are found: one of a single cube, or else several. Returns whether one has.
+    pub(crate) fn learn_dead(
+        &mut self,
+        alloc: Global,
+        t: &Task,
+        state: &State,
+    ) -> Result<bool, NoMemory>
+        requires planner { IsPlanner t.now self.old }
+        requires long { length state.now ≡ length t.now.atoms }
+        ensures planner { OnOk result (IsPlanner t.now self.new) }
+        ensures lies { IfOk result (λ learnt. learnt ≡ true → LiesInLayers state.now self.new.draft.layers) }
+    {
+        if self.learn_cube(alloc, t, state)? {
+            return Ok(true);
+        }
+        self.learn_layers(alloc, t, state)
     }
 
     /// Heeds the fresh pairs of the draft, and drops all rules. If there are none, a sketch missed a state without a rule, and no

@@ -76,7 +76,7 @@ const ROWS: [(&str, [&str; 3], &str, u8, &str); 14] = [
         FROST_FILES,
         "100",
         0,
-        "dualfond 2 policy\nlayer\ncube +(ice) +(pit) -(g)\ncube -(ice) +(pit) -(g)\npair (step) 1 0 0 : +(ice) -(g)\nrule (step) fair 0 goal : -(ice) -(pit)\nrule (salt) fair 0 0 : +(ice) -(pit)\nitem 0 1 2 : -(ice) -(pit)\nitem goal : +(g)\nitem 1 0 : +(ice) -(pit)\nstart 0\nend\n",
+        "dualfond 2 policy\nlayer\ncube +(pit) -(g)\npair (step) 1 0 0 : +(ice) -(g)\nrule (step) fair 0 goal : -(ice) -(pit)\nrule (salt) fair 0 0 : +(ice) -(pit)\nitem 0 1 2 : -(ice) -(pit)\nitem goal : +(g)\nitem 1 0 : +(ice) -(pit)\nstart 0\nend\n",
     ),
     (
         "an opponent who never shows heads",
@@ -169,6 +169,26 @@ fn a_failing_write_is_a_write_fault(rt: HostRuntime) -> Result<(), Fail> {
         ..WON
     };
     check_with(&rt, rt.alloc(), row, None, Some(0))
+}
+
+/// Twelve coins. The first may be tossed by an opponent alone, so it never shows heads, while the others are flipped until they do:
+/// 2^12 states are reachable.
+const COINS_FILES: [&str; 3] = [
+    "(define (domain coins) (:constants c0 c1 c2 c3 c4 c5 c6 c7 c8 c9 c10 c11) (:predicates (heads ?x))\n(:action flip :parameters (?x) :precondition (not (= ?x c0)) :effect (oneof (heads ?x) (and)))\n(:action toss :effect (oneof (heads c0) (and))))\n",
+    "(define (problem twelve) (:domain coins)\n(:goal (and (heads c0) (heads c1) (heads c2) (heads c3) (heads c4) (heads c5) (heads c6) (heads c7) (heads c8) (heads c9) (heads c10) (heads c11))))\n",
+    "toss",
+];
+
+#[test]
+fn an_opponent_among_many_coins(rt: HostRuntime) -> Result<(), Fail> {
+    check_plan(
+        &rt,
+        rt.alloc(),
+        COINS_FILES,
+        "5000",
+        1,
+        "accepted refusal\n",
+    )
 }
 
 /// The files of tasks, the status of `plan`, and the text of `check` for what it prints.

@@ -1,35 +1,22 @@
-use Rattle.std.proofs.Common.{◌≡◌, ◌∙◌, ℕ, [], ◌∷◌, ◌++◌, List, Some, length, slice_get, sym, ap, subst}
-use Rattle.std.proofs.lemmas.Bool.{false≢true}
-use Rattle.std.proofs.lemmas.List.Elements.{All-push}
+use Rattle.std.proofs.Common.{◌≡◌, ◌<◌, ◌^◌, ◌∙◌, ℕ, [], ◌∷◌, ◌++◌, List, true, length, sym, ap, subst, arith}
+use Rattle.std.specs.Prelude.{IfOk}
 use Rattle.fond_game.specs.Layers.{CubeView}
-use Rattle.fond_layers.specs.Over.{AreOver, IsOver}
-use Rattle.fond_decide.specs.Drafts.{IsDraft}
-use Rattle.fond_decide.proofs.Fitting.{fitting_kept}
-use Rattle.fond_decide.proofs.Lists.{only_one, push_keeps}
+use Rattle.fond_layers.specs.Over.{IsOver}
+use Rattle.fond_decide.proofs.Lists.{only_one}
 use Rattle.fond_decide.proofs.draft.Draft.push_cube.Goals as goal
 
-pub returns-in-Ok-clause-draft : goal.returns-in-Ok-clause-draft
-returns-in-Ok-clause-draft c =
-    let task = c.args.t.now in
-    let draft = c.args.self.now in
-    let old = draft.layers in
-    let new = c.push-2.new.self in
-    let layer = c.push.new.self in
-    let one : layer ≡ c.args.cube ∷ [] = c.in_ok-push.ensures.ok ∙ ap (λ cubes. cubes ++ c.args.cube ∷ []) c.new-layer.ensures in
-    let made : new ≡ old ++ layer ∷ [] = c.in-Ok.ensures.ok.0 in
-    let over : IsOver (length task.atoms) layer = subst (IsOver (length task.atoms)) (sym one) (only_one (λ (cube : CubeView). length cube ≡ length task.atoms) c.args.cube c.requires.over) in
-    let kept : (number : ℕ) (its : List CubeView) → slice_get old number ≡ Some its → slice_get new number ≡ Some its
-    = λ number its at. ap (λ (layers : List (List CubeView)). slice_get layers number) made ∙ push_keeps old (layer ∷ []) number its at in
-    record {
-      over = subst (AreOver (length task.atoms)) (sym made) (All-push (IsOver (length task.atoms)) old layer c.requires.draft.over over);
-      sure = c.in-Ok.ensures.sure c.requires.draft.sure;
-      pairs = fitting_kept task old new kept draft.pairs c.requires.draft.pairs;
-      fresh = fitting_kept task old new kept draft.fresh.items c.requires.draft.fresh;
-      rules = c.requires.draft.rules;
-    }
+pub push_layer-requires-clause-over : goal.push_layer-requires-clause-over
+push_layer-requires-clause-over c =
+    let atoms = length c.args.t.now.atoms in
+    let one : c.push.new.self ≡ c.args.cube ∷ [] = c.in_ok-push.ensures.ok ∙ ap (λ cubes. cubes ++ c.args.cube ∷ []) c.new-layer.ensures in
+    subst (IsOver atoms) (sym one) (only_one (λ (cube : CubeView). length cube ≡ atoms) c.args.cube c.requires.over)
 
-pub returns : goal.returns
-returns c = record {
-  draft = subst (λ (layers : List (List CubeView)). IsDraft c.args.t.now (record c.args.self.now { layers = layers })) (sym c.in-Err.ensures.err) c.requires.draft;
-  kept = λ yes. absurd (false≢true yes);
-}
+pub push_layer-requires-clause-few : goal.push_layer-requires-clause-few
+push_layer-requires-clause-few c =
+    let one : c.push.new.self ≡ c.args.cube ∷ [] = c.in_ok-push.ensures.ok ∙ ap (λ cubes. cubes ++ c.args.cube ∷ []) c.new-layer.ensures in
+    subst (λ (layer : List CubeView). length layer < 2 ^ 32) (sym one) (omega (arith))
+
+pub returns-clause-kept : goal.returns-clause-kept
+returns-clause-kept c =
+    let one : c.push.new.self ≡ c.args.cube ∷ [] = c.in_ok-push.ensures.ok ∙ ap (λ cubes. cubes ++ c.args.cube ∷ []) c.new-layer.ensures in
+    subst (λ (layer : List CubeView). IfOk c.push_layer.result (λ kept. kept ≡ true → c.push_layer.new.self.layers ≡ c.args.self.now.layers ++ layer ∷ [])) one c.push_layer.ensures.kept

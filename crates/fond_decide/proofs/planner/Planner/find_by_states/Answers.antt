@@ -10,9 +10,14 @@ solve-requires-clause-long c = reached_long c.args.t.now c.args.state.now c.requ
 pub win-requires-clause-long : goal.win-requires-clause-long
 win-requires-clause-long c = reached_long c.args.t.now c.args.state.now c.requires.reachable
 
-pub learn-requires-clause-stuck : goal.learn-requires-clause-stuck
-learn-requires-clause-stuck c =
-    (c.args.state.now, reached_long c.args.t.now c.args.state.now c.requires.reachable, (subst (IsRight c.args.t.now c.args.state.now c.args.budget) c.in-Lost.is c.in_ok-choices.ensures).0)
+pub lose-requires-clause-long : goal.lose-requires-clause-long
+lose-requires-clause-long c = reached_long c.args.t.now c.args.state.now c.requires.reachable
+
+pub lose-requires-clause-stuck : goal.lose-requires-clause-stuck
+lose-requires-clause-stuck c = (subst (IsRight c.args.t.now c.args.state.now c.args.budget) c.in-Lost.is c.in_ok-choices.ensures).0
+
+pub lose-requires-clause-lies : goal.lose-requires-clause-lies
+lose-requires-clause-lies c = (subst (IsRight c.args.t.now c.args.state.now c.args.budget) c.in-Lost.is c.in_ok-choices.ensures).1
 
 pub returns-clause-past : goal.returns-clause-past
 returns-clause-past c = λ none.
