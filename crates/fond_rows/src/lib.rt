@@ -30,6 +30,8 @@ mod name_tests;
 #[cfg(test)]
 mod order_tests;
 #[cfg(test)]
+mod outside_tests;
+#[cfg(test)]
 mod plan_tests;
 #[cfg(test)]
 mod problem_tests;

@@ -96,6 +96,21 @@ fn calls(alloc: Global, call: Option<u64>) -> Result<Calls, Fail> {
     Ok(calls)
 }
 
+/// The answer to words over these files, where the numbered read fails, in a sink.
+fn answer_into(
+    alloc: Global,
+    line: &[&str],
+    files: ShelfFiles,
+    bad_read: Option<u64>,
+    mut sink: MemorySink,
+) -> Result<Told, Fail> {
+    let words = words(alloc, line)?;
+    let mut shelf = MemoryShelf::new(files, calls(alloc, bad_read)?);
+    let status = run_tool(alloc, &words, &mut shelf, &mut sink).number();
+    let text = Bytes::copy(alloc, sink.bytes()).map_err(|_| "text")?;
+    Ok(Told { status, text })
+}
+
 /// The answer to words over these files, where the numbered read and the numbered write fail.
 fn answer_to(
     alloc: Global,
@@ -104,12 +119,8 @@ fn answer_to(
     bad_read: Option<u64>,
     bad_write: Option<u64>,
 ) -> Result<Told, Fail> {
-    let words = words(alloc, line)?;
-    let mut shelf = MemoryShelf::new(files, calls(alloc, bad_read)?);
-    let mut sink = MemorySink::new(alloc, 65536, 7, calls(alloc, bad_write)?).map_err(|_| "sink")?;
-    let status = run_tool(alloc, &words, &mut shelf, &mut sink).number();
-    let text = Bytes::copy(alloc, sink.bytes()).map_err(|_| "text")?;
-    Ok(Told { status, text })
+    let sink = MemorySink::new(alloc, 65536, 7, calls(alloc, bad_write)?).map_err(|_| "sink")?;
+    answer_into(alloc, line, files, bad_read, sink)
 }
 
 /// A text of a topic is answered with the topic's status and with this answer.
@@ -161,6 +172,40 @@ pub fn check_with(
     let name = row.name;
     assert_eq!(rt; told.status, row.status, "{name}");
     assert_eq!(rt; told.text.as_slice(), row.text.as_bytes(), "{name}");
+    Ok(())
+}
+
+/// A sink that has room for so many bytes, takes at most `piece` of them at a time, and fails at the numbered write.
+#[derive(Clone, Copy)]
+pub struct Room {
+    pub bytes: usize,
+    pub piece: usize,
+    pub bad_write: Option<u64>,
+}
+
+/// Into a sink with this room, the words of a row are answered with its status, and so many first bytes of its text are written.
+pub fn check_room(
+    rt: &impl Abort,
+    alloc: Global,
+    row: Row<'_>,
+    room: Room,
+    written: usize,
+) -> Result<(), Fail> {
+    if room.piece == 0 {
+        return Err(Fail::from("piece"));
+    }
+    let files = shelf_files(alloc, row.files)?;
+    let sink = MemorySink::new(
+        alloc,
+        room.bytes,
+        room.piece,
+        calls(alloc, room.bad_write)?,
+    ).map_err(|_| "sink")?;
+    let told = answer_into(alloc, row.words, files, None, sink)?;
+    let front = row.text.as_bytes().get(..written).ok_or("front")?;
+    let name = row.name;
+    assert_eq!(rt; told.status, row.status, "{name}");
+    assert_eq!(rt; told.text.as_slice(), front, "{name}");
     Ok(())
 }
 

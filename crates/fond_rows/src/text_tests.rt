@@ -32,13 +32,15 @@ const REFUSED: [(&str, &str); 20] = [
 ];
 
 /// A text and the count of the opening parentheses after it, which are a domain, with the line of its refusal.
-const DEPTHS: [(&str, usize, &str); 6] = [
+const DEPTHS: [(&str, usize, &str); 7] = [
     ("", 128, "refused domain 1 129 F3\n"),
     ("", 129, "refused domain 1 129 F5\n"),
     ("", 131, "refused domain 1 129 F5\n"),
     ("\n", 129, "refused domain 2 129 F5\n"),
     ("(()", 128, "refused domain 1 131 F5\n"),
     (" ", 129, "refused domain 1 130 F5\n"),
+    // A byte more than any text may have.
+    ("", 16777217, "refused domain 1 1 F1\n"),
 ];
 
 /// A domain and a problem, with the line of the first fault.
