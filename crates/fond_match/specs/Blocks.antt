@@ -1,5 +1,5 @@
 -- Indexes of cubes that grow.
-use Rattle.std.specs.Prelude.{◌≡◌, ℕ, ◌+◌, ◌-◌, ◌*◌, ◌^◌, ◌<◌, ◌≤◌, ⊤, List, [], ◌∷◌, Option, Bool, drop, length}
+use Rattle.std.specs.Prelude.{◌≡◌, ℕ, ◌+◌, ◌-◌, ◌*◌, ◌^◌, ◌<◌, ◌≤◌, ⊤, List, [], ◌∷◌, Option, Bool, drop, length, take}
 use Rattle.fond_match.specs.declared.index.Index.{Index}
 use Rattle.fond_match.specs.declared.matcher.Matcher.{Matcher}
 use Rattle.fond_match.specs.Matchers.{IsMatcherOf}
@@ -14,7 +14,7 @@ abbrev pub AreBlocksOf : List (List (Option Bool)) → List Matcher → Type 0
 AreBlocksOf cubes [] = ⊤
 AreBlocksOf cubes (block ∷ blocks) = IsMatcherOf cubes block × (covered blocks < block.count) × AreBlocksOf (drop block.count cubes) blocks
 
--- of this many cubes, each of the first blocks has more than there are after its own
+-- blocks are of the first of this many cubes, and each of them has more cubes than come after it
 abbrev pub AreHeavy : ℕ → List Matcher → Type 0
 AreHeavy count [] = ⊤
 AreHeavy count (block ∷ blocks) = (count < 2 * block.count) × AreHeavy (count - block.count) blocks
@@ -27,6 +27,10 @@ IsIndexOf cubes index = (index.count ≡ covered index.blocks.items) × AreBlock
 abbrev pub LeavesFew : ℕ → Index → Type 0
 LeavesFew count index = count < covered index.blocks.items + 32
 
--- an index of this many cubes has no more blocks than the number of cubes has binary digits
+-- of this many cubes, fewer than 32 are outside the first block of an index
+abbrev pub IsPacked : ℕ → Index → Type 0
+IsPacked count index = count < covered (take 1 index.blocks.items) + 32
+
+-- an index of this many cubes has at most as many blocks as the binary logarithm of one more than the number of cubes
 abbrev pub HasFewBlocks : ℕ → Index → Type 0
 HasFewBlocks count index = 2 ^ length index.blocks.items ≤ count + 1

@@ -20,8 +20,8 @@ entered has literal numbers = if enters has literal then numbers else []
 abbrev pub visits_step : (ℕ → Bool → Bool) → Node-F (List ℕ) → List ℕ
 visits_step has node = entered has node.literal (filter (λ number. nat_le node.least number) (node.numbers.items ++ concat node.branches.items))
 
--- the numbers that a query visits in a node: if it has the literal of the node, those at the node and those in its
--- branches that are not below the least one
+-- the numbers that a query visits in a node: none if it lacks the literal of the node, or else those of the node and those
+-- that it visits in the branches, except any below the least number of the node
 abbrev pub visits : (ℕ → Bool → Bool) → Node → List ℕ
 visits has = fold-Node (List ℕ) (visits_step has)
 
@@ -41,7 +41,7 @@ better lies cubes best number = if nat_lt number best && lies (cube_at cubes num
 abbrev pub HasEach : (ℕ → Bool → Bool) → List (Option Bool) → Type 0
 HasEach has cube = (atom : ℕ) (sign : Bool) → literal_at cube atom ≡ Some sign → has atom sign ≡ true
 
--- of the numbers before, each query still visits those of the cubes of which it has each literal, and visits no others
+-- for each query, the numbers after are among those before, and leave out none of a cube of which the query has each literal
 pub record Keeps (cubes : List (List (Option Bool))) (before after : (ℕ → Bool → Bool) → List ℕ) : Type 0 where
   pub complete : (has : ℕ → Bool → Bool) (number : ℕ) (cube : List (Option Bool)) → slice_get cubes number ≡ Some cube → HasEach has cube → Contains (before has) number → Contains (after has) number
   pub within : (has : ℕ → Bool → Bool) (number : ℕ) → Contains (after has) number → Contains (before has) number

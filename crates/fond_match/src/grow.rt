@@ -7,23 +7,12 @@ ghost use Rattle.std.specs.Prelude.{◌≡◌, ◌<◌, ◌≤◌, All, map, len
 use crate::node::{Literal, Node};
 use crate::part::{Parts, part};
 use crate::query::HasCube;
-use fond_state::cube::Cube;
 use fond_text::fault::NoMemory;
 use std::alloc::Global;
 
 /// How many numbers a node keeps without sorting them. Few, since a branch costs a search one look at a literal, and a
 /// number up to one for each atom.
 const FEW: usize = 2;
-
-/// The first of these atoms at which the two cubes differ, or else `end`.
-fn first_difference(cube: &Cube, other: &Cube, from: u32, end: u32) -> u32 {
-    for atom in from..end {
-        if cube.literal(atom) != other.literal(atom) {
-            return atom;
-        }
-    }
-    end
-}
 
 /// The first atom from `from` on at which the cubes of the numbers differ, or the number of atoms. Only how fast a
 /// search is depends on it.
@@ -34,9 +23,9 @@ fn first_split<T: HasCube>(items: &[T], numbers: &[u32], from: u32) -> u32
         return from;
     };
     let cube = items[*first as usize].cube();
-    let mut end = cube.len() as u32;
+    let mut end = from.max(cube.len() as u32);
     for number in numbers {
-        end = first_difference(cube, items[*number as usize].cube(), from, end);
+        end = cube.first_difference(items[*number as usize].cube(), from, end);
     }
     end
 }

@@ -1,9 +1,9 @@
-//! Indexes of cubes that grow: a list of indexes of consecutive items, each of more items than all those after it together.
-//! So there are few of them, and an item that is added is indexed anew about as often as the logarithm of their number
-//! (Bentley and Saxe, Decomposable searching problems I, 1980).
+//! Indexes of cubes that grow. Such an index is a list of blocks: indexes of consecutive items, each of more items than all
+//! blocks after it have together. So there are few blocks, and an item is indexed about as many times as the logarithm of the
+//! number of items (Bentley and Saxe, Decomposable searching problems I, 1980).
 
-ghost use Rattle.fond_match.specs.Blocks.{AreBlocksOf, AreHeavy, HasFewBlocks, IsIndexOf, LeavesFew, covered};
-ghost use Rattle.std.specs.Prelude.{◌≡◌, ◌<◌, ◌≤◌, ◌^◌, List, Bool, Option, All, length, map, position, take, OnOk};
+ghost use Rattle.fond_match.specs.Blocks.{AreBlocksOf, AreHeavy, HasFewBlocks, IsIndexOf, IsPacked, LeavesFew, covered};
+ghost use Rattle.std.specs.Prelude.{◌≡◌, ◌<◌, ◌≤◌, ◌+◌, ◌^◌, List, Bool, Option, All, length, map, position, take, OnOk};
 
 use crate::matcher::{Matcher, first_of};
 use crate::query::{HasCube, Query};
@@ -59,6 +59,17 @@ fn first_in<T: HasCube, Q: Query>(blocks: &[Matcher], items: &[T], query: &Q) ->
     Some(own.len() as u32 + number)
 }
 
+/// How many items the first block has, if there is one.
+fn first_count(blocks: &[Matcher]) -> usize
+    ensures first { result ≡ covered (take 1 blocks.now) }
+    ensures within { result ≤ covered blocks.now }
+{
+    match blocks.first() {
+        Some(block) => block.count as usize,
+        None => 0,
+    }
+}
+
 impl Index {
     /// An index of none of some cubes, whatever they are. It takes no memory.
     pub fn new(alloc: Global) -> Index
@@ -80,6 +91,7 @@ impl Index {
         requires some { from < length items.now }
         ensures of { IsIndexOf (map T.cube items.now) self.new }
         ensures all { OnOk result (covered self.new.blocks.items ≡ length items.now) }
+        ensures cut { OnOk result (length self.new.blocks.items ≤ keep + 1) }
     {
         let alloc = *self.blocks.allocator();
         let block = Matcher::build(alloc, &items[from..])?;
@@ -90,9 +102,9 @@ impl Index {
         Ok(())
     }
 
-    /// Indexes the items that were added since the last time, unless they are few. If memory runs out, fewer items may be
-    /// indexed than before. If this is called for each item that is added, each is built into about as many blocks as the
-    /// logarithm of the number of items, and each time takes time in that of the atoms.
+    /// Indexes the items that are in no block yet, unless they are few. If memory runs out, fewer items may be indexed than
+    /// before. A caller that adds items one by one and calls this after each of them has each item indexed about as many times
+    /// as the logarithm of the number of items, which takes time in the number of atoms each time.
     pub fn grow<T: HasCube>(&mut self, items: &[T]) -> Result<(), NoMemory>
         requires few { length items.now < 2 ^ 32 }
         requires of { IsIndexOf (map T.cube items.now) self.old }
@@ -107,17 +119,17 @@ impl Index {
         self.rebuild(items, keep, from)
     }
 
-    /// Indexes all items in one block, which makes searches somewhat faster than `grow`, unless few are in no block or in
-    /// another than the first. Takes time in their number times that of the atoms.
+    /// Indexes all items in one block, unless all but a few of them are in the first block already. Searches are somewhat
+    /// faster then than over the blocks that `grow` leaves. Takes time in the number of items times that of the atoms.
     pub fn pack<T: HasCube>(&mut self, items: &[T]) -> Result<(), NoMemory>
         requires few { length items.now < 2 ^ 32 }
         requires of { IsIndexOf (map T.cube items.now) self.old }
         ensures of { IsIndexOf (map T.cube items.now) self.new }
         ensures near { OnOk result (LeavesFew (length items.now) self.new) }
+        ensures packed { OnOk result (IsPacked (length items.now) self.new) }
         ensures few { HasFewBlocks (length items.now) self.new }
     {
-        let first = self.blocks.first().map_or(0, |block| block.count as usize);
-        if items.len().saturating_sub(first) < FEW {
+        if items.len().saturating_sub(first_count(&self.blocks)) < FEW {
             return Ok(());
         }
         self.rebuild(items, 0, 0)

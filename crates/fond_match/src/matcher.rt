@@ -10,8 +10,8 @@ use crate::query::{HasCube, Query};
 use fond_text::fault::NoMemory;
 use std::alloc::Global;
 
-/// How many branches lie on one path of an index at most, which bounds the stack.
-const DEPTH: u32 = 500;
+/// The greatest number of branches on a path of an index, which bounds the recursion over its nodes.
+const DEPTH: u32 = 100;
 
 /// An index of the cubes of some items, or of the first of them. It copies no cube.
 #[derive(Drop)]
@@ -61,7 +61,8 @@ impl Matcher {
     }
 
     /// An index of the cubes of all these items. Takes time in their number times that of the atoms, and the former once
-    /// more for each branch on which they stay together; memory in their number.
+    /// more for each branch on which they stay together; memory in their number. The tree is built by recursion, at most
+    /// `DEPTH` branches deep: a node at that depth keeps its numbers in a list, and a search goes through them one by one.
     pub fn build<T: HasCube>(alloc: Global, items: &[T]) -> Result<Matcher, NoMemory>
         requires { length items.now < 2 ^ 32 }
         ensures of { IfOk result (IsMatcherOf (map T.cube items.now)) }

@@ -37,8 +37,8 @@ impl HasCube for Item {
     }
 }
 
-/// Fewer than 2^32 rules, in order. In a state, the first rule whose literals all hold counts. The conditions of all but a
-/// few of the rules are indexed.
+/// Fewer than 2^32 rules, in order: in a state, the first one whose condition holds there is used. The conditions of all
+/// but a few of the rules are indexed.
 #[derive(Drop)]
 pub struct Rules {
     items: Vec<Item>,
@@ -68,8 +68,8 @@ impl Rules {
         }
     }
 
-    /// Indexes all rules at once, which makes `select` somewhat faster than the index does that grows as rules are added, or
-    /// leaves the list as it was if memory runs out. Takes time in the number of rules times that of atoms.
+    /// Indexes all rules at once. `select` is somewhat faster then than over the index that grows as rules are added. The
+    /// rules stay as they are, even if memory runs out. Takes time in the number of rules times that of atoms.
     pub fn index(&mut self) -> Result<(), NoMemory>
         ensures { self.new ≡ self.old }
     {

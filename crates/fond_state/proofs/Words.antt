@@ -1,17 +1,17 @@
 -- Bits of words: literals that agree word by word agree atom by atom.
-use Rattle.std.proofs.Common.{◌≡◌, ℕ, zero, suc, ◌+◌, ◌*◌, ◌/◌, ◌%◌, ◌<◌, ◌≤◌, ◌^◌, List, [], ◌∷◌, Bool, true, false, not, Option, Some, None, length, set, refl, sym, ap, ◌∙◌, ⊎_elim, inl, inr, arith, eq-eqb}
+use Rattle.std.proofs.Common.{◌≡◌, ℕ, zero, suc, ◌+◌, ◌*◌, ◌/◌, ◌%◌, ◌<◌, ◌^◌, List, Bool, true, false, not, Some, None, length, refl, sym, ap, ◌∙◌, ⊎_elim, inl, inr, arith, eq-eqb}
 use Rattle.std.specs.Prelude.{◌⊎◌, nat_eq, if◌then◌else◌, slice_index_or}
 use Rattle.std.specs.Int.{bit_at, trailing_zeros, w64}
 use Rattle.std.specs.Int.RustNames.{bit_or, bit_xor}
 use lib.Bits.{bit_and}
-use Rattle.std.proofs.lemmas.Bool.{cases_lt, cases_eq, cond-true, false≢true, eqb-true}
-use Rattle.std.proofs.lemmas.List.{get_or_past, get_or-set_same, get_or-set_other, get_or_default, length-set, same_lists}
+use Rattle.std.proofs.lemmas.Bool.{cases_lt, cond-true, false≢true, eqb-true}
+use Rattle.std.proofs.lemmas.List.{get_or_past}
 use Rattle.std.proofs.lemmas.Option.{none-some, same_Some}
 use Rattle.std.proofs.lemmas.Nat.{and_le_l}
 use Rattle.std.proofs.lemmas.Nat.Bits.{bit_at_and, bit_at_or, bit_at_xor, bit_at-zero, bit_at-lt, bit_at-trailing_zeros, same_from_bits_below}
 use Rattle.fond_state.specs.Cubes.{literal_at, truth_at, LiesIn, CubeLiesIn, Contradicts}
 use Rattle.fond_state.specs.declared.mask.Mask.{Mask}
-use Rattle.fond_state.specs.Words.{is_set, no_mask, truth_in, truths_from, mask_at, literal_of, literal_in, literals_from, IsPadded, words_for, Agree, Include, Oppose}
+use Rattle.fond_state.specs.Words.{is_set, truth_in, truths_from, mask_at, literal_of, literal_in, literals_from, IsPadded, words_for, Agree, Include, Oppose}
 
 -- ---- one word
 
@@ -138,7 +138,7 @@ length-literals_from masks at zero = refl
 length-literals_from masks at (suc n) = ap suc (length-literals_from masks (suc at) n)
 
 -- a literal is where its bit is set, with its sign
-literal_some : (mask : Mask) (place : ℕ) (sign : Bool) → literal_of mask place ≡ Some sign → (is_set mask.care place ≡ true) × (is_set mask.sign place ≡ sign)
+pub literal_some : (mask : Mask) (place : ℕ) (sign : Bool) → literal_of mask place ≡ Some sign → (is_set mask.care place ≡ true) × (is_set mask.sign place ≡ sign)
 literal_some mask place sign is = go (is_set mask.care place) refl is
   where
     go : (b : Bool) → is_set mask.care place ≡ b → (if b then Some (is_set mask.sign place) else None) ≡ Some sign → (is_set mask.care place ≡ true) × (is_set mask.sign place ≡ sign)
@@ -148,7 +148,7 @@ literal_some mask place sign is = go (is_set mask.care place) refl is
 pub literal_set : (mask : Mask) (place : ℕ) → is_set mask.care place ≡ true → literal_of mask place ≡ Some (is_set mask.sign place)
 literal_set mask place is = cond-true (is_set mask.care place) _ _ is
 
-same_bit : (a b : ℕ) → a < 2 → b < 2 → nat_eq a 1 ≡ nat_eq b 1 → a ≡ b
+pub same_bit : (a b : ℕ) → a < 2 → b < 2 → nat_eq a 1 ≡ nat_eq b 1 → a ≡ b
 same_bit zero zero s t is = refl
 same_bit zero (suc zero) s t is = absurd (false≢true is)
 same_bit (suc zero) zero s t is = absurd (false≢true (sym is))

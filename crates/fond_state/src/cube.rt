@@ -1,9 +1,9 @@
 //! Cubes: partial states, given by the literals that hold in them.
 
-ghost use Rattle.std.specs.Prelude.{◌≡◌, ◌<◌, ◌^◌, Some, None, length, replicate, slice_set, Decides, IfOk};
+ghost use Rattle.std.specs.Prelude.{◌≡◌, ◌<◌, ◌≤◌, ◌^◌, ℕ, Some, None, length, replicate, slice_set, Decides, IfOk};
 ghost use Rattle.fond_state.specs.Cubes.{literal_at, full_cube, without_literal, lies_in, CubeLiesIn, Contradicts};
 
-use crate::mask::{self, Mask, agrees, are_opposed, is_in, with_literal};
+use crate::mask::{self, Mask, agrees, are_opposed, first_apart, is_in, mask_at, with_literal};
 use crate::state::State;
 use crate::word::{low_bits, word_count};
 use fond_text::fault::NoMemory;
@@ -128,6 +128,25 @@ impl Cube {
             }
         }
         true
+    }
+
+    /// The first atom from `from` on and before `end` at which the two cubes differ, or else `end`. An atom past the last
+    /// one of a cube has no literal. Takes time in the number of words between.
+    pub fn first_difference(&self, d: &Cube, from: u32, end: u32) -> u32
+        requires { from ≤ end }
+        ensures within { (from ≤ result) × (result ≤ end) }
+        ensures same { (atom : ℕ) → from ≤ atom → atom < result → literal_at self.now atom ≡ literal_at d.now atom }
+        ensures differs { result < end → ¬ literal_at self.now result ≡ literal_at d.now result }
+    {
+        for i in (from / 64) as usize..word_count(end) {
+            let start = 64 * i as u32;
+            let mask = mask_at(&self.masks, i);
+            let place = first_apart(mask, mask_at(&d.masks, i), from.saturating_sub(start));
+            if place < 64 {
+                return (start + place).min(end);
+            }
+        }
+        end
     }
 
     /// Whether the two cubes contradict each other: one has a literal of which the other has the opposite. Takes time

@@ -1,9 +1,9 @@
 //! The literals of 64 atoms.
 
-ghost use Rattle.std.specs.Prelude.{◌≡◌, ◌<◌, ℕ, Bool, true, false, Decides};
-ghost use Rattle.fond_state.specs.Words.{Agree, Include, Oppose, is_set, literal_of};
+ghost use Rattle.std.specs.Prelude.{◌≡◌, ◌<◌, ◌≤◌, ℕ, Bool, true, false, Decides};
+ghost use Rattle.fond_state.specs.Words.{Agree, Include, Oppose, is_set, literal_of, mask_at};
 
-use crate::word::{bit, with_bit};
+use crate::word::{bit, first_set, with_bit};
 
 /// The literals of 64 atoms: those whose bit is set in `care` have one, with the sign that is their bit in `sign`.
 #[derive(Clone, Copy)]
@@ -43,6 +43,30 @@ pub(crate) fn are_opposed(care: u64, sign: u64, other: Mask) -> bool
     ensures { Decides result (Oppose (record { care = care; sign = sign }) other) }
 {
     0 < care & (other.care & (sign ^ other.sign))
+}
+
+/// The mask of this number. One past the last mask is without literals.
+pub(crate) fn mask_at(masks: &[Mask], i: usize) -> Mask
+    ensures { result ≡ mask_at masks.now i }
+{
+    match masks.get(i) {
+        Some(mask) => *mask,
+        None => Mask { care: 0, sign: 0 },
+    }
+}
+
+/// The first place from this one on at which the literals of the two masks differ, or else 64. The sign of a place
+/// counts only if the place has a literal.
+pub(crate) fn first_apart(mask: Mask, other: Mask, from: u32) -> u32
+    requires { from < 64 }
+    ensures within { (from ≤ result) × (result ≤ 64) }
+    ensures same { (place : ℕ) → from ≤ place → place < result → literal_of mask place ≡ literal_of other place }
+    ensures differs { result < 64 → ¬ literal_of mask result ≡ literal_of other result }
+{
+    first_set(
+        (mask.care ^ other.care) | (mask.care & (mask.sign ^ other.sign)),
+        from,
+    )
 }
 
 /// The literals with this one at a place.

@@ -38,3 +38,17 @@ pub(crate) fn low_bits(count: u32) -> u64
     }
     u64::MAX >> (64 - count.min(64))
 }
+
+/// The first place from this one on whose bit is set, or else 64.
+pub(crate) fn first_set(word: u64, from: u32) -> u32
+    requires { from < 64 }
+    ensures within { (from ≤ result) × (result ≤ 64) }
+    ensures clear { (k : ℕ) → from ≤ k → k < result → is_set word k ≡ false }
+    ensures set { result < 64 → is_set word result ≡ true }
+{
+    let left = word >> from;
+    if left == 0 {
+        return 64;
+    }
+    from + left.trailing_zeros()
+}

@@ -1,4 +1,3 @@
-use Rattle.std.proofs.Common.{arith}
 use Rattle.std.proofs.lemmas.Bool.Decides.{Decides-ltb}
 use Rattle.fond_state.proofs.Words.{opposed_from, opposed_to}
 use Rattle.fond_state.proofs.mask.are_opposed.Goals as goal

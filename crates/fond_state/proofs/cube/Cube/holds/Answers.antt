@@ -5,7 +5,7 @@ use Rattle.std.proofs.lemmas.List.{get_or_read}
 use Rattle.fond_state.specs.Cubes.{LiesIn}
 use Rattle.fond_state.proofs.Tested.{lies_in-Decides}
 use Rattle.fond_state.specs.declared.mask.Mask.{Mask}
-use Rattle.fond_state.specs.Words.{mask_at, no_mask, Agree, truths_from, literals_from, words_for, IsPadded}
+use Rattle.fond_state.specs.Words.{mask_at, no_mask, Agree, truths_from, literals_from, words_for}
 use Rattle.fond_state.proofs.Words.{length-truths_from, length-literals_from, lies_by_words, words_by_lies, agree_moved, agree_back}
 use Rattle.fond_state.proofs.cube.Cube.holds.Goals as goal
 

@@ -1,4 +1,4 @@
-use Rattle.std.proofs.Common.{◌≡◌, ◌∙◌, ℕ, ◌<◌, ◌/◌, ◌%◌, None, length, sym, ap, arith}
+use Rattle.std.proofs.Common.{◌≡◌, ◌∙◌, ◌<◌, ◌/◌, ◌%◌, None, length, sym, ap, arith}
 use Rattle.std.proofs.lemmas.List.{get_or_past, get_or_read}
 use Rattle.fond_state.specs.Cubes.{literal_at}
 use Rattle.fond_state.specs.declared.mask.Mask.{Mask}

@@ -1,4 +1,4 @@
-use Rattle.std.proofs.Common.{◌≡◌, ◌∙◌, ℕ, ◌<◌, ◌/◌, ◌%◌, Option, Bool, Some, length, set, ap, arith}
+use Rattle.std.proofs.Common.{◌≡◌, ◌∙◌, ℕ, ◌<◌, ◌/◌, ◌%◌, Some, length, set, ap, arith}
 use Rattle.std.proofs.lemmas.List.{get_or_read}
 use Rattle.fond_state.specs.declared.mask.Mask.{Mask}
 use Rattle.fond_state.specs.Words.{is_set, literal_of, mask_at, no_mask}

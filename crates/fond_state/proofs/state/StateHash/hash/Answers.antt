@@ -1,5 +1,5 @@
-use Rattle.std.proofs.Common.{◌≡◌, ◌∙◌, ℕ, List, Bool, ap, sym, subst}
-use Rattle.std.specs.List.{fold, flat_map}
+use Rattle.std.proofs.Common.{◌≡◌, ◌∙◌, ℕ, List, ap, sym}
+use Rattle.std.specs.List.{fold}
 use Rattle.std.specs.Hash as fed
 use Rattle.fond_state.specs.Words.{packed}
 use Rattle.fond_state.proofs.Packs.{words_packed}
