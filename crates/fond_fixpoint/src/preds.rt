@@ -1,4 +1,4 @@
-//! The moves that lead to each node.
+//! The moves that lead to each node, in flat lists.
 
 ghost use Rattle.std.specs.Prelude.{◌≡◌, length};
 
@@ -7,53 +7,68 @@ use fond_text::fault::NoMemory;
 use std::alloc::Global;
 
 /// For each node, the numbers of the moves of which it is a target, as often as it is one. They only guide the search for
-/// ranks: what is found is tested, so no clause says that they are all there.
+/// ranks: what is found is tested, so no clause says that they are all there. The numbers of a node are a range of the list of
+/// all numbers, which ends where that of the next node begins.
 #[derive(Drop)]
 pub struct Preds {
-    lists: Vec<Vec<u32>>,
+    starts: Vec<u32>,
+    numbers: Vec<u32>,
 }
 
-/// Adds the number of a move to the list of a node, if there is one.
-fn enter(lists: &mut [Vec<u32>], node: u32, number: u32) -> Result<(), NoMemory> {
-    match lists.get_mut(node as usize) {
-        Some(list) => list.push(number)?,
-        None => {}
-    }
-    Ok(())
-}
-
-/// Adds the number of a move to the lists of its targets.
-fn enter_all(lists: &mut [Vec<u32>], targets: &[u32], number: u32) -> Result<(), NoMemory> {
+/// Counts the targets of a move, each at its node.
+fn count(counts: &mut [u32], targets: &[u32]) {
     for node in targets {
-        enter(lists, *node, number)?;
+        if let Some(count) = counts.get_mut(*node as usize) {
+            *count = count.saturating_add(1);
+        }
     }
-    Ok(())
 }
 
-/// Empty lists for this many nodes.
-fn no_lists(alloc: Global, nodes: usize) -> Result<Vec<Vec<u32>>, NoMemory> {
-    let mut lists = Vec::new(alloc);
-    for _ in 0..nodes {
-        lists.push(Vec::new(alloc))?;
+/// Makes the count of each node the end of its range. Returns the end of the last one.
+fn add_up(counts: &mut [u32]) -> u32 {
+    let mut end = 0u32;
+    for count in counts.iter_mut() {
+        end = end.saturating_add(*count);
+        *count = end;
     }
-    Ok(lists)
+    end
+}
+
+/// Puts the number of a move at the front of what is filled of the range of each of its targets.
+fn enter(starts: &mut [u32], numbers: &mut [u32], targets: &[u32], number: u32) {
+    for node in targets {
+        if let Some(start) = starts.get_mut(*node as usize) {
+            *start = start.saturating_sub(1);
+            if let Some(place) = numbers.get_mut(*start as usize) {
+                *place = number;
+            }
+        }
+    }
 }
 
 impl Preds {
-    /// The lists of this many nodes. Takes time and memory in the number of nodes and of targets.
+    /// The numbers for this many nodes. Takes time in the number of nodes and of targets, and 4 bytes for each of them.
     pub fn of(alloc: Global, nodes: usize, moves: &Moves) -> Result<Preds, NoMemory> {
-        let mut lists = no_lists(alloc, nodes)?;
+        let mut starts = vec![in alloc; 0; nodes.saturating_add(1)]?;
         for number in 0..moves.len() {
-            enter_all(&mut lists, moves.targets(number), number)?;
+            count(&mut starts, moves.targets(number));
         }
-        Ok(Preds { lists })
+        let mut numbers = vec![in alloc; 0; add_up(&mut starts) as usize]?;
+        for number in (0..moves.len()).rev() {
+            enter(&mut starts, &mut numbers, moves.targets(number), number);
+        }
+        Ok(Preds { starts, numbers })
     }
 
     /// The moves that lead to a node. A node past the last one has none.
     pub(crate) fn get(&self, node: u32) -> &[u32] {
-        match self.lists.get(node as usize) {
-            Some(list) => list.as_slice(),
-            None => &[],
+        let node = node as usize;
+        match (self.starts.get(node), self.starts.get(node + 1)) {
+            (Some(start), Some(end)) => self
+                .numbers
+                .get(*start as usize..*end as usize)
+                .unwrap_or(&[]),
+            _ => &[],
         }
     }
 }
