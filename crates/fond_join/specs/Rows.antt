@@ -3,6 +3,7 @@ use Rattle.std.specs.Prelude.{◌≡◌, ◌<◌, ℕ, true, List, [], ◌∷◌
 use Rattle.fond_text.specs.declared.atom.Atom.{Atom}
 use Rattle.fond_ast.specs.Ranges.{is_among}
 use Rattle.fond_lookup.specs.Texts.{number_beside}
+use Rattle.fond_join.specs.declared.rows.TheConstants.{MOST_ROWED}
 
 -- the list of a number among some lists, which is empty if there is no number
 abbrev pub list_at : List (List ℕ) → Option ℕ → List ℕ
@@ -30,9 +31,10 @@ abbrev pub IsRowedAt : List (List ℕ × ℕ) → List (List ℕ) → Atom → �
 IsRowedAt numbers lists atom position other =
     is_among (row_at numbers lists (key_of atom.predicate position (slice_index_or atom.objects position 0) other)) (slice_index_or atom.objects other 0) ≡ true
 
--- the rows beside each position of an atom have its objects
+-- the rows beside each of the first positions of an atom have its objects at these
 abbrev pub IsRowed : List (List ℕ × ℕ) → List (List ℕ) → Atom → Type 0
-IsRowed numbers lists atom = (position other : ℕ) → position < length atom.objects → other < length atom.objects → IsRowedAt numbers lists atom position other
+IsRowed numbers lists atom =
+    (position other : ℕ) → position < MOST_ROWED → position < length atom.objects → other < MOST_ROWED → other < length atom.objects → IsRowedAt numbers lists atom position other
 
 -- the rows have the objects of some atoms
 abbrev pub AreRowed : List (List ℕ × ℕ) → List (List ℕ) → List Atom → Type 0

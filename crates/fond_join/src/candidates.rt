@@ -9,7 +9,7 @@ ghost use Rattle.std.specs.List.{list_all};
 ghost use Rattle.std.specs.Prelude.{◌≡◌, ◌<◌, ◌⊎◌, Some, true, filter, length, slice_get, IfOk, IfSome, IsSomeAnd, IsTrue};
 
 use crate::facts::Facts;
-use crate::rows::narrow;
+use crate::rows::{MOST_ROWED, narrow};
 use crate::value::{Scope, is_fluent, object_of};
 use fond_ast::form::{LAtom, LCond, LTerm};
 use fond_ast::task::LSchema;
@@ -44,7 +44,8 @@ fn row_beside<'a>(
     let object = object_of(scope, *atom.terms.get(other))?;
     let place = narrow(position)?;
     let known = narrow(other)?;
-    Some(facts.beside(atom.predicate, known, object, place))
+    let row = facts.beside(atom.predicate, known, object, place)?;
+    Some(row)
 }
 
 /// The shortest row of a parameter at a position of a static atom, if there is one.
@@ -59,7 +60,7 @@ fn row_at<'a>(
     ensures { IfSome result (λ row. CoversAtom facts.now.task.now atom.now scope.now.env.items parameter row.now) }
 {
     let mut best = None;
-    for other in 0..atom.terms.len() {
+    for other in 0..atom.terms.len().min(MOST_ROWED) {
         best = shorter(
             best,
             row_beside(facts, scope, atom, parameter, position, other),
@@ -83,7 +84,7 @@ fn row_in<'a>(facts: &'a Facts, scope: &Scope, atom: &LAtom, parameter: usize) -
     ensures { IfSome result (λ row. CoversAtom facts.now.task.now atom.now scope.now.env.items parameter row.now) }
 {
     let mut best = None;
-    for position in 0..atom.terms.len() {
+    for position in 0..atom.terms.len().min(MOST_ROWED) {
         if is_parameter(*atom.terms.get(position), parameter) {
             best = shorter(best, row_at(facts, scope, atom, parameter, position));
         }
@@ -141,8 +142,8 @@ fn among(alloc: Global, row: &[u32], range: &[u32]) -> Result<Vec<u32>, NoMemory
     Ok(objects)
 }
 
-/// The objects to try for a parameter, in order. Takes the time of a lookup for each pair of terms of the precondition's
-/// static atoms, and of a sort of the shortest row that is found.
+/// The objects to try for a parameter, in order. Takes the time of a lookup for each pair of the first terms of the
+/// precondition's static atoms, and of a sort of the shortest row that is found.
 pub(crate) fn candidates(
     alloc: Global,
     facts: &Facts,

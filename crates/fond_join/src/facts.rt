@@ -6,9 +6,9 @@ ghost use Rattle.fond_ast.specs.Ranges.{is_among};
 ghost use Rattle.fond_text.specs.declared.atom.Atom.{Atom};
 ghost use Rattle.fond_meaning.specs.Solutions.{initial};
 ghost use Rattle.std.specs.FinSet as set;
-ghost use Rattle.std.specs.Prelude.{◌≡◌, ◌<◌, ℕ, List, Some, true, false, vec_len, length, slice_get, slice_index_or, IfOk, OnOk};
+ghost use Rattle.std.specs.Prelude.{◌≡◌, ◌<◌, ℕ, List, Some, true, false, vec_len, length, slice_get, slice_index_or, IfOk, IfSome, OnOk};
 
-use crate::rows::{Rows, row_of, rows_of};
+use crate::rows::{MOST_ROWED, Rows, row_of, rows_of};
 use fond_ast::task::LiftedTask;
 use fond_lookup::tuple_index::TupleIndex;
 use fond_text::atom::Atom;
@@ -63,7 +63,7 @@ fn tables_of(alloc: Global, task: &LiftedTask) -> Result<Vec<TupleIndex>, NoMemo
 }
 
 impl<'a> Facts<'a> {
-    /// The index of a task. Takes time and memory in the number of pairs of objects of an initial atom, over all of them.
+    /// The index of a task. Takes time and memory in the number of the objects of initial atoms.
     pub fn of(alloc: Global, task: &'a LiftedTask) -> Result<Facts<'a>, NoMemory>
         ensures { IfOk result (λ facts. facts.task.now ≡ task.now) }
     {
@@ -72,13 +72,25 @@ impl<'a> Facts<'a> {
         Ok(Facts { task, tables, rows })
     }
 
-    /// The objects at a position of the initial atoms of a predicate that have this object at another position. Takes the
-    /// time of one lookup, and no memory.
-    pub(crate) fn beside(&self, predicate: u32, position: u32, object: u32, other: u32) -> &[u32]
-        ensures { (k : ℕ) (atom : Atom) → slice_get self.now.task.now.init k ≡ Some atom → atom.predicate ≡ predicate → position < length atom.objects → slice_index_or atom.objects position 0 ≡ object
-            → other < length atom.objects → is_among result.now (slice_index_or atom.objects other 0) ≡ true }
+    /// The objects at a position of the initial atoms of a predicate that have this object at another position, if both are
+    /// among the first positions. Takes the time of one lookup, and no memory.
+    pub(crate) fn beside(
+        &self,
+        predicate: u32,
+        position: u32,
+        object: u32,
+        other: u32,
+    ) -> Option<&[u32]>
+        ensures { IfSome result (λ row. (k : ℕ) (atom : Atom) → slice_get self.now.task.now.init k ≡ Some atom → atom.predicate ≡ predicate → position < length atom.objects → slice_index_or atom.objects position 0 ≡ object
+            → other < length atom.objects → is_among row.now (slice_index_or atom.objects other 0) ≡ true) }
     {
-        row_of(&self.rows, &[predicate, position, object, other])
+        if position as usize >= MOST_ROWED {
+            return None;
+        }
+        if other as usize >= MOST_ROWED {
+            return None;
+        }
+        Some(row_of(&self.rows, &[predicate, position, object, other]))
     }
 
     /// Whether the atom of a predicate and objects is initial. Takes time in the number of the objects, and no memory.

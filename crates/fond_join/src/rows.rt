@@ -1,7 +1,8 @@
 //! The initial atoms by an object at one of their positions. The row of a predicate, a position, an object there and
-//! another position lists the objects at the other position.
+//! another position lists the objects at the other position. Only the first positions have rows.
 
 ghost use Rattle.fond_ast.specs.Ranges.{is_among};
+ghost use Rattle.fond_join.specs.declared.rows.TheConstants.{MOST_ROWED};
 ghost use Rattle.fond_join.specs.Rows.{AreNumbered, AreRowed, IsGrown, IsRowed, IsRowedAt, row_at};
 ghost use Rattle.fond_lookup.specs.Texts.{number_beside};
 ghost use Rattle.std.specs.Prelude.{◌≡◌, ◌<◌, ℕ, true, None, length, IfOk, IfSome, OnOk};
@@ -11,6 +12,9 @@ use fond_text::atom::{Atom, Objects};
 use fond_text::fault::NoMemory;
 use fond_text::list::List;
 use std::alloc::Global;
+
+/// How many positions of an atom have rows: the first ones. So an atom of any length has few rows.
+pub(crate) const MOST_ROWED: usize = 16;
 
 /// Lists of objects, and the number of the list of each key.
 #[derive(Drop)]
@@ -74,7 +78,7 @@ fn add(alloc: Global, rows: &mut Rows, key: &[u32], object: u32) -> Result<(), N
     }
 }
 
-/// Adds the objects of an atom to the rows beside one of its positions.
+/// Adds the first objects of an atom to the rows beside one of its positions.
 fn enter_beside(
     alloc: Global,
     rows: &mut Rows,
@@ -85,11 +89,11 @@ fn enter_beside(
     requires numbered { AreNumbered rows.old.numbers rows.old.lists.items }
     ensures numbered { OnOk result (AreNumbered rows.new.numbers rows.new.lists.items) }
     ensures grown { OnOk result (IsGrown rows.old.numbers rows.old.lists.items rows.new.numbers rows.new.lists.items) }
-    ensures rowed { OnOk result ((other : ℕ) → other < length atom.now.objects → IsRowedAt rows.new.numbers rows.new.lists.items atom.now position other) }
+    ensures rowed { OnOk result ((other : ℕ) → other < MOST_ROWED → other < length atom.now.objects → IsRowedAt rows.new.numbers rows.new.lists.items atom.now position other) }
 {
     let first = narrow(position).ok_or(NoMemory)?;
     let object = *atom.objects.get(position);
-    for other in 0..atom.objects.len() {
+    for other in 0..atom.objects.len().min(MOST_ROWED) {
         let key = [
             atom.predicate,
             first,
@@ -101,20 +105,20 @@ fn enter_beside(
     Ok(())
 }
 
-/// Adds the objects of an atom to its rows.
+/// Adds the first objects of an atom to its rows.
 fn enter(alloc: Global, rows: &mut Rows, atom: &Atom) -> Result<(), NoMemory>
     requires numbered { AreNumbered rows.old.numbers rows.old.lists.items }
     ensures numbered { OnOk result (AreNumbered rows.new.numbers rows.new.lists.items) }
     ensures grown { OnOk result (IsGrown rows.old.numbers rows.old.lists.items rows.new.numbers rows.new.lists.items) }
     ensures rowed { OnOk result (IsRowed rows.new.numbers rows.new.lists.items atom.now) }
 {
-    for position in 0..atom.objects.len() {
+    for position in 0..atom.objects.len().min(MOST_ROWED) {
         enter_beside(alloc, rows, atom, position)?;
     }
     Ok(())
 }
 
-/// The rows of some atoms. Takes time and memory in the number of pairs of objects of an atom, over all of them.
+/// The rows of some atoms. Takes time and memory in the number of the atoms.
 pub(crate) fn rows_of(alloc: Global, atoms: &[Atom]) -> Result<Rows, NoMemory>
     ensures { IfOk result (λ rows. AreRowed rows.numbers rows.lists.items atoms.now) }
 {

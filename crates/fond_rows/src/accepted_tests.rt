@@ -275,3 +275,29 @@ fn other_tasks_without_a_fault(rt: HostRuntime) -> Result<(), Fail> {
     }
     Ok(())
 }
+
+/// A predicate of so many terms that its last ones are not joined.
+const LONG: &str =
+    "(define (domain x) (:predicates (long ?a1 ?a2 ?a3 ?a4 ?a5 ?a6 ?a7 ?a8 ?a9 ?a10 ?a11 ?a12 ?a13 ?a14 ?a15 ?a16 ?a17 ?a18) (g))\n(:action go :parameters (?x ?y) :precondition (long o o o o o o o o o o o o o o o o ?x ?y) :effect (g)))\n";
+
+const LONG_P: &str =
+    "(define (problem y) (:domain x) (:objects o a b)\n(:init (long o o o o o o o o o o o o o o o o a b)) (:goal (g)))\n";
+
+#[test]
+fn the_last_terms_of_a_long_fact_count(rt: HostRuntime) -> Result<(), Fail> {
+    let answers = [
+        ("(go a b)", "applicable yes\nstate\n(g)\n"),
+        ("(go b a)", "applicable no\n"),
+    ];
+    for (action, text) in answers {
+        let row = Row {
+            name: action,
+            words: &["succ", "domain", "problem", action],
+            files: &[("domain", LONG), ("problem", LONG_P)],
+            status: 0,
+            text,
+        };
+        check(&rt, rt.alloc(), row)?;
+    }
+    Ok(())
+}

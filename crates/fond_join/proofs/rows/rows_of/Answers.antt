@@ -17,7 +17,7 @@ loop-atom-preserved c =
     record {
       numbered = c.in_ok-enter.ensures.numbered;
       rowed = below_next (λ k. (atom : Atom) → slice_get atoms k ≡ Some atom → IsRowed numbers lists atom) i
-          (λ k before atom at position other first second. c.in_ok-enter.ensures.grown _ _ (c.loop-atom.invariant.rowed k before atom at position other first second))
+          (λ k before atom at position other few first less second. c.in_ok-enter.ensures.grown _ _ (c.loop-atom.invariant.rowed k before atom at position other few first less second))
           (λ atom at. subst (IsRowed numbers lists) (same_found atoms i c.atom-item.result atom here at) c.in_ok-enter.ensures.rowed);
     }
 
