@@ -4,7 +4,7 @@ use fond_edge::lists::{Calls, ShelfFiles};
 use fond_edge::memory_shelf::MemoryShelf;
 use fond_edge::memory_sink::MemorySink;
 use fond_edge::pen::Pen;
-use fond_edge::send::send;
+use fond_edge::send::{WriteFault, send};
 use fond_edge::shelf::{FetchFault, Shelf, ShelfFile};
 use fond_edge::sink::{Failed, Sink};
 use fond_text::bytes::Bytes;
@@ -45,6 +45,31 @@ fn a_pen_writes_what_was_put(rt: HostRuntime) -> Result<(), Fail> {
     assert_eq!(rt; pen.put(&mut sink, b"de"), Ok(()));
     assert_eq!(rt; pen.finish(&mut sink), Ok(()));
     assert_eq!(rt; sink.bytes(), b"abcde".as_slice());
+    Ok(())
+}
+
+#[test]
+fn a_pen_writes_more_than_it_collects(rt: HostRuntime) -> Result<(), Fail> {
+    let mut sink = MemorySink::new(rt.alloc(), 6000, 1000, Calls::new(rt.alloc()))?;
+    let mut pen = Pen::new();
+    assert_eq!(rt; pen.put(&mut sink, &[b'a'; 3000]), Ok(()));
+    assert_eq!(rt; pen.put(&mut sink, &[b'b'; 3000]), Ok(()));
+    assert_eq!(rt; pen.finish(&mut sink), Ok(()));
+    assert_eq!(rt; sink.bytes().len(), 6000);
+    assert!(rt; sink.bytes().starts_with(&[b'a'; 3000]));
+    assert!(rt; sink.bytes().ends_with(&[b'b'; 3000]));
+    Ok(())
+}
+
+#[test]
+fn a_pen_fails_at_a_full_sink(rt: HostRuntime) -> Result<(), Fail> {
+    let mut sink = MemorySink::new(rt.alloc(), 2000, 1000, Calls::new(rt.alloc()))?;
+    let mut pen = Pen::new();
+    assert_eq!(rt; pen.put(&mut sink, &[b'a'; 3000]), Ok(()));
+    assert_eq!(rt; pen.put(&mut sink, &[b'b'; 3000]), Err(WriteFault));
+    assert_eq!(rt; sink.bytes(), [b'a'; 2000].as_slice());
+    assert_eq!(rt; pen.put(&mut sink, b"c"), Err(WriteFault));
+    assert_eq!(rt; sink.bytes(), [b'a'; 2000].as_slice());
     Ok(())
 }
 

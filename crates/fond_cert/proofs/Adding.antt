@@ -1,13 +1,18 @@
 -- A text that is added part by part.
-use Rattle.std.proofs.Common.{◌≡◌, ℕ, List, [], ◌++◌, Option, refl, sym, subst, ap, ◌∙◌, append_assoc}
+use Rattle.std.proofs.Common.{◌≡◌, ℕ, inl, inr, true, List, [], ◌++◌, Option, refl, sym, subst, ap, ◌∙◌, append_assoc}
+use Rattle.std.proofs.lemmas.Bool.{false≢true}
 use Rattle.std.proofs.lemmas.List.{append-nil}
 use Rattle.fond_edge.specs.PenState.{PenState}
 use Rattle.fond_edge.specs.Pens.{Flow, flow, Adds}
-use Rattle.fond_edge.proofs.Puts.{adds_nothing, adds_then}
+use Rattle.fond_edge.proofs.Puts.{adds_nothing, adds_then, lost_more}
 
 -- what is added as one text is added as the same text in other words
 pub adds_same : (before after : Flow) (text other : List ℕ) → text ≡ other → Adds before after text → Adds before after other
 adds_same before after text other same added = subst (λ t. Adds before after t) same added
+
+lost_whole : (before now : Flow) (done left : List ℕ) → now.pen.failed ≡ true → Adds before now done → Adds before now (done ++ left)
+lost_whole before now done left failed (inl put) = absurd (false≢true (sym put.is_sound ∙ failed))
+lost_whole before now done left failed (inr lost) = inr (lost_more before now now done left lost)
 
 -- a front of the text was added, and the rest is left
 pub record Adding (before now : Flow) (whole left : List ℕ) : Type 0 where
@@ -29,3 +34,8 @@ module _ (before now after : Flow) (whole left : List ℕ) where
 pub adding_none : (before now : Flow) (whole left : List ℕ) → left ≡ [] → Adding before now whole left → Adds before now whole
 adding_none before now whole left none adding =
     adds_same before now adding.done whole (sym (append-nil adding.done) ∙ ap (λ t. adding.done ++ t) (sym none) ∙ adding.split) adding.added
+
+-- what is left is lost with what was added, if the pen has failed
+pub adding_lost : (before now : Flow) (whole left : List ℕ) → now.pen.failed ≡ true → Adding before now whole left → Adds before now whole
+adding_lost before now whole left failed adding =
+    adds_same before now (adding.done ++ left) whole adding.split (lost_whole before now adding.done left failed adding.added)

@@ -24,4 +24,5 @@ pub mod read;
 mod scan;
 mod target;
 pub mod text;
+mod text_sink;
 mod word;

@@ -1,5 +1,5 @@
 //! Printing a certificate, into a pen or at the end of a text. A failure of the sink is remembered by the pen, so that the
-//! functions for the parts answer nothing.
+//! functions for the parts answer nothing. Loops over parts end as soon as the pen has failed.
 
 ghost use Rattle.fond_policy.specs.Belongs.{Belongs};
 ghost use Rattle.fond_cert.specs.Items.{IsPairOf, IsRuleOf};
@@ -15,6 +15,7 @@ ghost use Rattle.std.specs.Prelude.{◌≡◌, ◌++◌, ℕ, List, All, codes, 
 use crate::put::{
     put_act, put_cube, put_item_numbers, put_number, put_spaced, put_target, put_targets,
 };
+use crate::text_sink::TextSink;
 use fond_cover::item::{Item, Way};
 use fond_cover::items::Items;
 use fond_edge::pen::Pen;
@@ -28,6 +29,7 @@ use fond_rules::rules::Rules;
 use fond_state::cube::Cube;
 use fond_task::task::Task;
 use fond_text::fault::NoMemory;
+use std::mem;
 
 /// Adds the line of a cube.
 fn put_cube_line<K: Sink>(task: &Task, cube: &Cube, pen: &mut Pen, sink: &mut K)
@@ -45,6 +47,9 @@ fn put_cube_lines<K: Sink>(task: &Task, layer: &Layer, pen: &mut Pen, sink: &mut
         (flow (K.written sink.new) (K.faults sink.new) pen.new) (lines_text (map (λ (cube : CubeView). CubeLine (written_cube task.now cube)) layer.now)) }
 {
     for cube in layer.as_slice() {
+        if pen.has_failed() {
+            return;
+        }
         put_cube_line(task, cube, pen, sink);
     }
 }
@@ -64,6 +69,9 @@ fn put_layers<K: Sink>(task: &Task, layers: &Layers, pen: &mut Pen, sink: &mut K
         (flow (K.written sink.new) (K.faults sink.new) pen.new) (flat_map (layer_text task.now) layers.now) }
 {
     for i in 0..layers.len() {
+        if pen.has_failed() {
+            return;
+        }
         put_layer(task, layers.get(i), pen, sink);
     }
 }
@@ -107,6 +115,9 @@ fn put_pairs<K: Sink>(task: &Task, pairs: &Pairs, pen: &mut Pen, sink: &mut K)
         (flow (K.written sink.new) (K.faults sink.new) pen.new) (flat_map (pair_text task.now) pairs.now) }
 {
     for i in 0..pairs.len() {
+        if pen.has_failed() {
+            return;
+        }
         put_pair(task, pairs.get(i), pen, sink);
     }
 }
@@ -149,6 +160,9 @@ fn put_rules<K: Sink>(task: &Task, rules: &Rules, pen: &mut Pen, sink: &mut K)
         (flow (K.written sink.new) (K.faults sink.new) pen.new) (flat_map (rule_text task.now) rules.now) }
 {
     for i in 0..rules.len() {
+        if pen.has_failed() {
+            return;
+        }
         put_rule(task, rules.get(i), pen, sink);
     }
 }
@@ -203,6 +217,9 @@ fn put_items<K: Sink>(task: &Task, items: &Items, pen: &mut Pen, sink: &mut K)
         (flow (K.written sink.new) (K.faults sink.new) pen.new) (flat_map (item_text task.now) items.now) }
 {
     for i in 0..items.len() {
+        if pen.has_failed() {
+            return;
+        }
         put_item(task, items.get(i), pen, sink);
     }
 }
@@ -303,14 +320,14 @@ pub fn send_cert<K: Sink>(
 }
 
 /// Appends the text of a certificate, or a part of it if memory runs out.
-fn append_cert(task: &Task, cert: &Cert, out: &mut Vec<u8>) -> Result<(), WriteFault>
+fn append_cert(task: &Task, cert: &Cert, sink: &mut TextSink) -> Result<(), WriteFault>
     requires { Belongs task.now cert.now }
-    ensures ok { OnOk result (out.new.items ≡ out.old.items ++ spelling task.now cert.now) }
-    ensures part { OnErr result ((more : List ℕ) × (out.new.items ≡ out.old.items ++ more)) }
+    ensures ok { OnOk result (sink.new.text.items ≡ sink.old.text.items ++ spelling task.now cert.now) }
+    ensures part { OnErr result ((more : List ℕ) × (sink.new.text.items ≡ sink.old.text.items ++ more)) }
 {
     let mut pen = Pen::new();
-    send_cert(task, cert, &mut pen, out)?;
-    pen.finish(out)
+    send_cert(task, cert, &mut pen, sink)?;
+    pen.finish(sink)
 }
 
 /// Appends the text of a certificate, or nothing if memory runs out. Takes time in the length of the text, and in the
@@ -321,7 +338,14 @@ pub fn print_cert(task: &Task, cert: &Cert, out: &mut Vec<u8>) -> Result<(), NoM
     ensures err { OnErr result (out.new.items ≡ out.old.items) }
 {
     let before = out.len();
-    match append_cert(task, cert, out) {
+    let empty = Vec::new(*out.allocator());
+    let mut sink = TextSink {
+        text: mem::replace(out, empty),
+        faults: 0,
+    };
+    let outcome = append_cert(task, cert, &mut sink);
+    *out = sink.text;
+    match outcome {
         Ok(()) => Ok(()),
         Err(WriteFault) => {
             out.truncate(before);

@@ -49,7 +49,7 @@ impl CertText {
         ensures ok { OnOk result (Appended (K.written sink.old) (K.written sink.new) self.now) }
         ensures part { OnErr result (AppendedPart (K.written sink.old) (K.written sink.new) self.now) }
         ensures counted { K.faults sink.old ≤ K.faults sink.new }
-        ensures failed { OnErr result (Rose (K.faults sink.old) (K.faults sink.new)) }
+        ensures rose { OnErr result (Rose (K.faults sink.old) (K.faults sink.new)) }
     {
         let mut pen = Pen::new();
         send_cert(&self.game, &self.cert, &mut pen, sink)?;

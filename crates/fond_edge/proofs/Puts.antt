@@ -72,6 +72,17 @@ module _ (before now after : Flow) (bytes more : List ℕ) where
         counted = omega (arith, first.counted, second.counted);
       }
 
+  -- more bytes that are not put are lost as well
+  pub lost_more : IsLost before now bytes → IsLost before now (bytes ++ more)
+  lost_more first = record {
+    failed = first.failed;
+    part = λ e.
+        rw (sym (append_assoc before.pen.pending bytes more)) (part_of_more before.written now.written (before.pen.pending ++ bytes) more (first.part e));
+    rose = first.rose;
+    still = first.still;
+    counted = first.counted;
+  }
+
   -- what is added one after the other is added as a whole
   pub adds_then : Adds before now bytes → Adds now after more → Adds before after (bytes ++ more)
   adds_then (inl first) (inl second) = inl (put_twice first second)

@@ -10,12 +10,12 @@ pub record Flow : Type 0 where
   pub faults : ℕ
   pub pen : PenState
 
--- the sink and the pen together
+-- the flow of a sink with this text and this number of faults and a pen in this state
 abbrev pub flow : Option (List ℕ) → ℕ → PenState → Flow
 flow written faults pen = record { written = written; faults = faults; pen = pen }
 
--- these bytes were put: some bytes were written, and these followed by the pending bytes are the earlier pending bytes
--- followed by the bytes that were put; the pen has not failed
+-- all of `bytes` were put, and the pen has not failed: what was written in between, followed by what is pending after, is
+-- what was pending before, followed by `bytes`
 pub record IsPut (before after : Flow) (bytes : List ℕ) : Type 0 where
   pub front : List ℕ
   pub appended : Appended before.written after.written front
@@ -24,8 +24,8 @@ pub record IsPut (before after : Flow) (bytes : List ℕ) : Type 0 where
   pub is_sound : after.pen.failed ≡ false
   pub counted : before.faults ≤ after.faults
 
--- these bytes were not put: the pen has failed. If it had not failed before, a fault of the sink occurred, and a proper
--- prefix of the earlier pending bytes and these bytes was written; if it had failed before, nothing was written
+-- the pen has failed, so not all of `bytes` were put. If it had not failed before, a fault of the sink occurred, and a proper
+-- prefix of what was pending before, followed by `bytes`, was written. If it had failed before, nothing was written
 pub record IsLost (before after : Flow) (bytes : List ℕ) : Type 0 where
   pub failed : after.pen.failed ≡ true
   pub part : before.pen.failed ≡ false → AppendedPart before.written after.written (before.pen.pending ++ bytes)
@@ -33,6 +33,6 @@ pub record IsLost (before after : Flow) (bytes : List ℕ) : Type 0 where
   pub still : before.pen.failed ≡ true → after.written ≡ before.written
   pub counted : before.faults ≤ after.faults
 
--- these bytes were put, or the pen has failed
+-- all of the bytes were put, or the pen has failed
 abbrev pub Adds : Flow → Flow → List ℕ → Type 0
 Adds before after bytes = IsPut before after bytes ⊎ IsLost before after bytes

@@ -59,7 +59,7 @@ impl<W: Write + Drop> Sink for HostSink<W> {
         ensures most { IfOk result (λ n. n ≤ length b.now) }
         ensures some { IfOk result (λ n. 0 < length b.now → 0 < n) }
         ensures counted { self.old.faults ≤ self.new.faults }
-        ensures failed { OnErr result (Rose self.old.faults self.new.faults) }
+        ensures rose { OnErr result (Rose self.old.faults self.new.faults) }
         ensures raised { OnErr result (self.new.faults ≡ one_more self.old.faults) }
         ensures calm { OnOk result (self.new.faults ≡ self.old.faults) }
         ensures empty { length b.now ≡ 0 → (result ≡ Ok 0) × (self.new ≡ self.old) }

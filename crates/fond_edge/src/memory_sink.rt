@@ -89,7 +89,7 @@ impl Sink for MemorySink {
         ensures appended { IfOk result (λ n. Appended (Some self.old.written) (Some self.new.written) (take n b.now)) }
         ensures err { OnErr result (Some self.new.written ≡ Some self.old.written) }
         ensures counted { self.old.faults ≤ self.new.faults }
-        ensures failed { OnErr result (Rose self.old.faults self.new.faults) }
+        ensures rose { OnErr result (Rose self.old.faults self.new.faults) }
         ensures after { self.new ≡ after_write self.old b.now }
         ensures refused { refuses self.old b.now ≡ true → IsErr result }
         ensures exact { refuses self.old b.now ≡ false → result ≡ Ok (taken self.old b.now) }

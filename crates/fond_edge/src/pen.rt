@@ -61,7 +61,7 @@ impl Pen {
         self.len = end;
     }
 
-    /// Writes bytes past the buffer.
+    /// Writes bytes straight to the sink. The buffer is empty and stays so.
     fn pass<K: Sink>(&mut self, sink: &mut K, b: &[u8]) -> Result<(), WriteFault>
         requires { self.old ≡ record { pending = []; failed = false } }
         ensures ok { OnOk result (Appended (K.written sink.old) (K.written sink.new) b.now) }
@@ -98,6 +98,7 @@ impl Pen {
             (flow (K.written sink.new) (K.faults sink.new) self.new) b.now) }
         ensures err { OnErr result (IsLost (flow (K.written sink.old) (K.faults sink.old) self.old)
             (flow (K.written sink.new) (K.faults sink.new) self.new) b.now) }
+        ensures untouched { self.old.failed ≡ true → sink.new ≡ sink.old }
     {
         if self.has_failed {
             return Err(WriteFault);
@@ -116,8 +117,9 @@ impl Pen {
 
     /// Puts bytes. A failure is remembered: a caller asks `has_failed` once, after the last bytes.
     pub fn add<K: Sink>(&mut self, sink: &mut K, b: &[u8])
-        ensures { Adds (flow (K.written sink.old) (K.faults sink.old) self.old)
+        ensures adds { Adds (flow (K.written sink.old) (K.faults sink.old) self.old)
             (flow (K.written sink.new) (K.faults sink.new) self.new) b.now }
+        ensures untouched { self.old.failed ≡ true → sink.new ≡ sink.old }
     {
         match self.put(sink, b) {
             Ok(()) => {}
@@ -132,6 +134,7 @@ impl Pen {
         ensures part { self.failed ≡ false → OnErr result (AppendedPart (K.written sink.old) (K.written sink.new) self.pending) }
         ensures rose { self.failed ≡ false → OnErr result (Rose (K.faults sink.old) (K.faults sink.new)) }
         ensures still { self.failed ≡ true → OnErr result (K.written sink.new ≡ K.written sink.old) }
+        ensures untouched { self.failed ≡ true → sink.new ≡ sink.old }
         ensures counted { K.faults sink.old ≤ K.faults sink.new }
     {
         let mut pen = self;

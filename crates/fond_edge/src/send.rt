@@ -15,7 +15,7 @@ pub fn send<K: Sink>(sink: &mut K, b: &[u8]) -> Result<(), WriteFault>
     ensures ok { OnOk result (Appended (K.written sink.old) (K.written sink.new) b.now) }
     ensures part { OnErr result (AppendedPart (K.written sink.old) (K.written sink.new) b.now) }
     ensures counted { K.faults sink.old ≤ K.faults sink.new }
-    ensures failed { OnErr result (Rose (K.faults sink.old) (K.faults sink.new)) }
+    ensures rose { OnErr result (Rose (K.faults sink.old) (K.faults sink.new)) }
 {
     let mut rest = b;
     while !rest.is_empty() {

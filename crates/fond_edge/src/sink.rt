@@ -24,21 +24,5 @@ pub trait Sink {
         ensures appended { IfOk result (λ n. Appended (written self.old) (written self.new) (take n b.now)) }
         ensures err { OnErr result (written self.new ≡ written self.old) }
         ensures counted { faults self.old ≤ faults self.new }
-        ensures failed { OnErr result (Rose (faults self.old) (faults self.new)) };
-}
-
-/// A vector takes all bytes, or none if memory runs out. It does not count its faults: its count is saturated from the start.
-impl Sink for Vec<u8> {
-    ghost use Rattle.std.specs.Prelude.{ℕ, ◌^◌, ◌-◌, Some};
-
-    ghost written = { λ v. Some v.items };
-
-    ghost faults = { λ _. 2 ^ 64 - 1 };
-
-    fn write(&mut self, b: &[u8]) -> Result<usize, Failed> {
-        match self.extend_from_slice(b) {
-            Ok(()) => Ok(b.len()),
-            Err(_) => Err(Failed),
-        }
-    }
+        ensures rose { OnErr result (Rose (faults self.old) (faults self.new)) };
 }

@@ -56,7 +56,7 @@ impl Answer {
         ensures ok { OnOk result (Appended (K.written sink.old) (K.written sink.new) self.now.text) }
         ensures part { OnErr result (AppendedPart (K.written sink.old) (K.written sink.new) self.now.text) }
         ensures counted { K.faults sink.old ≤ K.faults sink.new }
-        ensures failed { OnErr result (Rose (K.faults sink.old) (K.faults sink.new)) }
+        ensures rose { OnErr result (Rose (K.faults sink.old) (K.faults sink.new)) }
     {
         self.body.send(sink)
     }

@@ -24,7 +24,7 @@ impl Body {
         ensures ok { OnOk result (Appended (K.written sink.old) (K.written sink.new) (body_text self.now)) }
         ensures part { OnErr result (AppendedPart (K.written sink.old) (K.written sink.new) (body_text self.now)) }
         ensures counted { K.faults sink.old ≤ K.faults sink.new }
-        ensures failed { OnErr result (Rose (K.faults sink.old) (K.faults sink.new)) }
+        ensures rose { OnErr result (Rose (K.faults sink.old) (K.faults sink.new)) }
     {
         match self {
             Body::Held(text) => send(sink, text.as_slice()),

@@ -3,4 +3,4 @@ use Rattle.fond_cert.proofs.names.put_object.Goals as goal
 
 pub returns : goal.returns
 returns g c =
-    adds_then _ _ _ _ _ c.add.ensures c.put_name.ensures
+    adds_then _ _ _ _ _ c.add.ensures.adds c.put_name.ensures

@@ -3,4 +3,4 @@ use Rattle.fond_cert.proofs.print.put_layer.Goals as goal
 
 pub returns : goal.returns
 returns g c =
-    adds_then _ _ _ _ _ c.add.ensures c.put_cube_lines.ensures
+    adds_then _ _ _ _ _ c.add.ensures.adds c.put_cube_lines.ensures

@@ -3,4 +3,4 @@ use Rattle.fond_cert.proofs.put.put_spaced.Goals as goal
 
 pub returns : goal.returns
 returns g c =
-    adds_then _ _ _ _ _ c.add.ensures c.put_number.ensures
+    adds_then _ _ _ _ _ c.add.ensures.adds c.put_number.ensures

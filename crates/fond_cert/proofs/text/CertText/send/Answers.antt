@@ -10,8 +10,8 @@ returns-in_err-send_cert-clause-part g c =
     let same = ap (λ (game : Task). spelling game c.self.inside.cert) c.deref.ensures ∙ c.self.view_is in
     on_err _ (subst (λ text. AppendedPart (g.K.Sink.written c.args.sink.now) (g.K.Sink.written c.send_cert.new.sink) text) same (lost_part _ _ _ c.new-pen.ensures c.in_err-send_cert.ensures.err))
 
-pub returns-in_err-send_cert-clause-failed : goal.returns-in_err-send_cert-clause-failed
-returns-in_err-send_cert-clause-failed g c = on_err _ (lost_rose _ _ _ c.new-pen.ensures c.in_err-send_cert.ensures.err)
+pub returns-in_err-send_cert-clause-rose : goal.returns-in_err-send_cert-clause-rose
+returns-in_err-send_cert-clause-rose g c = on_err _ (lost_rose _ _ _ c.new-pen.ensures c.in_err-send_cert.ensures.err)
 
 pub returns-clause-ok : goal.returns-clause-ok
 returns-clause-ok g c =
@@ -25,5 +25,5 @@ returns-clause-part g c =
     subst (λ text. OnErr c.finish.result (AppendedPart (g.K.Sink.written c.args.sink.now) (g.K.Sink.written c.finish.new.sink) text)) same
     (sent_part _ _ _ c.new-pen.ensures _ 0 c.in_ok-send_cert.ensures.ok _ c.finish.ensures.part)
 
-pub returns-clause-failed : goal.returns-clause-failed
-returns-clause-failed g c = sent_rose _ _ _ c.new-pen.ensures None _ c.in_ok-send_cert.ensures.ok _ c.finish.ensures.rose
+pub returns-clause-rose : goal.returns-clause-rose
+returns-clause-rose g c = sent_rose _ _ _ c.new-pen.ensures None _ c.in_ok-send_cert.ensures.ok _ c.finish.ensures.rose
