@@ -13,7 +13,7 @@ use Rattle.fond_task.specs.declared.task.Labels.{Labels}
 use Rattle.fond_task.specs.declared.task.Task.{Task}
 use Rattle.fond_task.specs.Numbers.{act_number}
 use Rattle.fond_task.specs.Texts.{action_text, name_at}
-use Rattle.fond_cert.specs.Lines.{group_text}
+use Rattle.fond_form.specs.Lines.{group_text}
 use Rattle.fond_cert.specs.Spellings.{action_leaves, act_leaves}
 use Rattle.fond_cert.proofs.CubeTexts.{spaced_names}
 

@@ -6,7 +6,7 @@ use Rattle.fond_game.specs.Layers.{CubeView}
 use Rattle.fond_cert.specs.declared.draft.Draft.{Draft}
 use Rattle.fond_cert.specs.Drafts.{opened, all_layers, draft_lines, IsEmpty, header, HasNoLast, HasNoEvidence, HasLayersAlone, IsWholeOf, FitsDue}
 use Rattle.fond_cert.specs.Faults.{Evidence, ByReach, ByCover, Kind, OfPolicy, OfRefusal, Due, HeaderDue, LayersDue, CubesDue, PairsDue, RulesDue, ItemsDue, EndDue, NothingDue, due_after, if_few}
-use Rattle.fond_cert.specs.Lines.{GoalWord, WrittenLine, PolicyHeader, RefusalHeader, CoverHeader, LayerLine, CubeLine, PairLine, FairRule, ReachLine, GoalItem, StartLine, EndLine}
+use Rattle.fond_form.specs.Lines.{GoalWord, WrittenLine, PolicyHeader, RefusalHeader, CoverHeader, LayerLine, CubeLine, PairLine, FairRule, ReachLine, GoalItem, StartLine, EndLine}
 
 abbrev due_in : Due → Option Due → Due
 due_in none None = none

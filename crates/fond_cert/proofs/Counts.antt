@@ -5,16 +5,17 @@ use Rattle.std.specs.Str.Parse.{digits_value}
 use Rattle.fond_task.specs.declared.task.Task.{Task}
 use Rattle.fond_cert.specs.declared.error.LineError.{LineError}
 use Rattle.fond_cert.specs.declared.error.LineError.TheVariants.{Refused as RefusedLine, NoMemory}
-use Rattle.fond_cert.specs.declared.line.Line.TheVariants.{Cube as CubeParts, Reach as ReachParts, Start as StartParts}
-use Rattle.fond_cert.specs.declared.part.Part.{Part}
-use Rattle.fond_cert.specs.Lines.{is_number, WrittenLiteral, CubeLine, ReachLine, StartLine, IsProper}
-use Rattle.fond_cert.specs.Parts.{AreLiterals}
+use Rattle.fond_form.specs.declared.line.Line.TheVariants.{Cube as CubeParts, Reach as ReachParts, Start as StartParts}
+use Rattle.fond_form.specs.declared.part.Part.{Part}
+use Rattle.fond_form.specs.Lines.{is_number, WrittenLiteral, CubeLine, ReachLine, StartLine, IsProper}
+use Rattle.fond_form.specs.Parts.{AreLiterals}
 use Rattle.fond_cert.specs.Words.{line_refusal}
 use Rattle.fond_cert.specs.Checked.{ReadsNumber, IsNumberRefused, ReadsCube, IsCubeRefused, cube_refusal}
-use Rattle.fond_cert.specs.Cutting.{IsRightCut, IsMade, IsRefusedBy}
+use Rattle.fond_form.specs.Cutting.{IsRightCut}
+use Rattle.fond_cert.specs.Made.{IsMade, IsRefusedBy}
 use Rattle.fond_cert.specs.Refusals.{LineRefuses}
 use Rattle.fond_cert.specs.Spellings.{written_cube}
-use Rattle.fond_cert.proofs.Cubes.{spelled}
+use Rattle.fond_form.proofs.Literals.{spelled}
 use Rattle.fond_cert.proofs.Refusals.{below_right, below_wrong}
 
 module _ (literals : Part) (h : IsRightCut (CubeParts literals)) where

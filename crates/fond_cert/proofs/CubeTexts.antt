@@ -15,16 +15,17 @@ use Rattle.fond_task.specs.declared.task.Task.{Task}
 use Rattle.fond_task.specs.Texts.{atom_text, name_at}
 use Rattle.fond_task.specs.Numbers.{atom_number}
 use Rattle.fond_state.specs.Cubes.{literal_at}
-use Rattle.fond_cert.specs.Lines.{group_text, spaced, WrittenLiteral, sign_text, literal_pieces}
+use Rattle.fond_form.specs.Lines.{group_text, spaced, WrittenLiteral, sign_text, literal_pieces}
 use Rattle.fond_cert.specs.Words.{Refused, unknown, refused_or, first_refused, atom_numbers, is_increasing}
 use Rattle.fond_cert.specs.Spellings.{atom_leaves, written_literal, written_cube}
-use Rattle.fond_cert.specs.Cutting.{literals_text}
+use Rattle.fond_form.specs.Cutting.{literals_text}
 use Rattle.fond_cert.specs.Checked.{with_literal, cube_of, rises, IsCubeAt, IsLiteralRefused, ReadsCube, IsCubeRefused}
 use Rattle.fond_cert.specs.declared.error.LineError.{LineError}
 use Rattle.fond_cert.specs.declared.error.LineError.TheVariants.{Refused as RefusedLine, NoMemory}
 use Rattle.fond_cert.specs.Refusals.{LineRefuses}
-use Rattle.fond_cert.specs.Parts.{literal_text}
-use Rattle.fond_cert.proofs.Cubes.{spelled, rises_from, rises_at_first}
+use Rattle.fond_form.specs.Parts.{literal_text}
+use Rattle.fond_form.proofs.Literals.{spelled}
+use Rattle.fond_cert.proofs.Cubes.{rises_from, rises_at_first}
 
 -- the literals of a cube, atom by atom
 abbrev pub zipped : Labels → List Atom → List (Option Bool) → List WrittenLiteral

@@ -2,25 +2,18 @@
 use Rattle.std.proofs.Common.{◌≡◌, ℕ, ◌+◌, ◌-◌, ◌≤◌, ◌<◌, ◌&&◌, Bool, true, false, List, [], ◌∷◌, ◌++◌, Option, Some, None, All, length, replicate, slice_set, refl, sym, ap, ◌∙◌, arith, length-append}
 use Rattle.std.specs.List.{flat_map, cons_option}
 use Rattle.std.specs.Str.{bytes_eq}
-use Rattle.std.proofs.lemmas.List.{append_cancel_right, length-replicate, length-set}
-use Rattle.std.proofs.lemmas.List.Elements.{All-head, All-tail}
+use Rattle.std.proofs.lemmas.List.{length-replicate, length-set}
 use Rattle.std.proofs.lemmas.List.Quantifiers.{position-Some}
 use Rattle.fond_text.specs.declared.atom.Atom.{Atom}
 use Rattle.fond_task.specs.declared.task.Task.{Task}
 use Rattle.fond_task.specs.Texts.{atom_text}
 use Rattle.fond_task.specs.Numbers.{atom_number}
-use Rattle.fond_cert.specs.Lines.{IsGroup, group_text, WrittenLiteral, sign_text, piece_text, literal_pieces}
-use Rattle.fond_cert.specs.Parts.{IsGroupText, HasNoLiteral, AreLiterals, literal_text}
+use Rattle.fond_form.specs.Lines.{IsGroup, group_text, WrittenLiteral, sign_text, literal_pieces}
+use Rattle.fond_form.specs.Parts.{IsGroupText, HasNoLiteral, AreLiterals, literal_text}
 use Rattle.fond_cert.specs.Words.{unknown, refused_or, first_refused, atom_numbers, is_increasing}
 use Rattle.fond_cert.specs.Checked.{with_literal, cube_of, IsCubeAt, IsLiteralRefused, rises}
-use Rattle.fond_cert.proofs.Groups.{same_rest}
-use Rattle.fond_cert.proofs.Literals.{literal_apart, same_head, after_sign, after_space}
-
-pub spelled : (literals : List WrittenLiteral) → flat_map literal_text literals ≡ flat_map piece_text (literal_pieces literals)
-spelled [] = refl
-spelled (literal ∷ literals) =
-    literal_apart literal (flat_map literal_text literals)
-    ∙ ap (λ t. 32 ∷ (sign_text literal.sign ++ (group_text literal.leaves ++ t))) (spelled literals)
+use Rattle.fond_form.proofs.Literals.{spelled}
+use Rattle.fond_form.proofs.Nexts.{NextLiteral, next_literal, no_literal_left, sign_long}
 
 -- whether numbers rise, the first of them above the one before
 abbrev pub rises_from : Option ℕ → List ℕ → Bool
@@ -71,44 +64,6 @@ all_left task at text h cube new = record {
   cube_is = rw new refl;
   order_is = rises_at_first (atom_numbers task h.0);
 }
-
-pub same_sign : (a b : Bool) (s t : List ℕ) → sign_text a ++ s ≡ sign_text b ++ t → a ≡ b
-same_sign true true s t e = refl
-same_sign true false s t e = let h = same_head 43 45 s t e in absurd (omega (arith, h))
-same_sign false true s t e = let h = same_head 45 43 s t e in absurd (omega (arith, h))
-same_sign false false s t e = refl
-
-sign_long : (sign : Bool) → length (sign_text sign) ≡ 1
-sign_long true = refl
-sign_long false = refl
-
--- what comes next of the literals that are left
-record NextLiteral (left : List WrittenLiteral) (sign : Bool) (atom further : List ℕ) : Type 0 where
-  pub first : WrittenLiteral
-  pub more : List WrittenLiteral
-  pub left_is : left ≡ first ∷ more
-  pub sign_is : sign ≡ first.sign
-  pub atom_is : atom ≡ group_text first.leaves
-  pub behind_is : further ≡ flat_map literal_text more
-  pub more_right : All (λ literal. IsGroup literal.leaves) more
-
-next_literal : (left : List WrittenLiteral) (sign : Bool) (atom further : List ℕ) → All (λ literal. IsGroup literal.leaves) left → IsGroupText atom →
-    32 ∷ (sign_text sign ++ (atom ++ further)) ≡ flat_map literal_text left → NextLiteral left sign atom further
-next_literal [] sign atom further h group e = absurd (cc)
-next_literal (first ∷ more) sign atom further h group e =
-    let P = λ (literal : WrittenLiteral). IsGroup literal.leaves in
-    let apart = after_space _ _ (e ∙ literal_apart first (flat_map literal_text more)) in
-    let atoms = after_sign sign first.sign _ _ apart in
-    let same = same_rest group.0 first.leaves _ _ group.1 (All-head P first more h) (ap (λ t. t ++ further) (sym group.2) ∙ atoms) in
-    record {
-      first = first;
-      more = more;
-      left_is = refl;
-      sign_is = same_sign sign first.sign _ _ apart;
-      atom_is = append_cancel_right atom (group_text first.leaves) further (atoms ∙ ap (λ t. group_text first.leaves ++ t) (sym same));
-      behind_is = same;
-      more_right = All-tail P first more h;
-    }
 
 -- a literal that is read of those that are left
 abbrev pub IsRead : List ℕ → Bool → List ℕ → List ℕ → Type 0
@@ -172,15 +127,10 @@ module _ (task : Task) (at : ℕ) (text rest : List ℕ) (cube : List (Option Bo
             ∙ and_assoc is_ordered (rises last number) (rises_from (Some number) (atom_numbers task next.more));
       }
 
-none_left : (literals : List WrittenLiteral) (rest : List ℕ) → All (λ literal. IsGroup literal.leaves) literals → HasNoLiteral rest → rest ≡ flat_map literal_text literals → literals ≡ []
-none_left [] rest h none e = refl
-none_left (literal ∷ literals) rest h none e =
-    absurd (none literal (flat_map literal_text literals) (All-head (λ (literal : WrittenLiteral). IsGroup literal.leaves) literal literals h) e)
-
 pub all_read : (task : Task) (at : ℕ) (text rest : List ℕ) (cube : List (Option Bool)) (last : Option ℕ) (is_ordered : Bool) → LeftLiterals task at text rest cube last is_ordered →
     HasNoLiteral rest → IsCubeAt task at text cube is_ordered
 all_read task at text rest cube last is_ordered h none =
-    let end = none_left h.left rest h.left_right none h.left_is in record {
+    let end = no_literal_left h.left rest h.left_right none h.left_is in record {
       literals = h.whole;
       proper = h.whole_right;
       spelled = h.whole_is ∙ spelled h.whole;

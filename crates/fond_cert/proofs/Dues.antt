@@ -1,11 +1,11 @@
 -- What is due after lines depends on their kinds alone.
 use Rattle.std.proofs.Common.{◌≡◌, ℕ, ◌==◌, List, [], Some, None, get_or, if◌then◌else◌, refl, sym, ap, ◌∙◌}
-use Rattle.fond_cert.specs.declared.line.Line.{Line}
-use Rattle.fond_cert.specs.declared.line.Line.TheVariants.{PolicyHeader as CutPolicy, RefusalHeader as CutRefusal, CoverHeader as CutCover, Layer, Cube, Pair, FairRule as CutFair, UnfairRule as CutUnfair, Reach, GoalItem as CutGoal, RuleItem as CutItem, Start, End}
-use Rattle.fond_cert.specs.Lines.{GoalWord, WrittenLine, PolicyHeader, RefusalHeader, CoverHeader, LayerLine, CubeLine, PairLine, FairRule, UnfairRule, ReachLine, GoalItem, RuleItem, StartLine, EndLine, line_text}
-use Rattle.fond_cert.specs.Cutting.{IsLineOf, IsCutOf}
+use Rattle.fond_form.specs.declared.line.Line.{Line}
+use Rattle.fond_form.specs.declared.line.Line.TheVariants.{PolicyHeader as CutPolicy, RefusalHeader as CutRefusal, CoverHeader as CutCover, Layer, Cube, Pair, FairRule as CutFair, UnfairRule as CutUnfair, Reach, GoalItem as CutGoal, RuleItem as CutItem, Start, End}
+use Rattle.fond_form.specs.Lines.{GoalWord, WrittenLine, PolicyHeader, RefusalHeader, CoverHeader, LayerLine, CubeLine, PairLine, FairRule, UnfairRule, ReachLine, GoalItem, RuleItem, StartLine, EndLine, line_text}
+use Rattle.fond_form.specs.Cutting.{IsLineOf, IsCutOf}
 use Rattle.fond_cert.specs.Faults.{ByReach, ByCover, OfPolicy, OfRefusal, Due, HeaderDue, LayersDue, CubesDue, PairsDue, RulesDue, ItemsDue, EndDue, NothingDue, due_after, HasNoForm}
-use Rattle.fond_cert.specs.Kinds.{HasNoLineOf, IsAny}
+use Rattle.fond_form.specs.Kinds.{HasNoLineOf, IsAny}
 use Rattle.fond_cert.specs.Stages.{like}
 
 -- a line of the same kind without parts

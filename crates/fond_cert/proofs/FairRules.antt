@@ -6,22 +6,23 @@ use Rattle.fond_game.specs.declared.rule.Target.{Target}
 use Rattle.fond_game.specs.declared.rule.Targets.TheVariants.{One}
 use Rattle.fond_cert.specs.declared.error.LineError.{LineError}
 use Rattle.fond_cert.specs.declared.error.LineError.TheVariants.{Refused as RefusedLine, NoMemory}
-use Rattle.fond_cert.specs.declared.line.Line.{Line}
-use Rattle.fond_cert.specs.declared.line.Line.TheVariants.{FairRule as FairParts}
-use Rattle.fond_cert.specs.declared.part.Part.{Part}
-use Rattle.fond_cert.specs.Lines.{group_text, is_number, WrittenTarget, WrittenLiteral, AreProper, FairRule, line_text, IsProper, Below, target_piece, literal_pieces}
-use Rattle.fond_cert.specs.Parts.{AreLiterals, is_target}
+use Rattle.fond_form.specs.declared.line.Line.{Line}
+use Rattle.fond_form.specs.declared.line.Line.TheVariants.{FairRule as FairParts}
+use Rattle.fond_form.specs.declared.part.Part.{Part}
+use Rattle.fond_form.specs.Lines.{group_text, is_number, WrittenTarget, WrittenLiteral, AreProper, FairRule, line_text, IsProper, Below, target_piece, literal_pieces}
+use Rattle.fond_form.specs.Parts.{AreLiterals, is_target, as_target}
 use Rattle.fond_cert.specs.Words.{Refused, unknown, piece_code, refused_or, first_refused, refusal_or_order, line_refusal, atom_numbers, is_increasing}
-use Rattle.fond_cert.specs.Checked.{as_target, ReadsAct, IsActRefused, ReadsNumber, IsNumberRefused, ReadsTarget, IsTargetTooLarge, ReadsCube, IsCubeRefused, cube_refusal}
-use Rattle.fond_cert.specs.Cutting.{target_text, literals_text, IsRightCut, IsMade, IsRefusedBy}
+use Rattle.fond_cert.specs.Checked.{ReadsAct, IsActRefused, ReadsNumber, IsNumberRefused, ReadsTarget, IsTargetTooLarge, ReadsCube, IsCubeRefused, cube_refusal}
+use Rattle.fond_form.specs.Cutting.{target_text, literals_text, IsRightCut}
+use Rattle.fond_cert.specs.Made.{IsMade, IsRefusedBy}
 use Rattle.fond_cert.specs.Items.{IsReadRule}
 use Rattle.fond_cert.specs.Refusals.{LineRefuses}
 use Rattle.fond_cert.specs.Spellings.{rule_line, written_target}
 use Rattle.fond_cert.proofs.Acts.{act_there}
-use Rattle.fond_cert.proofs.Afters.{target_right}
-use Rattle.fond_cert.proofs.Cubes.{spelled}
+use Rattle.fond_form.proofs.Afters.{target_right}
+use Rattle.fond_form.proofs.Literals.{spelled}
 use Rattle.fond_cert.proofs.Refusals.{below_right, below_wrong}
-use Rattle.fond_cert.proofs.Targets.{writes, Writes}
+use Rattle.fond_form.proofs.TargetTexts.{writes, Writes}
 
 pub fair_text : (a b : List (List ℕ)) (o p : List ℕ) (t u : WrittenTarget) (l m : List WrittenLiteral) → group_text a ≡ group_text b → o ≡ p → target_text t ≡ target_text u → literals_text l ≡ literals_text m →
     line_text (FairRule a o t l) ≡ line_text (FairRule b p u m)

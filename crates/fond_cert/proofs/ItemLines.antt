@@ -6,19 +6,20 @@ use Rattle.fond_task.specs.declared.task.Task.{Task}
 use Rattle.fond_cover.specs.declared.item.Way.TheVariants.{Goal as ToGoal, Rule as ByRule}
 use Rattle.fond_cert.specs.declared.error.LineError.{LineError}
 use Rattle.fond_cert.specs.declared.error.LineError.TheVariants.{Refused as RefusedLine, NoMemory}
-use Rattle.fond_cert.specs.declared.line.Line.{Line}
-use Rattle.fond_cert.specs.declared.line.Line.TheVariants.{GoalItem as GoalParts, RuleItem as ItemParts}
-use Rattle.fond_cert.specs.declared.part.Part.{Part}
-use Rattle.fond_cert.specs.Lines.{is_number, spaced, WrittenLiteral, AreProper, GoalItem, RuleItem, line_text, IsProper, Fixed, Below, piece_text, number_pieces, literal_pieces}
-use Rattle.fond_cert.specs.Parts.{AreLiterals, AreWords, AreWordsText}
+use Rattle.fond_form.specs.declared.line.Line.{Line}
+use Rattle.fond_form.specs.declared.line.Line.TheVariants.{GoalItem as GoalParts, RuleItem as ItemParts}
+use Rattle.fond_form.specs.declared.part.Part.{Part}
+use Rattle.fond_form.specs.Lines.{is_number, spaced, WrittenLiteral, AreProper, GoalItem, RuleItem, line_text, IsProper, Fixed, Below, piece_text, number_pieces, literal_pieces}
+use Rattle.fond_form.specs.Parts.{AreLiterals, AreWords, AreWordsText}
 use Rattle.fond_cert.specs.Words.{Refused, piece_code, refused_or, first_refused, refusal_or_order, line_refusal, atom_numbers, is_increasing}
 use Rattle.fond_cert.specs.Checked.{AreNumbersAt, IsOneNumberRefused, ReadsNumber, IsNumberRefused, ReadsCube, IsCubeRefused, cube_refusal}
-use Rattle.fond_cert.specs.Cutting.{literals_text, IsRightCut, IsMade, IsRefusedBy}
+use Rattle.fond_form.specs.Cutting.{literals_text, IsRightCut}
+use Rattle.fond_cert.specs.Made.{IsMade, IsRefusedBy}
 use Rattle.fond_cert.specs.Items.{IsReadItem}
 use Rattle.fond_cert.specs.Refusals.{LineRefuses}
 use Rattle.fond_cert.specs.Spellings.{item_line}
-use Rattle.fond_cert.proofs.Cubes.{spelled}
-use Rattle.fond_cert.proofs.ItemShapes.{numbers_spaced, item_apart, some_words}
+use Rattle.fond_form.proofs.Literals.{spelled}
+use Rattle.fond_form.proofs.ItemShapes.{numbers_spaced, item_apart, some_words}
 use Rattle.fond_cert.proofs.Refusals.{below_right, below_wrong, behind_right, among_first}
 
 module _ (literals : Part) (h : IsRightCut (GoalParts literals)) where

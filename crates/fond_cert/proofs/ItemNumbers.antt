@@ -9,17 +9,18 @@ use Rattle.std.specs.Str.Parse.{digits_value}
 use Rattle.fond_task.specs.declared.task.Task.{Task}
 use Rattle.fond_game.specs.declared.rule.Target.TheVariants.{Rule as ToRule}
 use Rattle.fond_policy.specs.Sizes.{IsSmallTarget}
-use Rattle.fond_cert.specs.Checked.{as_target, AreNumbersAt, IsOneNumberRefused, ReadsNumber}
-use Rattle.fond_cert.specs.Cutting.{target_text}
-use Rattle.fond_cert.specs.Lines.{is_number, spaced, WrittenTarget, GoalWord, NumberWord, IsProperTarget, Fixed, Below, target_pieces, number_pieces}
-use Rattle.fond_cert.specs.Parts.{is_target, AreWords, AreWordsText, HasNoWord, IsCut}
+use Rattle.fond_form.specs.Parts.{as_target, is_target, AreWords, AreWordsText, HasNoWord, IsCut}
+use Rattle.fond_cert.specs.Checked.{AreNumbersAt, IsOneNumberRefused, ReadsNumber}
+use Rattle.fond_form.specs.Cutting.{target_text}
+use Rattle.fond_form.specs.Lines.{is_number, spaced, WrittenTarget, GoalWord, NumberWord, IsProperTarget, Fixed, Below, target_pieces, number_pieces}
 use Rattle.fond_cert.specs.Spellings.{written_target}
 use Rattle.fond_cert.specs.Words.{first_refused}
-use Rattle.fond_cert.proofs.Afters.{number_is_target}
-use Rattle.fond_cert.proofs.Cuts.{number_no_space, target_no_space}
-use Rattle.fond_cert.proofs.Longest.{longest, words_of, words_right, words_spaced}
+use Rattle.fond_form.proofs.Afters.{number_is_target}
+use Rattle.fond_form.proofs.Cuts.{number_no_space, target_no_space}
+use Rattle.fond_form.proofs.Longest.{longest, words_of, words_right, words_spaced}
 use Rattle.fond_cert.proofs.Refusals.{below_right, below_wrong}
-use Rattle.fond_cert.proofs.Targets.{LeftTargets, NextWord, next_word, all_left, one_read, one_refused, all_read}
+use Rattle.fond_cert.proofs.Targets.{LeftTargets, all_left, one_read, one_refused, all_read}
+use Rattle.fond_form.proofs.Nexts.{NextWord, next_word}
 
 pub number_target : (word : List ℕ) → is_number word ≡ true → is_target word ≡ true
 number_target word h = number_is_target word h (bytes_eq word (codes "goal"))

@@ -1,15 +1,6 @@
-pub mod Feeds
-pub mod Groups
-pub mod Literals
-pub mod Cuts
-pub mod Numbers
 pub mod Targets
 pub mod Cubes
 pub mod Refusals
-pub mod Afters
-pub mod Longest
-pub mod Shapes
-pub mod ItemShapes
 pub mod CubeTexts
 pub mod Acts
 pub mod Appending
@@ -25,8 +16,6 @@ pub mod Steps
 pub mod Wholes
 pub mod Counts
 pub mod Printed
-pub mod SameLines
-pub mod FeedSplits
 pub mod OneFault
 pub mod TaskNames
 pub mod OwnLines

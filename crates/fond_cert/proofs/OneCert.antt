@@ -24,7 +24,7 @@ use Rattle.fond_policy.specs.declared.cert.Cert.TheVariants.{Policy, Refusal, Co
 use Rattle.fond_policy.specs.Belongs.{Belongs, BelongAsPairs, BelongAsRules}
 use Rattle.fond_cert.specs.Faults.{Due, HeaderDue, NothingDue, Lead}
 use Rattle.fond_cert.specs.Items.{IsPairOf, IsRuleOf, IsItemOf}
-use Rattle.fond_cert.specs.Lines.{group_text, WrittenLiteral, WrittenLine, CubeLine, ReachLine, StartLine, EndLine, line_text}
+use Rattle.fond_form.specs.Lines.{group_text, WrittenLiteral, WrittenLine, CubeLine, ReachLine, StartLine, EndLine, line_text}
 use Rattle.fond_policy.specs.Sizes.{IsSmallPair, IsSmallTarget, AreSmallTargets, IsSmallWay, HasSmallNumbers}
 use Rattle.fond_cert.specs.Spellings.{act_leaves, written_literal, written_cube, written_target, layer_lines, pair_line, targets_line, rule_line, way_line, item_line, cert_lines, lines_text, spelling}
 use Rattle.fond_cert.specs.Words.{atom_numbers}
@@ -32,7 +32,7 @@ use Rattle.fond_cert.proofs.CubeTexts.{zipped, cube_zipped}
 use Rattle.fond_cert.proofs.OneFault.{same_first}
 use Rattle.fond_cert.proofs.OwnLines.{AreFoundFrom, all_found, later_found, indices, numbers_are, cert_leads}
 use Rattle.fond_cert.proofs.Printed.{pairs_of, rules_of, items_of}
-use Rattle.fond_cert.proofs.SameLines.{kind_number}
+use Rattle.fond_form.proofs.SameLines.{kind_number}
 use Rattle.fond_cert.proofs.TaskNames.{act_found}
 
 -- lines that lead from one place have one text only if they are the same

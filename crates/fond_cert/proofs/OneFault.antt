@@ -3,12 +3,12 @@ use Rattle.std.proofs.Common.{◌≡◌, inl, inr, ℕ, ◌+◌, List, [], ◌�
 use Rattle.std.proofs.lemmas.List.{append-nil}
 use Rattle.fond_task.specs.declared.task.Task.{Task}
 use Rattle.fond_cert.specs.Faults.{Due, HeaderDue, NothingDue, due_after, Lead, IsRefusedLine, IsRefusedRest, IsRefusedAt, IsCertFault}
-use Rattle.fond_cert.specs.Feeds.{HasNoFeed}
-use Rattle.fond_cert.specs.Lines.{WrittenLine, line_text, IsProper}
+use Rattle.fond_form.specs.Feeds.{HasNoFeed}
+use Rattle.fond_form.specs.Lines.{WrittenLine, line_text, IsProper}
 use Rattle.fond_cert.specs.Spellings.{lines_text}
 use Rattle.fond_cert.specs.Words.{Refused, line_refusal}
-use Rattle.fond_cert.proofs.FeedSplits.{line_no_feed, same_split, feed_inside}
-use Rattle.fond_cert.proofs.SameLines.{same_line}
+use Rattle.fond_form.proofs.FeedSplits.{line_no_feed, same_split, feed_inside}
+use Rattle.fond_form.proofs.SameLines.{same_line}
 use Rattle.fond_cert.proofs.Wholes.{nothing_allowed}
 
 abbrev code_of : Option Refused → ℕ

@@ -28,14 +28,14 @@ use Rattle.fond_policy.specs.Belongs.{Belongs, BelongAsLayers, BelongAsPairs, Be
 use Rattle.fond_cert.specs.Checked.{rises}
 use Rattle.fond_cert.specs.Faults.{Evidence, ByReach, ByCover, Kind, OfPolicy, OfRefusal, Due, HeaderDue, LayersDue, CubesDue, PairsDue, RulesDue, ItemsDue, EndDue, NothingDue, if_few, due_after, after_layers, after_rules, Lead}
 use Rattle.fond_cert.specs.Items.{IsPairOf, IsRuleOf}
-use Rattle.fond_cert.specs.Lines.{IsGroup, group_text, is_number, GoalWord, IsProperTarget, WrittenLiteral, AreProper, WrittenLine, LayerLine, CubeLine, FairRule, UnfairRule, ReachLine, GoalItem, RuleItem, StartLine, EndLine, Piece, Fixed, Below, piece_text, target_piece, target_pieces, number_pieces, literal_pieces, line_pieces, IsProper}
+use Rattle.fond_form.specs.Lines.{IsGroup, group_text, is_number, GoalWord, IsProperTarget, WrittenLiteral, AreProper, WrittenLine, LayerLine, CubeLine, FairRule, UnfairRule, ReachLine, GoalItem, RuleItem, StartLine, EndLine, Piece, Fixed, Below, piece_text, target_piece, target_pieces, number_pieces, literal_pieces, line_pieces, IsProper}
 use Rattle.fond_policy.specs.Sizes.{IsSmallPair, IsSmallTarget, AreSmallTargets, IsSmallWay, HasSmallNumbers}
 use Rattle.fond_cert.specs.Spellings.{atom_leaves, act_leaves, written_literal, written_cube, written_target, layer_lines, pair_line, targets_line, rule_line, way_line, item_line, cert_lines}
 use Rattle.fond_cert.specs.Words.{piece_code, unknown, refused_or, first_refused, atom_numbers, is_increasing, refusal_or_order, is_ordered, line_refusal}
 use Rattle.fond_cert.proofs.CubeTexts.{no_atom, zipped, cube_zipped}
 use Rattle.fond_cert.proofs.Cubes.{rises_from, rises_at_first}
 use Rattle.fond_cert.proofs.Dues.{alike_due}
-use Rattle.fond_cert.proofs.Numbers.{model, value_is}
+use Rattle.fond_form.proofs.Numbers.{model, value_is}
 use Rattle.fond_cert.proofs.Printed.{pairs_of, rules_of}
 use Rattle.fond_cert.proofs.Refusals.{below_right}
 use Rattle.fond_cert.proofs.TaskNames.{act_found, act_group, atom_found, atom_group}

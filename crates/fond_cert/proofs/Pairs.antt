@@ -5,19 +5,20 @@ use Rattle.fond_task.specs.Numbers.{act_number}
 use Rattle.fond_game.specs.declared.rule.Pair.{Pair}
 use Rattle.fond_cert.specs.declared.error.LineError.{LineError}
 use Rattle.fond_cert.specs.declared.error.LineError.TheVariants.{Refused as RefusedLine, NoMemory}
-use Rattle.fond_cert.specs.declared.line.Line.{Line}
-use Rattle.fond_cert.specs.declared.line.Line.TheVariants.{Pair as PairParts}
-use Rattle.fond_cert.specs.declared.part.Part.{Part}
-use Rattle.fond_cert.specs.Lines.{group_text, is_number, WrittenLiteral, AreProper, PairLine, line_text, IsProper, Below, literal_pieces}
-use Rattle.fond_cert.specs.Parts.{AreLiterals}
+use Rattle.fond_form.specs.declared.line.Line.{Line}
+use Rattle.fond_form.specs.declared.line.Line.TheVariants.{Pair as PairParts}
+use Rattle.fond_form.specs.declared.part.Part.{Part}
+use Rattle.fond_form.specs.Lines.{group_text, is_number, WrittenLiteral, AreProper, PairLine, line_text, IsProper, Below, literal_pieces}
+use Rattle.fond_form.specs.Parts.{AreLiterals}
 use Rattle.fond_cert.specs.Words.{Refused, unknown, piece_code, refused_or, first_refused, refusal_or_order, line_refusal, atom_numbers, is_increasing}
 use Rattle.fond_cert.specs.Checked.{ReadsAct, IsActRefused, ReadsNumber, IsNumberRefused, ReadsCube, IsCubeRefused, cube_refusal}
-use Rattle.fond_cert.specs.Cutting.{literals_text, IsRightCut, IsMade, IsRefusedBy}
+use Rattle.fond_form.specs.Cutting.{literals_text, IsRightCut}
+use Rattle.fond_cert.specs.Made.{IsMade, IsRefusedBy}
 use Rattle.fond_cert.specs.Items.{IsReadPair}
 use Rattle.fond_cert.specs.Refusals.{LineRefuses}
 use Rattle.fond_cert.specs.Spellings.{pair_line}
 use Rattle.fond_cert.proofs.Acts.{act_there}
-use Rattle.fond_cert.proofs.Cubes.{spelled}
+use Rattle.fond_form.proofs.Literals.{spelled}
 use Rattle.fond_cert.proofs.Refusals.{below_right, below_wrong}
 
 pub pair_text : (a b : List (List ℕ)) (o p n q c r : List ℕ) (l m : List WrittenLiteral) → group_text a ≡ group_text b → o ≡ p → n ≡ q → c ≡ r → literals_text l ≡ literals_text m →

@@ -24,15 +24,15 @@ use Rattle.fond_cover.specs.declared.item.Way.TheVariants.{Goal as ToGoal, Rule 
 use Rattle.fond_policy.specs.declared.cert.Cert.TheVariants.{Policy, Refusal, Covered}
 use Rattle.fond_policy.specs.Belongs.{BelongAsPairs, BelongAsRules, BelongAsItems}
 use Rattle.fond_cert.specs.Items.{IsPairOf, IsRuleOf, IsItemOf}
-use Rattle.fond_cert.specs.Cutting.{target_text, targets_text, literals_text}
-use Rattle.fond_cert.specs.Lines.{group_text, spaced, WrittenLiteral, WrittenLine, ReachLine, StartLine, EndLine, sign_text}
+use Rattle.fond_form.specs.Cutting.{target_text, targets_text, literals_text}
+use Rattle.fond_form.specs.Lines.{group_text, spaced, WrittenLiteral, WrittenLine, ReachLine, StartLine, EndLine, sign_text}
 use Rattle.fond_cert.specs.Printed.{atom_literal_text, cube_text, fed, chosen_text, cond_text, pair_text, rule_text, way_text, item_text, layer_text, plan_text, policy_text, items_text, cover_text, refusal_text}
 use Rattle.fond_cert.specs.Spellings.{action_leaves, act_leaves, written_literal, written_cube, written_target, targets_line, layer_lines, pair_line, rule_line, way_line, item_line, lines_text, spelling}
 use Rattle.fond_cert.proofs.Acts.{leaves_text as action_leaves_text}
 use Rattle.fond_cert.proofs.CubeTexts.{leaves_text}
-use Rattle.fond_cert.proofs.Literals.{literal_apart}
-use Rattle.fond_cert.proofs.ItemShapes.{item_apart}
-use Rattle.fond_cert.proofs.UnfairRules.{apart}
+use Rattle.fond_form.proofs.Literals.{literal_apart}
+use Rattle.fond_form.proofs.ItemShapes.{item_apart}
+use Rattle.fond_form.proofs.Shapes.{unfair_apart}
 use Rattle.fond_cert.proofs.Wholes.{lines_append}
 
 one_item : (labels : Labels) (atom : Atom) (literal : Option Bool) (rest : List WrittenLiteral) →
@@ -126,7 +126,7 @@ rule_by task a (All targets) cond =
     let t = codes " :" ++ literals_text (written_cube task cond) in
     ap (λ u. codes "rule " ++ (g ++ u)) (sym (append_assoc w t (codes "\n")))
     ∙ ap (λ u. codes "rule " ++ u) (sym (append_assoc g (w ++ t) (codes "\n")))
-    ∙ ap (λ u. u ++ codes "\n") (sym (apart a (map written_target targets) (written_cube task cond)))
+    ∙ ap (λ u. u ++ codes "\n") (sym (unfair_apart a (map written_target targets) (written_cube task cond)))
 
 pub rule_is : (task : Task) (rule : Rule) → rule_text task rule ≡ fed (rule_line task rule)
 rule_is task rule = rule_by task (act_leaves task rule.act) rule.targets rule.cond

@@ -1,11 +1,10 @@
 -- Refusals of lines, piece by piece.
-use Rattle.std.proofs.Common.{Result, Ok, Err, IfErr, IsErrAnd, subst, sym}
-use Rattle.std.proofs.Common.{◌≡◌, ℕ, ◌+◌, ◌≤◌, ◌<◌, nat_lt, Bool, true, false, List, [], ◌∷◌, ◌++◌, Option, Some, None, length, if◌then◌else◌, refl, ap, ◌∙◌, arith, length-append}
+use Rattle.std.proofs.Common.{Result, Ok, Err, IfErr, IsErrAnd, subst, sym, ◌≡◌, ℕ, ◌+◌, ◌≤◌, ◌<◌, nat_lt, Bool, true, false, List, [], ◌∷◌, ◌++◌, Option, Some, None, length, if◌then◌else◌, refl, ap, ◌∙◌, arith, length-append}
 use Rattle.std.specs.List.{flat_map}
 use Rattle.std.specs.Str.Parse.{digits_value}
 use Rattle.std.proofs.lemmas.Bool.Decides.{nat_tests}
 use Rattle.fond_task.specs.declared.task.Task.{Task}
-use Rattle.fond_cert.specs.Lines.{WrittenLine, Piece, Below, piece_text, line_pieces, line_text}
+use Rattle.fond_form.specs.Lines.{WrittenLine, Piece, Below, piece_text, line_pieces, line_text}
 use Rattle.fond_cert.specs.Words.{Refused, piece_code, refused_or, first_refused, refusal_or_order, is_ordered, line_refusal}
 
 is_below : (value bound : ℕ) → value < bound → nat_lt value bound ≡ true

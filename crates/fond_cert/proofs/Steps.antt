@@ -12,15 +12,16 @@ use Rattle.fond_game.specs.Layers.{CubeView}
 use Rattle.fond_layers.specs.Over.{IsOver, AreOver}
 use Rattle.fond_cover.specs.declared.item.Item.{Item}
 use Rattle.fond_cert.specs.declared.draft.Draft.{Draft}
-use Rattle.fond_cert.specs.declared.line.Line.{Line}
-use Rattle.fond_cert.specs.declared.line.Line.TheVariants.{PolicyHeader as CutPolicy, RefusalHeader as CutRefusal, CoverHeader as CutCover, Layer, Cube, Pair, FairRule as CutFair, UnfairRule as CutUnfair, Reach, GoalItem as CutGoal, RuleItem as CutItem, Start, End}
-use Rattle.fond_cert.specs.declared.part.Part.{Part}
+use Rattle.fond_form.specs.declared.line.Line.{Line}
+use Rattle.fond_form.specs.declared.line.Line.TheVariants.{PolicyHeader as CutPolicy, RefusalHeader as CutRefusal, CoverHeader as CutCover, Layer, Cube, Pair, FairRule as CutFair, UnfairRule as CutUnfair, Reach, GoalItem as CutGoal, RuleItem as CutItem, Start, End}
+use Rattle.fond_form.specs.declared.part.Part.{Part}
 use Rattle.fond_policy.specs.Belongs.{BelongAsLayers}
-use Rattle.fond_cert.specs.Cutting.{IsLineOf, IsMade}
+use Rattle.fond_form.specs.Cutting.{IsLineOf}
+use Rattle.fond_cert.specs.Made.{IsMade}
 use Rattle.fond_cert.specs.Drafts.{opened, all_layers, last_lines, draft_lines, IsDraftOf, with_open, closed, with_pair, with_rule, with_item, with_reach, with_start, IsGrown, IsEmpty, header, HasNoLast, HasNoEvidence, HasLayersAlone, IsWholeOf, FitsDue, HasRoom}
 use Rattle.fond_cert.specs.Faults.{ByReach, ByCover, Kind, OfPolicy, OfRefusal, Due, due_after}
 use Rattle.fond_cert.specs.Items.{IsReadPair, IsReadRule, IsReadItem}
-use Rattle.fond_cert.specs.Lines.{WrittenLine, PolicyHeader, RefusalHeader, CoverHeader, LayerLine, CubeLine, PairLine, ReachLine, StartLine, EndLine, IsProper}
+use Rattle.fond_form.specs.Lines.{WrittenLine, PolicyHeader, RefusalHeader, CoverHeader, LayerLine, CubeLine, PairLine, ReachLine, StartLine, EndLine, IsProper}
 use Rattle.fond_cert.specs.Spellings.{written_cube, layer_lines, pair_line, rule_line, item_line}
 use Rattle.fond_cert.specs.Stages.{like}
 use Rattle.fond_cert.specs.Words.{line_refusal}

@@ -1,49 +1,17 @@
 -- Targets from left to right.
-use Rattle.std.proofs.Common.{◌≡◌, ◌≢◌, ℕ, ◌+◌, ◌-◌, ◌≤◌, Bool, true, false, IsTrue, List, [], ◌∷◌, ◌++◌, Some, None, All, length, map, codes, refl, sym, ap, ◌∙◌, arith, length-append}
-use Rattle.std.specs.List.{flat_map}
-use Rattle.std.specs.Str.{bytes_eq}
-use Rattle.std.proofs.lemmas.Slice.Eq.{bytes_eq-Decides}
-use Rattle.std.proofs.lemmas.List.Elements.{All-head, All-tail, All-cons, All-nil, All-append}
+use Rattle.std.proofs.Common.{◌≡◌, ◌≢◌, ℕ, ◌+◌, ◌-◌, ◌≤◌, true, IsTrue, List, [], ◌∷◌, ◌++◌, Some, None, All, length, map, refl, sym, ap, ◌∙◌, arith, length-append}
+use Rattle.std.proofs.lemmas.List.Elements.{All-cons, All-nil, All-append}
 use Rattle.fond_task.specs.declared.task.Task.{Task}
 use Rattle.fond_game.specs.declared.rule.Target.{Target}
-use Rattle.fond_cert.specs.Lines.{is_number, spaced, WrittenTarget, IsProperTarget, piece_text, target_piece, target_pieces}
-use Rattle.fond_cert.specs.Parts.{is_target, AreWords, AreWordsText, IsCut, EndsWord}
+use Rattle.fond_form.specs.Lines.{spaced, WrittenTarget, target_piece, target_pieces}
+use Rattle.fond_form.specs.Parts.{is_target, AreWords, AreWordsText, IsCut, as_target}
 use Rattle.fond_cert.specs.Words.{piece_code, refused_or, first_refused}
 use Rattle.fond_policy.specs.Sizes.{IsSmallTarget}
 use Rattle.fond_cert.specs.Spellings.{written_target}
-use Rattle.fond_cert.specs.Checked.{as_target, AreTargetsAt, IsTargetRefused}
-use Rattle.fond_cert.proofs.Cuts.{same_word, target_no_space, HasNoSpaces}
-use Rattle.fond_cert.proofs.Literals.{same_tail}
-
--- a word is the text of a written target
-abbrev pub Writes : List ℕ → WrittenTarget → Type 0
-Writes word target = IsProperTarget target × (piece_text (target_piece target) ≡ word)
-
-writes_by : (word : List ℕ) (v : Bool) → bytes_eq word (codes "goal") ≡ v → is_target word ≡ true → Writes word (as_target word)
-writes_by word true e h = rw e (tt, sym ((bytes_eq-Decides word (codes "goal")).0 e))
-writes_by word false e h =
-    let number : is_number word ≡ true = rw e at h in
-    rw e (number, refl)
-
-pub writes : (word : List ℕ) → is_target word ≡ true → Writes word (as_target word)
-writes word h = writes_by word (bytes_eq word (codes "goal")) refl h
-
-proper : (words : List (List ℕ)) → AreWords is_target words → All IsProperTarget (map as_target words)
-proper [] h = All-nil IsProperTarget
-proper (word ∷ words) h =
-    let P = λ (word : List ℕ). IsTrue (is_target word) in
-    All-cons IsProperTarget (as_target word) (map as_target words) (writes word (All-head P word words h)).0 (proper words (All-tail P word words h))
-
-spelled : (words : List (List ℕ)) → AreWords is_target words → spaced words ≡ flat_map piece_text (target_pieces (map as_target words))
-spelled [] h = refl
-spelled (word ∷ words) h =
-    let P = λ (word : List ℕ). IsTrue (is_target word) in
-    ap (λ t. 32 ∷ (word ++ t)) (spelled words (All-tail P word words h))
-    ∙ ap (λ t. 32 ∷ (t ++ flat_map piece_text (target_pieces (map as_target words)))) (sym (writes word (All-head P word words h)).1)
-
--- the targets that a text of targets writes
-pub as_written : (text : List ℕ) → AreWordsText is_target text → (written : List WrittenTarget) × All IsProperTarget written × (text ≡ flat_map piece_text (target_pieces written))
-as_written text h = (map as_target h.0, proper h.0 h.1, h.2 ∙ spelled h.0 h.1)
+use Rattle.fond_cert.specs.Checked.{AreTargetsAt, IsTargetRefused}
+use Rattle.fond_form.proofs.Cuts.{target_no_space}
+use Rattle.fond_form.proofs.Nexts.{NextWord, next_word, no_word_left}
+use Rattle.fond_form.proofs.TargetTexts.{writes, targets_proper, targets_spelled}
 
 -- the targets that are left, after these were read
 pub record LeftTargets (at : ℕ) (text rest : List ℕ) (targets : List Target) : Type 0 where
@@ -71,32 +39,6 @@ all_left at text h = record {
   named = refl;
   small = All-nil IsSmallTarget;
 }
-
-ends_spaced : (words : List (List ℕ)) → EndsWord (spaced words)
-ends_spaced [] = tt
-ends_spaced (word ∷ words) = refl
-
--- the next of the words that are left, which pass a test
-pub record NextWord (test : List ℕ → Bool) (left : List (List ℕ)) (word further : List ℕ) : Type 0 where
-  pub more : List (List ℕ)
-  pub left_is : left ≡ word ∷ more
-  pub behind_is : further ≡ spaced more
-  pub right : test word ≡ true
-  pub more_right : AreWords test more
-
-pub next_word : (test : List ℕ → Bool) → HasNoSpaces test → (left : List (List ℕ)) (inner word further : List ℕ) → AreWords test left → 32 ∷ inner ≡ spaced left → IsCut inner word further → NextWord test left word further
-next_word test no_space [] inner word further h e cut = absurd (cc)
-next_word test no_space (first ∷ more) inner word further h e cut =
-    let P = λ (word : List ℕ). IsTrue (test word) in
-    let right = All-head P first more h in
-    let same = same_word word first further (spaced more) cut.1 (no_space first right) cut.2 (ends_spaced more) (sym cut.0 ∙ same_tail 32 32 inner (first ++ spaced more) e) in
-    record {
-      more = more;
-      left_is = ap (λ w. w ∷ more) (sym same.0);
-      behind_is = same.1;
-      right = rw same.0 right;
-      more_right = All-tail P first more h;
-    }
 
 next_is : (at : ℕ) (text rest inner word further : List ℕ) (targets : List Target) → (h : LeftTargets at text rest targets) → rest ≡ 32 ∷ inner → IsCut inner word further → NextWord is_target h.left word further
 next_is at text rest inner word further targets h e cut = next_word is_target target_no_space h.left inner word further h.left_right (sym e ∙ h.left_is) cut
@@ -146,8 +88,8 @@ one_refused at text rest inner word further targets h e cut wrong task =
     let p = at + (length text - length rest) in
     let there : p + 1 ≡ at + (length text - length inner) = omega (arith, ap length e, h.short) in record {
       written = map as_target h.whole;
-      proper = proper h.whole h.whole_right;
-      spelled = h.whole_is ∙ spelled h.whole h.whole_right;
+      proper = targets_proper h.whole h.whole_right;
+      spelled = h.whole_is ∙ targets_spelled h.whole h.whole_right;
       wrong =
           h.refusal task
           ∙ ap (λ l. first_refused task p (target_pieces (map as_target l))) next.left_is
@@ -156,20 +98,16 @@ one_refused at text rest inner word further targets h e cut wrong task =
           ∙ ap (λ q. Some (record { code = 4; at = q })) there;
     }
 
-none_left : (words : List (List ℕ)) (rest : List ℕ) → ((further : List ℕ) → rest ≢ 32 ∷ further) → rest ≡ spaced words → words ≡ []
-none_left [] rest none e = refl
-none_left (word ∷ words) rest none e = absurd (none (word ++ spaced words) e)
-
 append_nil : (targets : List WrittenTarget) → targets ++ [] ≡ targets
 append_nil [] = refl
 append_nil (target ∷ targets) = ap (λ t. target ∷ t) (append_nil targets)
 
 pub all_read : (at : ℕ) (text rest : List ℕ) (targets : List Target) → LeftTargets at text rest targets → ((further : List ℕ) → rest ≢ 32 ∷ further) → (task : Task) → AreTargetsAt task at text targets
 all_read at text rest targets h none task =
-    let end = none_left h.left rest none h.left_is in record {
+    let end = no_word_left h.left rest none h.left_is in record {
       written = map as_target h.whole;
-      proper = proper h.whole h.whole_right;
-      spelled = h.whole_is ∙ spelled h.whole h.whole_right;
+      proper = targets_proper h.whole h.whole_right;
+      spelled = h.whole_is ∙ targets_spelled h.whole h.whole_right;
       right = h.refusal task ∙ ap (λ l. first_refused task (at + (length text - length rest)) (target_pieces (map as_target l))) end;
       named = h.named ∙ ap (λ l. map written_target targets ++ map as_target l) end ∙ append_nil (map written_target targets);
       small = h.small;

@@ -1,40 +1,37 @@
 -- What a line of a rule of an unfair action makes.
 use Rattle.std.proofs.Common.{◌≡◌, ℕ, ◌+◌, ◌<◌, List, [], ◌∷◌, ◌++◌, All, Option, Some, None, Bool, length, map, codes, refl, sym, ap, ◌∙◌, subst, arith}
-use Rattle.std.proofs.lemmas.Grind.{flat_map-append}
 use Rattle.fond_task.specs.declared.task.Task.{Task}
 use Rattle.fond_task.specs.Numbers.{act_number}
 use Rattle.fond_game.specs.declared.rule.Target.{Target}
 use Rattle.fond_game.specs.declared.rule.Targets.TheVariants.{All as Each}
 use Rattle.fond_cert.specs.declared.error.LineError.{LineError}
 use Rattle.fond_cert.specs.declared.error.LineError.TheVariants.{Refused as RefusedLine, NoMemory}
-use Rattle.fond_cert.specs.declared.line.Line.{Line}
-use Rattle.fond_cert.specs.declared.line.Line.TheVariants.{UnfairRule as UnfairParts}
-use Rattle.fond_cert.specs.declared.part.Part.{Part}
-use Rattle.fond_cert.specs.Lines.{group_text, WrittenTarget, WrittenLiteral, AreProper, UnfairRule, line_text, IsProper, IsProperTarget, Piece, Fixed, piece_text, target_pieces, literal_pieces}
-use Rattle.fond_cert.specs.Parts.{AreLiterals, is_target, AreWordsText}
+use Rattle.fond_form.specs.declared.line.Line.{Line}
+use Rattle.fond_form.specs.declared.line.Line.TheVariants.{UnfairRule as UnfairParts}
+use Rattle.fond_form.specs.declared.part.Part.{Part}
+use Rattle.fond_form.specs.Lines.{group_text, WrittenTarget, WrittenLiteral, AreProper, UnfairRule, line_text, IsProper, IsProperTarget, Piece, Fixed, target_pieces, literal_pieces}
+use Rattle.fond_form.specs.Parts.{AreLiterals, is_target, AreWordsText}
 use Rattle.fond_cert.specs.Words.{Refused, unknown, refused_or, first_refused, refusal_or_order, line_refusal, atom_numbers, is_increasing}
 use Rattle.fond_cert.specs.Checked.{AreTargetsAt, IsTargetRefused, ReadsAct, IsActRefused, ReadsCube, IsCubeRefused, cube_refusal}
-use Rattle.fond_cert.specs.Cutting.{targets_text, literals_text, IsRightCut, IsMade, IsRefusedBy}
+use Rattle.fond_form.specs.Cutting.{targets_text, literals_text, IsRightCut}
+use Rattle.fond_cert.specs.Made.{IsMade, IsRefusedBy}
 use Rattle.fond_cert.specs.Items.{IsReadRule}
 use Rattle.fond_cert.specs.Refusals.{LineRefuses}
 use Rattle.fond_cert.specs.Spellings.{rule_line, written_target}
 use Rattle.fond_cert.proofs.Acts.{act_there}
-use Rattle.fond_cert.proofs.Cubes.{spelled}
-use Rattle.fond_cert.proofs.Longest.{words_of, words_right, words_spaced}
+use Rattle.fond_form.proofs.Literals.{spelled}
+use Rattle.fond_form.proofs.Longest.{words_of, words_right, words_spaced}
 use Rattle.fond_cert.proofs.Refusals.{behind_right, among_first}
-
-pub apart : (a : List (List ℕ)) (t : List WrittenTarget) (l : List WrittenLiteral) →
-    line_text (UnfairRule a t l) ≡ codes "rule " ++ (group_text a ++ (codes " unfair" ++ (targets_text t ++ (codes " :" ++ literals_text l))))
-apart a t l = ap (λ u. codes "rule " ++ (group_text a ++ (codes " unfair" ++ u))) (flat_map-append piece_text (target_pieces t) (Fixed (codes " :") ∷ literal_pieces l))
+use Rattle.fond_form.proofs.Shapes.{unfair_apart}
 
 pub unfair_text : (a b : List (List ℕ)) (t u : List WrittenTarget) (l m : List WrittenLiteral) → group_text a ≡ group_text b → targets_text t ≡ targets_text u → literals_text l ≡ literals_text m →
     line_text (UnfairRule a t l) ≡ line_text (UnfairRule b u m)
 unfair_text a b t u l m e0 e1 e2 =
-    apart a t l
+    unfair_apart a t l
     ∙ ap (λ s. codes "rule " ++ (s ++ (codes " unfair" ++ (targets_text t ++ (codes " :" ++ literals_text l))))) e0
     ∙ ap (λ s. codes "rule " ++ (group_text b ++ (codes " unfair" ++ (s ++ (codes " :" ++ literals_text l))))) e1
     ∙ ap (λ s. codes "rule " ++ (group_text b ++ (codes " unfair" ++ (targets_text u ++ (codes " :" ++ s))))) e2
-    ∙ sym (apart b u m)
+    ∙ sym (unfair_apart b u m)
 
 some_text : (t : List WrittenTarget) → 0 < length t → 0 < length (targets_text t)
 some_text [] h = absurd (omega (arith, h))

@@ -16,17 +16,18 @@ use Rattle.fond_cert.specs.declared.due.Due.TheVariants.{Header, Nothing}
 use Rattle.fond_cert.specs.declared.error.CertError.{CertError}
 use Rattle.fond_cert.specs.declared.error.LineError.{LineError}
 use Rattle.fond_cert.specs.declared.error.LineError.TheVariants.{Refused as RefusedLine, NoMemory}
-use Rattle.fond_cert.specs.declared.line.Line.{Line}
-use Rattle.fond_cert.specs.declared.line.Line.TheVariants.{PolicyHeader as CutPolicy, RefusalHeader as CutRefusal, CoverHeader as CutCover, Layer, Cube, Pair, FairRule as CutFair, UnfairRule as CutUnfair, Reach, GoalItem as CutGoal, RuleItem as CutItem, Start, End}
+use Rattle.fond_form.specs.declared.line.Line.{Line}
+use Rattle.fond_form.specs.declared.line.Line.TheVariants.{PolicyHeader as CutPolicy, RefusalHeader as CutRefusal, CoverHeader as CutCover, Layer, Cube, Pair, FairRule as CutFair, UnfairRule as CutUnfair, Reach, GoalItem as CutGoal, RuleItem as CutItem, Start, End}
 use Rattle.fond_policy.specs.declared.cert.Cert.{Cert}
 use Rattle.fond_policy.specs.declared.cert.Cert.TheVariants.{Policy, Refusal, Covered}
 use Rattle.fond_policy.specs.Belongs.{Belongs, BelongAsLayers, BelongAsPairs, BelongAsRules, BelongAsItems}
-use Rattle.fond_cert.specs.Cutting.{IsLineOf, IsCutOf, IsRefusedBy}
+use Rattle.fond_form.specs.Cutting.{IsLineOf, IsCutOf}
+use Rattle.fond_cert.specs.Made.{IsRefusedBy}
 use Rattle.fond_cert.specs.Drafts.{all_layers, draft_lines, opened, last_lines, IsDraftOf, header, HasLayersAlone, IsWholeOf, FitsDue}
 use Rattle.fond_cert.specs.Faults.{ByReach, ByCover, Kind, OfPolicy, OfRefusal, Due, HeaderDue, NothingDue, due_after, Lead, IsRefusedLine, IsRefusedAt, IsCertFault}
-use Rattle.fond_cert.specs.Feeds.{HasNoFeed}
+use Rattle.fond_form.specs.Feeds.{HasNoFeed}
 use Rattle.fond_cert.specs.Items.{IsReadPair, IsReadRule, IsReadItem}
-use Rattle.fond_cert.specs.Lines.{WrittenLine, PolicyHeader, RefusalHeader, CoverHeader, ReachLine, EndLine, line_text}
+use Rattle.fond_form.specs.Lines.{WrittenLine, PolicyHeader, RefusalHeader, CoverHeader, ReachLine, EndLine, line_text}
 use Rattle.fond_cert.specs.Progress.{IsReady, IsTaken, IsWhole, cert_by, cert_of, IsPlaced}
 use Rattle.fond_cert.specs.Refusals.{LineRefuses, CertRefuses}
 use Rattle.fond_cert.specs.Spellings.{layer_lines, pair_line, rule_line, item_line, lines_text, spelling}

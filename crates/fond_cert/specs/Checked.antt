@@ -1,25 +1,20 @@
 -- What is read from the parts of a line, and which of its parts is refused.
-use Rattle.std.specs.Prelude.{◌≡◌, ℕ, ◌<◌, ◌≤◌, ◌^◌, nat_lt, Bool, true, List, Option, Some, None, All, length, map, replicate, slice_set, [], ◌∷◌, if◌then◌else◌, codes}
+use Rattle.std.specs.Prelude.{◌≡◌, ℕ, ◌<◌, ◌≤◌, ◌^◌, nat_lt, Bool, true, List, Option, Some, None, All, length, map, replicate, slice_set, [], ◌∷◌}
 use Rattle.std.specs.List.{flat_map}
 use Rattle.std.specs.Fmt.{decimal}
-use Rattle.std.specs.Str.{bytes_eq}
 use Rattle.std.specs.Str.Parse.{digits_value}
 use Rattle.fond_task.specs.declared.task.Task.{Task}
 use Rattle.fond_task.specs.Numbers.{act_number, atom_number}
 use Rattle.fond_game.specs.declared.rule.Target.{Target}
 use Rattle.fond_cert.specs.declared.error.LineError.{LineError}
 use Rattle.fond_cert.specs.declared.error.LineError.TheVariants.{Refused as RefusedLine}
-use Rattle.fond_cert.specs.declared.part.Part.{Part}
-use Rattle.fond_cert.specs.Cutting.{literals_text}
-use Rattle.fond_cert.specs.Lines.{IsGroup, group_text, spaced, is_number, WrittenTarget, GoalWord, NumberWord, IsProperTarget, WrittenLiteral, AreProper, piece_text, target_piece, target_pieces, number_pieces, literal_pieces}
-use Rattle.fond_cert.specs.Parts.{AreWords}
+use Rattle.fond_form.specs.declared.part.Part.{Part}
+use Rattle.fond_form.specs.Cutting.{literals_text}
+use Rattle.fond_form.specs.Lines.{IsGroup, group_text, spaced, is_number, WrittenTarget, IsProperTarget, WrittenLiteral, AreProper, piece_text, target_piece, target_pieces, number_pieces, literal_pieces}
+use Rattle.fond_form.specs.Parts.{AreWords, as_target}
 use Rattle.fond_policy.specs.Sizes.{IsSmallTarget}
 use Rattle.fond_cert.specs.Spellings.{written_target, written_cube}
 use Rattle.fond_cert.specs.Words.{Refused, piece_code, first_refused, atom_numbers, is_increasing, refusal_or_order}
-
--- a word as a written target
-abbrev pub as_target : List ℕ → WrittenTarget
-as_target word = if bytes_eq word (codes "goal") then GoalWord else NumberWord word
 
 -- targets are read from a text that begins at this byte of a line, and none of them is refused
 pub record AreTargetsAt (task : Task) (at : ℕ) (text : List ℕ) (targets : List Target) : Type 0 where

@@ -8,13 +8,13 @@ use Rattle.fond_game.specs.declared.rule.Rule.{Rule}
 use Rattle.fond_game.specs.Layers.{CubeView}
 use Rattle.fond_cover.specs.declared.item.Item.{Item}
 use Rattle.fond_cert.specs.declared.draft.Draft.{Draft}
-use Rattle.fond_cert.specs.declared.line.Line.{Line}
-use Rattle.fond_cert.specs.declared.line.Line.TheVariants.{Layer, Cube, Pair, FairRule as CutFair, UnfairRule as CutUnfair, Reach, GoalItem as CutGoal, RuleItem as CutItem, Start}
+use Rattle.fond_form.specs.declared.line.Line.{Line}
+use Rattle.fond_form.specs.declared.line.Line.TheVariants.{Layer, Cube, Pair, FairRule as CutFair, UnfairRule as CutUnfair, Reach, GoalItem as CutGoal, RuleItem as CutItem, Start}
 use Rattle.fond_policy.specs.Belongs.{BelongAsLayers}
-use Rattle.fond_cert.specs.Cutting.{IsMade}
+use Rattle.fond_cert.specs.Made.{IsMade}
 use Rattle.fond_cert.specs.Faults.{Evidence, ByReach, ByCover, Kind, OfPolicy, OfRefusal, Due, HeaderDue, LayersDue, CubesDue, PairsDue, RulesDue, ItemsDue, EndDue, NothingDue}
 use Rattle.fond_cert.specs.Items.{IsReadPair, IsReadRule, IsReadItem}
-use Rattle.fond_cert.specs.Lines.{WrittenLine, PolicyHeader, RefusalHeader, CoverHeader, CubeLine, ReachLine, StartLine, EndLine}
+use Rattle.fond_form.specs.Lines.{WrittenLine, PolicyHeader, RefusalHeader, CoverHeader, CubeLine, ReachLine, StartLine, EndLine}
 use Rattle.fond_cert.specs.Spellings.{written_cube, layer_lines, pair_line, rule_line, item_line}
 
 -- the layer that is being read, if there is one

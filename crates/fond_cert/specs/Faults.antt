@@ -1,8 +1,8 @@
 -- The fault of a text that is no certificate: its code and its byte.
 use Rattle.std.specs.Prelude.{◌≡◌, ◌≢◌, ◌⊎◌, ℕ, ◌+◌, ◌^◌, nat_lt, if◌then◌else◌, List, [], ◌∷◌, ◌++◌, Option, Some, None, length, codes}
 use Rattle.fond_task.specs.declared.task.Task.{Task}
-use Rattle.fond_cert.specs.Lines.{WrittenLine, PolicyHeader, RefusalHeader, CoverHeader, LayerLine, CubeLine, PairLine, FairRule, UnfairRule, ReachLine, GoalItem, RuleItem, StartLine, EndLine, line_text, IsProper}
-use Rattle.fond_cert.specs.Feeds.{HasNoFeed}
+use Rattle.fond_form.specs.Lines.{WrittenLine, PolicyHeader, RefusalHeader, CoverHeader, LayerLine, CubeLine, PairLine, FairRule, UnfairRule, ReachLine, GoalItem, RuleItem, StartLine, EndLine, line_text, IsProper}
+use Rattle.fond_form.specs.Feeds.{HasNoFeed}
 use Rattle.fond_cert.specs.Words.{line_refusal}
 use Rattle.fond_cert.specs.Spellings.{lines_text}
 

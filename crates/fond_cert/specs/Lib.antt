@@ -1,13 +1,9 @@
-pub mod Feeds
-pub mod Lines
 pub mod Words
 pub mod Spellings
 pub mod Faults
-pub mod Parts
 pub mod Refusals
 pub mod Checked
-pub mod Cutting
-pub mod Kinds
+pub mod Made
 pub mod Items
 pub mod Stages
 pub mod Drafts

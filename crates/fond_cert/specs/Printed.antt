@@ -15,8 +15,8 @@ use Rattle.fond_game.specs.declared.rule.Rule.{Rule}
 use Rattle.fond_cover.specs.declared.item.Item.{Item}
 use Rattle.fond_cover.specs.declared.item.Way.{Way}
 use Rattle.fond_cover.specs.declared.item.Way.TheVariants.{Goal as ToGoal, Rule as ByRule}
-use Rattle.fond_cert.specs.Cutting.{target_text, targets_text, literals_text}
-use Rattle.fond_cert.specs.Lines.{group_text, spaced, WrittenLine, ReachLine, StartLine, line_text, sign_text}
+use Rattle.fond_form.specs.Cutting.{target_text, targets_text, literals_text}
+use Rattle.fond_form.specs.Lines.{group_text, spaced, WrittenLine, ReachLine, StartLine, line_text, sign_text}
 use Rattle.fond_cert.specs.Spellings.{act_leaves, written_target, written_cube, layer_lines, lines_text}
 
 -- the text of an atom's literal, if there is one

@@ -9,11 +9,11 @@ use Rattle.fond_cert.specs.declared.error.CertError.{CertError}
 use Rattle.fond_cert.specs.declared.error.CertError.TheVariants.{Refused as RefusedText, NoMemory as WithoutMemory}
 use Rattle.fond_cert.specs.declared.error.LineError.{LineError}
 use Rattle.fond_cert.specs.declared.error.LineError.TheVariants.{Refused as RefusedLine, NoMemory}
-use Rattle.fond_cert.specs.declared.line.Line.{Line}
-use Rattle.fond_cert.specs.Cutting.{IsCutOf}
+use Rattle.fond_form.specs.declared.line.Line.{Line}
+use Rattle.fond_form.specs.Cutting.{IsCutOf}
 use Rattle.fond_cert.specs.Drafts.{draft_lines, IsDraftOf, IsGrown, header, IsWholeOf, FitsDue}
 use Rattle.fond_cert.specs.Faults.{Kind, due_after}
-use Rattle.fond_cert.specs.Lines.{WrittenLine, EndLine}
+use Rattle.fond_form.specs.Lines.{WrittenLine, EndLine}
 use Rattle.fond_cert.specs.Spellings.{lines_text}
 use Rattle.fond_cert.specs.Stages.{due_of, like}
 

@@ -21,7 +21,7 @@ use Rattle.fond_cover.specs.declared.item.Way.{Way}
 use Rattle.fond_cover.specs.declared.item.Way.TheVariants.{Goal as ToGoal, Rule as ByRule}
 use Rattle.fond_policy.specs.declared.cert.Cert.{Cert}
 use Rattle.fond_policy.specs.declared.cert.Cert.TheVariants.{Policy, Refusal, Covered}
-use Rattle.fond_cert.specs.Lines.{WrittenTarget, GoalWord, NumberWord, WrittenLiteral, WrittenLine, PolicyHeader, RefusalHeader, CoverHeader, LayerLine, CubeLine, PairLine, FairRule, UnfairRule, ReachLine, GoalItem, RuleItem, StartLine, EndLine, line_text}
+use Rattle.fond_form.specs.Lines.{WrittenTarget, GoalWord, NumberWord, WrittenLiteral, WrittenLine, PolicyHeader, RefusalHeader, CoverHeader, LayerLine, CubeLine, PairLine, FairRule, UnfairRule, ReachLine, GoalItem, RuleItem, StartLine, EndLine, line_text}
 
 -- the leaves of an atom: the names of its predicate and its objects
 abbrev pub atom_leaves : Labels → Atom → List (List ℕ)

@@ -1,23 +1,15 @@
 -- What is due, as the code keeps it, and the kinds of lines that are cut.
-use Rattle.std.specs.Prelude.{ℕ, ◌≡◌, ◌+◌, ◌^◌, nat_lt, Bool, List, [], true}
+use Rattle.std.specs.Prelude.{ℕ, ◌≡◌, ◌+◌, ◌^◌, nat_lt, [], true}
 use Rattle.fond_cert.specs.declared.due.Due.{Due as KeptDue}
 use Rattle.fond_cert.specs.declared.due.Due.TheVariants.{Header, Layers, Cubes, Pairs, Rules, Items, End as EndOnly, Nothing}
 use Rattle.fond_cert.specs.declared.due.Evidence.{Evidence as KeptEvidence}
 use Rattle.fond_cert.specs.declared.due.Evidence.TheVariants.{Reach as ReachOnly, Cover}
 use Rattle.fond_cert.specs.declared.due.Kind.{Kind as KeptKind}
 use Rattle.fond_cert.specs.declared.due.Kind.TheVariants.{Policy, Refusal}
-use Rattle.fond_cert.specs.declared.line.Line.{Line}
-use Rattle.fond_cert.specs.declared.line.Line.TheVariants.{PolicyHeader as CutPolicy, RefusalHeader as CutRefusal, CoverHeader as CutCover, Layer, Cube, Pair, FairRule as CutFair, UnfairRule as CutUnfair, Reach, GoalItem as CutGoal, RuleItem as CutItem, Start, End}
-use Rattle.fond_cert.specs.declared.word.WordKind.{WordKind}
-use Rattle.fond_cert.specs.declared.word.WordKind.TheVariants.{Target, Number}
-use Rattle.fond_cert.specs.Lines.{is_number, GoalWord, WrittenLine, PolicyHeader, RefusalHeader, CoverHeader, LayerLine, CubeLine, PairLine, FairRule, UnfairRule, ReachLine, GoalItem, RuleItem, StartLine, EndLine}
-use Rattle.fond_cert.specs.Parts.{is_target}
+use Rattle.fond_form.specs.declared.line.Line.{Line}
+use Rattle.fond_form.specs.declared.line.Line.TheVariants.{PolicyHeader as CutPolicy, RefusalHeader as CutRefusal, CoverHeader as CutCover, Layer, Cube, Pair, FairRule as CutFair, UnfairRule as CutUnfair, Reach, GoalItem as CutGoal, RuleItem as CutItem, Start, End}
+use Rattle.fond_form.specs.Lines.{GoalWord, WrittenLine, PolicyHeader, RefusalHeader, CoverHeader, LayerLine, CubeLine, PairLine, FairRule, UnfairRule, ReachLine, GoalItem, RuleItem, StartLine, EndLine}
 use Rattle.fond_cert.specs.Faults.{Evidence, ByReach, ByCover, Kind, OfPolicy, OfRefusal, Due, HeaderDue, LayersDue, CubesDue, PairsDue, RulesDue, ItemsDue, EndDue, NothingDue}
-
--- the test of a kind of words
-abbrev pub test_of : WordKind → List ℕ → Bool
-test_of Target word = is_target word
-test_of Number word = is_number word
 
 -- the evidence that is kept
 abbrev pub evidence_of : KeptEvidence → Evidence

@@ -4,7 +4,7 @@ use Rattle.std.specs.List.{filter_map}
 use Rattle.std.specs.Str.Parse.{digits_value}
 use Rattle.fond_task.specs.declared.task.Task.{Task}
 use Rattle.fond_task.specs.Numbers.{act_number, atom_number}
-use Rattle.fond_cert.specs.Lines.{group_text, WrittenLiteral, WrittenLine, CubeLine, PairLine, FairRule, UnfairRule, GoalItem, RuleItem, Piece, Fixed, ActionWord, AtomWord, Below, piece_text, line_pieces}
+use Rattle.fond_form.specs.Lines.{group_text, WrittenLiteral, WrittenLine, CubeLine, PairLine, FairRule, UnfairRule, GoalItem, RuleItem, Piece, Fixed, ActionWord, AtomWord, Below, piece_text, line_pieces}
 
 -- this code, if a word names nothing
 abbrev pub unknown : ℕ → Option ℕ → Option ℕ

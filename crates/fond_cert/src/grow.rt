@@ -1,12 +1,13 @@
 //! Adding what a line makes to a draft. Beside the time and memory that reading the line takes, a call takes the time and
 //! memory of adding one item to a list.
 
-ghost use Rattle.fond_cert.specs.Cutting.{IsRightCut, IsRefusedBy};
-ghost use Rattle.fond_cert.specs.Drafts.{IsDraftOf, closed, with_open, with_pair, with_rule, with_item, with_reach, with_start, opened, all_layers, IsGrown, HasRoom};
+ghost use Rattle.fond_form.specs.Cutting.{IsRightCut};
+ghost use Rattle.fond_cert.specs.Made.{IsRefusedBy};
+ghost use Rattle.fond_cert.specs.Drafts.{closed, with_open, with_pair, with_rule, with_item, with_reach, with_start, all_layers, IsGrown, HasRoom};
 ghost use Rattle.fond_cert.specs.Refusals.{LineRefuses};
-ghost use Rattle.fond_cert.specs.declared.line.Line.TheVariants.{Cube as CubeParts, FairRule as FairParts, UnfairRule as UnfairParts, GoalItem as GoalParts, RuleItem as ItemParts};
+ghost use Rattle.fond_form.specs.declared.line.Line.TheVariants.{Cube as CubeParts, FairRule as FairParts, UnfairRule as UnfairParts, GoalItem as GoalParts, RuleItem as ItemParts, Reach as ReachParts, Start as StartParts};
 ghost use Rattle.fond_game.specs.Layers.{CubeView};
-ghost use Rattle.std.specs.Prelude.{◌≡◌, ◌<◌, ◌-◌, ◌^◌, List, [], ◌∷◌, ◌++◌, length, None, Some, All, IfOk, IfErr, OnOk};
+ghost use Rattle.std.specs.Prelude.{◌≡◌, ◌<◌, ◌-◌, ◌^◌, List, [], ◌∷◌, ◌++◌, length, None, Some, All, IfErr, OnOk};
 
 use crate::draft::Draft;
 use crate::error::LineError;
@@ -14,10 +15,10 @@ use crate::item::{
     read_fair, read_goal_item, read_layer_cube, read_pair, read_reach, read_rule_item, read_start,
     read_unfair,
 };
-use crate::line::Line;
-use crate::part::Part;
 use fond_cover::item::Item;
 use fond_cover::items::Items;
+use fond_form::line::Line;
+use fond_form::part::Part;
 use fond_game::rule::{Pair, Rule};
 use fond_layers::layers::{Layer, Layers};
 use fond_rules::pairs::Pairs;
@@ -224,6 +225,30 @@ impl Draft {
         Ok(())
     }
 
+    /// Adds the number of the reach line, by the line's part.
+    fn take_reach(&mut self, index: &TaskIndex, count: Part) -> Result<(), LineError>
+        requires cut { IsRightCut (ReachParts count) }
+        requires few { length (all_layers self.old) < 2 ^ 32 }
+        requires few_cubes { All (λ (layer : List CubeView). length layer < 2 ^ 32) (all_layers self.old) }
+        ensures grown { OnOk result (IsGrown index.now (ReachParts count.entry) self.old self.new) }
+        ensures wrong { IfErr result (LineRefuses (IsRefusedBy index.now (ReachParts count.entry))) }
+    {
+        self.add_reach(read_reach(index, count)?)?;
+        Ok(())
+    }
+
+    /// Adds the number of the start line, by the line's part.
+    fn take_start(&mut self, index: &TaskIndex, item: Part) -> Result<(), LineError>
+        requires cut { IsRightCut (StartParts item) }
+        requires few { length (all_layers self.old) < 2 ^ 32 }
+        requires few_cubes { All (λ (layer : List CubeView). length layer < 2 ^ 32) (all_layers self.old) }
+        ensures grown { OnOk result (IsGrown index.now (StartParts item.entry) self.old self.new) }
+        ensures wrong { IfErr result (LineRefuses (IsRefusedBy index.now (StartParts item.entry))) }
+    {
+        self.add_start(read_start(index, item)?)?;
+        Ok(())
+    }
+
     /// Adds what the line makes.
     pub fn add(&mut self, alloc: Global, index: &TaskIndex, line: Line) -> Result<(), LineError>
         requires cut { IsRightCut line }
@@ -235,37 +260,43 @@ impl Draft {
     {
         match line {
             Line::PolicyHeader | Line::RefusalHeader | Line::CoverHeader | Line::End => {
-                self.close()?
+                self.close()?;
+                Ok(())
             }
-            Line::Layer => self.add_layer(alloc)?,
-            Line::Cube { literals } => self.take_cube(alloc, index, literals)?,
+            Line::Layer => {
+                self.add_layer(alloc)?;
+                Ok(())
+            }
+            Line::Cube { literals } => self.take_cube(alloc, index, literals),
             Line::Pair {
                 action,
                 outcome,
                 layer,
                 cube,
                 literals,
-            } => self.add_pair(read_pair(alloc, index, action, outcome, layer, cube, literals)?)?,
+            } => {
+                self.add_pair(read_pair(alloc, index, action, outcome, layer, cube, literals)?)?;
+                Ok(())
+            }
             Line::FairRule {
                 action,
                 outcome,
                 target,
                 literals,
-            } => self.take_fair(alloc, index, action, outcome, target, literals)?,
+            } => self.take_fair(alloc, index, action, outcome, target, literals),
             Line::UnfairRule {
                 action,
                 targets,
                 literals,
-            } => self.take_unfair(alloc, index, action, targets, literals)?,
-            Line::Reach { count } => self.add_reach(read_reach(index, count)?)?,
-            Line::GoalItem { literals } => self.take_goal_item(alloc, index, literals)?,
+            } => self.take_unfair(alloc, index, action, targets, literals),
+            Line::Reach { count } => self.take_reach(index, count),
+            Line::GoalItem { literals } => self.take_goal_item(alloc, index, literals),
             Line::RuleItem {
                 rule,
                 items,
                 literals,
-            } => self.take_rule_item(alloc, index, rule, items, literals)?,
-            Line::Start { item } => self.add_start(read_start(index, item)?)?,
+            } => self.take_rule_item(alloc, index, rule, items, literals),
+            Line::Start { item } => self.take_start(index, item),
         }
-        Ok(())
     }
 }

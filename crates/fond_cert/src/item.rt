@@ -3,21 +3,22 @@
 //! it makes.
 
 ghost use Rattle.fond_cert.specs.Checked.{ReadsAct, IsActRefused};
-ghost use Rattle.fond_cert.specs.Cutting.{IsRightCut, IsMade, IsRefusedBy};
+ghost use Rattle.fond_form.specs.Cutting.{IsRightCut};
+ghost use Rattle.fond_cert.specs.Made.{IsMade, IsRefusedBy};
 ghost use Rattle.fond_cert.specs.Items.{IsReadPair, IsReadRule, IsReadItem};
 ghost use Rattle.fond_cert.specs.Refusals.{LineRefuses};
-ghost use Rattle.fond_cert.specs.Lines.{CubeLine, ReachLine, StartLine};
+ghost use Rattle.fond_form.specs.Lines.{CubeLine, ReachLine, StartLine};
 ghost use Rattle.fond_cert.specs.Spellings.{written_cube, pair_line, rule_line, item_line};
-ghost use Rattle.fond_cert.specs.declared.line.Line.TheVariants.{Cube as CubeParts, Reach as ReachParts, Pair as PairParts, FairRule as FairParts, UnfairRule as UnfairParts, GoalItem as GoalParts, RuleItem as ItemParts, Start as StartParts};
+ghost use Rattle.fond_form.specs.declared.line.Line.TheVariants.{Cube as CubeParts, Reach as ReachParts, Pair as PairParts, FairRule as FairParts, UnfairRule as UnfairParts, GoalItem as GoalParts, RuleItem as ItemParts, Start as StartParts};
 ghost use Rattle.std.specs.Fmt.{decimal};
 ghost use Rattle.std.specs.Prelude.{◌≡◌, ◌<◌, ◌^◌, length, IfOk, IfErr};
 
 use crate::error::LineError;
 use crate::literal::read_cube;
-use crate::part::Part;
 use crate::target::{read_item_numbers, read_number, read_target, read_targets, too_large};
-use crate::word::number;
 use fond_cover::item::{Item, Way};
+use fond_form::part::Part;
+use fond_form::word::number;
 use fond_game::rule::{Pair, Rule, Targets};
 use fond_state::cube::Cube;
 use fond_task::task_index::TaskIndex;

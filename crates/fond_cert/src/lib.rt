@@ -3,26 +3,19 @@
 //! pieces. Whether a certificate is correct is left to others.
 #![tactic(auto)]
 
-mod cut;
 mod draft;
 mod due;
 pub mod error;
-mod feed;
-mod form;
 mod grow;
 mod item;
 pub mod laws;
-mod line;
 mod lines;
 mod literal;
 mod names;
-mod part;
 mod place;
 pub mod print;
 mod put;
 pub mod read;
-mod scan;
 mod target;
 pub mod text;
 mod text_sink;
-mod word;

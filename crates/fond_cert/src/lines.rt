@@ -11,9 +11,9 @@ ghost use Rattle.std.specs.Prelude.{◌≡◌, ◌+◌, ◌-◌, ◌≤◌, [], 
 use crate::draft::Draft;
 use crate::due::Due;
 use crate::error::{CertError, LineError};
-use crate::feed::line_of;
-use crate::form::cut_line;
 use crate::place::next_due;
+use fond_form::feed::line_of;
+use fond_form::form::cut_line;
 use fond_task::task_index::TaskIndex;
 use std::alloc::Global;
 

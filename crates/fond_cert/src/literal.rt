@@ -2,12 +2,12 @@
 
 ghost use Rattle.fond_cert.specs.Refusals.{LineRefuses};
 ghost use Rattle.fond_cert.specs.Checked.{rises, IsCubeAt, IsLiteralRefused, ReadsCube, IsCubeRefused};
-ghost use Rattle.fond_cert.specs.Parts.{AreLiterals};
+ghost use Rattle.fond_form.specs.Parts.{AreLiterals};
 ghost use Rattle.std.specs.Prelude.{◌≡◌, ◌+◌, ◌<◌, ◌^◌, ◌&&◌, None, Some, length, replicate, slice_set, IfOk, IfErr};
 
 use crate::error::LineError;
-use crate::part::Part;
-use crate::scan::literal;
+use fond_form::part::Part;
+use fond_form::scan::literal;
 use fond_state::cube::Cube;
 use fond_task::task::Task;
 use fond_task::task_index::TaskIndex;

@@ -5,7 +5,7 @@ ghost use Rattle.fond_cert.specs.Stages.{evidence_of, kind_of, due_of, like, IsO
 ghost use Rattle.std.specs.Prelude.{◌≡◌, ◌+◌, ◌^◌, nat_lt, false, option_map, MatchOption};
 
 use crate::due::{Due, Evidence, Kind};
-use crate::line::Line;
+use fond_form::line::Line;
 
 /// One more than the count, if it is still below 2^32.
 fn one_more(count: u32) -> Option<u32>

@@ -3,7 +3,7 @@
 
 ghost use Rattle.fond_policy.specs.Belongs.{Belongs};
 ghost use Rattle.fond_cert.specs.Items.{IsPairOf, IsRuleOf};
-ghost use Rattle.fond_cert.specs.Lines.{CubeLine, ReachLine, StartLine};
+ghost use Rattle.fond_form.specs.Lines.{CubeLine, ReachLine, StartLine};
 ghost use Rattle.fond_cert.specs.Printed.{fed, chosen_text, places_text, cond_text, pair_text, rule_text, layer_text, way_text, item_text, plan_text, items_text};
 ghost use Rattle.fond_cert.specs.Spellings.{written_cube, lines_text, spelling};
 ghost use Rattle.fond_edge.specs.Pens.{flow, IsPut, IsLost, Adds};

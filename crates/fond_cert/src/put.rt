@@ -1,8 +1,8 @@
 //! Printing the parts of lines. Each call takes time in the length of what it adds, and in the number of the task's
 //! atoms for each cube, and no memory. A failure of the sink is remembered by the pen.
 
-ghost use Rattle.fond_cert.specs.Cutting.{literals_text, target_text, targets_text};
-ghost use Rattle.fond_cert.specs.Lines.{group_text, spaced, sign_text};
+ghost use Rattle.fond_form.specs.Cutting.{literals_text, target_text, targets_text};
+ghost use Rattle.fond_form.specs.Lines.{group_text, spaced, sign_text};
 ghost use Rattle.fond_cert.specs.Printed.{atom_literal_text, cube_text};
 ghost use Rattle.fond_cert.specs.Spellings.{act_leaves, written_cube, written_target};
 ghost use Rattle.fond_edge.specs.Pens.{flow, Adds};

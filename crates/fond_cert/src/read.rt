@@ -12,45 +12,44 @@ use crate::draft::Draft;
 use crate::error::CertError;
 use crate::lines::read_lines;
 use fond_policy::cert::Cert;
-use fond_rules::rules::Rules;
 use fond_task::task::Task;
 use fond_task::task_index::TaskIndex;
 use fond_text::fault::NoMemory;
 use std::alloc::Global;
 
-/// The rules, with an index of all of them.
-fn indexed(rules: Rules) -> Result<Rules, NoMemory>
-    ensures { IfOk result (λ indexed. indexed ≡ rules) }
+/// The draft, with an index of all its rules.
+fn indexed(draft: Draft) -> Result<Draft, NoMemory>
+    ensures { IfOk result (λ indexed. indexed ≡ draft) }
 {
-    let mut indexed = rules;
-    indexed.index()?;
+    let mut indexed = draft;
+    indexed.rules.index()?;
     Ok(indexed)
 }
 
-/// The certificate of a draft, with an index of all its rules.
-fn finish(draft: Draft) -> Result<Cert, NoMemory>
-    ensures { IfOk result (λ cert. cert ≡ cert_of draft) }
+/// The certificate of a draft.
+fn finish(draft: Draft) -> Cert
+    ensures { result ≡ cert_of draft }
 {
     if let Some(reach) = draft.reach {
-        return Ok(Cert::Policy {
+        return Cert::Policy {
             layers: draft.layers,
             pairs: draft.pairs,
-            rules: indexed(draft.rules)?,
+            rules: draft.rules,
             reach,
-        });
+        };
     }
     let Some(start) = draft.start else {
-        return Ok(Cert::Refusal {
+        return Cert::Refusal {
             layers: draft.layers,
-        });
+        };
     };
-    Ok(Cert::Covered {
+    Cert::Covered {
         layers: draft.layers,
         pairs: draft.pairs,
-        rules: indexed(draft.rules)?,
+        rules: draft.rules,
         items: draft.items,
         start,
-    })
+    }
 }
 
 /// The certificate that a text spells, or the text's first fault.
@@ -61,7 +60,7 @@ fn read_with(alloc: Global, index: &TaskIndex, text: &[u8]) -> Result<Cert, Cert
     ensures refused { IfErr result (CertRefuses (IsCertFault index.now text.now)) }
 {
     let draft = read_lines(alloc, index, text)?;
-    Ok(finish(draft)?)
+    Ok(finish(indexed(draft)?))
 }
 
 /// The certificate that a text spells, or the text's first fault (docs/CERTIFICATES.md). Takes time linear in the length
@@ -74,6 +73,5 @@ pub fn read_cert(alloc: Global, task: &Task, text: &[u8]) -> Result<Cert, CertEr
     ensures refused { IfErr result (CertRefuses (IsCertFault task.now text.now)) }
 {
     let index = TaskIndex::of(alloc, task)?;
-    let cert = read_with(alloc, &index, text)?;
-    Ok(cert)
+    read_with(alloc, &index, text)
 }

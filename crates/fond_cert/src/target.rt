@@ -1,20 +1,20 @@
 //! Reading numbers and targets.
 
 ghost use Rattle.fond_cert.specs.Refusals.{LineRefuses};
-ghost use Rattle.fond_cert.specs.Checked.{as_target, AreTargetsAt, IsTargetRefused, AreNumbersAt, IsOneNumberRefused, ReadsNumber, IsNumberRefused, ReadsTarget, IsTargetTooLarge};
+ghost use Rattle.fond_form.specs.Parts.{as_target, is_target, AreWordsText};
+ghost use Rattle.fond_cert.specs.Checked.{AreTargetsAt, IsTargetRefused, AreNumbersAt, IsOneNumberRefused, ReadsNumber, IsNumberRefused, ReadsTarget, IsTargetTooLarge};
 ghost use Rattle.fond_cert.specs.declared.error.LineError.TheVariants.{Refused as RefusedLine};
-ghost use Rattle.fond_cert.specs.Lines.{is_number, target_piece};
-ghost use Rattle.fond_cert.specs.Parts.{is_target, AreWordsText};
+ghost use Rattle.fond_form.specs.Lines.{is_number, target_piece};
 ghost use Rattle.fond_cert.specs.Words.{piece_code};
 ghost use Rattle.fond_task.specs.declared.task.Task.{Task};
 ghost use Rattle.std.specs.Prelude.{◌≡◌, ◌+◌, ◌<◌, ◌≤◌, ◌^◌, Some, length, IsTrue, MatchOption, IfOk, IfErr};
 ghost use Rattle.std.specs.Str.Parse.{digits_value};
 
 use crate::error::LineError;
-use crate::part::Part;
-use crate::scan::after;
-use crate::word::{number, word};
 use fond_cover::item::ItemNumbers;
+use fond_form::part::Part;
+use fond_form::scan::after;
+use fond_form::word::{number, word};
 use fond_game::rule::{Target, TargetList};
 use std::alloc::Global;
 

@@ -1,7 +1,5 @@
 //! A text in memory as a sink.
 
-ghost use Rattle.std.specs.Prelude.{◌≡◌, length, take, Some, OnErr, IfOk};
-
 use fond_edge::sink::{Failed, Sink};
 
 /// A text, and the number of writes that it refused. A write is refused if memory runs out.

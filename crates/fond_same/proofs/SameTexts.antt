@@ -9,7 +9,7 @@ use Rattle.fond_task.specs.declared.task.Task.{Task}
 use Rattle.fond_game.specs.Layers.{CubeView}
 use Rattle.fond_policy.specs.declared.cert.Cert.{Cert}
 use Rattle.fond_policy.specs.declared.cert.Cert.TheVariants.{Policy, Refusal, Covered}
-use Rattle.fond_cert.specs.Lines.{WrittenLiteral, WrittenLine, PolicyHeader, RefusalHeader, CoverHeader, LayerLine, CubeLine, PairLine, ReachLine, StartLine, EndLine}
+use Rattle.fond_form.specs.Lines.{WrittenLiteral, WrittenLine, PolicyHeader, RefusalHeader, CoverHeader, LayerLine, CubeLine, PairLine, ReachLine, StartLine, EndLine}
 use Rattle.fond_cert.specs.Spellings.{act_leaves, action_leaves, cert_lines, lines_text, spelling, targets_line, way_line, written_cube, written_literal}
 use Rattle.fond_same.specs.Alike.{IsSameAct, IsSameTask}
 

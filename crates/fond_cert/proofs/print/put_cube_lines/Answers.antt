@@ -1,6 +1,6 @@
 use Rattle.std.proofs.Common.{ap, map, arith, sym, ◌∙◌, ℕ, List}
 use Rattle.fond_game.specs.Layers.{CubeView}
-use Rattle.fond_cert.specs.Lines.{CubeLine}
+use Rattle.fond_form.specs.Lines.{CubeLine}
 use Rattle.fond_cert.specs.Spellings.{written_cube, lines_text}
 use Rattle.fond_cert.proofs.Adding.{adds_same, adding_all, adding_more, adding_none, adding_lost}
 use Rattle.fond_cert.proofs.Printed.{next_of, none_of}

@@ -1,6 +1,6 @@
 use Rattle.std.proofs.Common.{drop, map}
 use Rattle.fond_game.specs.Layers.{CubeView}
-use Rattle.fond_cert.specs.Lines.{CubeLine}
+use Rattle.fond_form.specs.Lines.{CubeLine}
 use Rattle.fond_cert.specs.Spellings.{written_cube, lines_text}
 use Rattle.fond_edge.specs.Pens.{flow}
 use Rattle.fond_cert.proofs.Adding.{Adding}

@@ -1,7 +1,7 @@
 use Rattle.std.proofs.Common.{ap, map, arith, ℕ, List}
 use Rattle.std.proofs.lemmas.List.{at_drop_more}
 use Rattle.std.specs.Fmt.{decimal}
-use Rattle.fond_cert.specs.Lines.{spaced}
+use Rattle.fond_form.specs.Lines.{spaced}
 use Rattle.fond_cert.proofs.Adding.{adds_same, adding_all, adding_more, adding_none}
 use Rattle.fond_cert.proofs.Printed.{none_of}
 use Rattle.fond_cert.proofs.put.put_item_numbers.Goals as goal

@@ -1,6 +1,6 @@
 use Rattle.std.proofs.Common.{drop, map}
 use Rattle.std.specs.Fmt.{decimal}
-use Rattle.fond_cert.specs.Lines.{spaced}
+use Rattle.fond_form.specs.Lines.{spaced}
 use Rattle.fond_edge.specs.Pens.{flow}
 use Rattle.fond_cert.proofs.Adding.{Adding}
 use Rattle.fond_cert.proofs.put.put_item_numbers.Given as goal

@@ -1,7 +1,7 @@
 use Rattle.std.proofs.Common.{ap, map, arith, ℕ, List}
 use Rattle.std.proofs.lemmas.List.{at_drop_more}
 use Rattle.fond_game.specs.declared.rule.Target.{Target}
-use Rattle.fond_cert.specs.Cutting.{targets_text}
+use Rattle.fond_form.specs.Cutting.{targets_text}
 use Rattle.fond_cert.specs.Spellings.{written_target}
 use Rattle.fond_cert.proofs.Adding.{adds_same, adding_all, adding_more, adding_none}
 use Rattle.fond_cert.proofs.Printed.{none_of}

@@ -1,5 +1,5 @@
 use Rattle.std.proofs.Common.{drop, map}
-use Rattle.fond_cert.specs.Cutting.{targets_text}
+use Rattle.fond_form.specs.Cutting.{targets_text}
 use Rattle.fond_cert.specs.Spellings.{written_target}
 use Rattle.fond_edge.specs.Pens.{flow}
 use Rattle.fond_cert.proofs.Adding.{Adding}

@@ -1,9 +1,0 @@
-use Rattle.std.proofs.Common.{length}
-use Rattle.fond_cert.specs.Parts.{AreLiterals}
-use Rattle.fond_cert.proofs.scan.are_literals.Given as goal
-
-abbrev pub invariant-loop-further : goal.invariant-loop-further
-invariant-loop-further l = (AreLiterals l.rest → AreLiterals l.text) × (AreLiterals l.text → AreLiterals l.rest)
-
-abbrev pub decreases-loop-further : goal.decreases-loop-further
-decreases-loop-further l = length l.rest

@@ -1,0 +1,13 @@
+pub mod Feeds
+pub mod Groups
+pub mod Literals
+pub mod Cuts
+pub mod Numbers
+pub mod TargetTexts
+pub mod Nexts
+pub mod Afters
+pub mod Longest
+pub mod Shapes
+pub mod ItemShapes
+pub mod SameLines
+pub mod FeedSplits
