@@ -5,18 +5,14 @@ use Rattle.std.proofs.lemmas.Bool.Decides.{nat_tests}
 use Rattle.fond_ast.specs.declared.files.Domain.{Domain}
 use Rattle.fond_ast.specs.declared.files.Pattern.{Pattern}
 use Rattle.fond_ast.specs.declared.files.Schema.{Schema}
-use Rattle.fond_ast.specs.declared.names.Term.{Term}
 use Rattle.fond_text.proofs.Earliest.{first_along}
 use Rattle.fond_text.specs.declared.code.TheConstants.{UNKNOWN_TERM, WRONG_ARITY}
 use Rattle.fond_text.specs.declared.first.Found.{Found}
 use Rattle.fond_text.specs.Firsts.{IsFirst}
 use Rattle.fond_names.specs.Faults.{HasUnknownObject, HasWrongCount}
 use Rattle.fond_names.specs.Names.{Declarations, all_objects, first_of, schema_of}
+use Rattle.fond_names.specs.Unknown.{is_sound_term}
 use Rattle.fond_names.proofs.Missing.{IsMissing}
-
--- whether a term of a pattern is a variable or a declared object
-abbrev pub is_right : Declarations → Term → Bool
-is_right files term = term.variable || is_some (first_of (all_objects files) term.name)
 
 neither : {X : Type 0} (b : Bool) (found : Option X) → (b || is_some found) ≡ false → (b ≡ false) × (found ≡ None)
 neither true found e = cc
@@ -46,9 +42,9 @@ count_if_told domain pattern schema named wrong told first h =
 
 module _ (files : Declarations) (pattern : Pattern) where
   -- the first term that is neither is the first name that no object has
-  pub object_if_missing : (first : Option Found) → IsFirst (IsMissing (is_right files) (λ term. term.place) UNKNOWN_TERM pattern.terms) first → IsFirst (HasUnknownObject files pattern) first
+  pub object_if_missing : (first : Option Found) → IsFirst (IsMissing (is_sound_term files) (λ term. term.place) UNKNOWN_TERM pattern.terms) first → IsFirst (HasUnknownObject files pattern) first
   object_if_missing first h =
-      first_along (IsMissing (is_right files) (λ term. term.place) UNKNOWN_TERM pattern.terms) (HasUnknownObject files pattern)
+      first_along (IsMissing (is_sound_term files) (λ term. term.place) UNKNOWN_TERM pattern.terms) (HasUnknownObject files pattern)
       (λ place code p.
       let both = neither p.0.variable (first_of (all_objects files) p.0.name) p.2 in
       (p.0, p.1, both.0, both.1, p.3, p.4))

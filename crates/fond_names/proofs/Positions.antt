@@ -1,6 +1,7 @@
 -- Whether an item is the first that passes a test.
-use Rattle.std.proofs.Common.{◌≡◌, ℕ, zero, suc, ◌+◌, ◌<◌, ◌||◌, not, nat_eq, Bool, true, false, List, [], ◌∷◌, Some, None, is_some, take, slice_get, position, cond, map, refl, sym, ap, ◌∙◌, arith}
+use Rattle.std.proofs.Common.{◌≡◌, ℕ, zero, suc, ◌+◌, ◌<◌, ◌||◌, not, nat_eq, Bool, true, false, List, [], ◌∷◌, Option, Some, None, is_some, take, slice_get, position, cond, map, refl, sym, ap, ◌∙◌, arith}
 use Rattle.std.specs.List.{list_any, position_from}
+use Rattle.std.specs.Option.{option_map_or}
 use Rattle.std.specs.Str.{bytes_eq}
 use Rattle.std.specs.Cmp.Lexicographic.{nat_list_eq_equiv, bytes_decides}
 use Rattle.std.proofs.lemmas.Bool.Decides.{nat_tests}
@@ -63,15 +64,20 @@ module _ {X : Type 0} (name : X → List ℕ) (xs : List X) (i : ℕ) (x : X) (a
   itself = (bytes_decides (name x) (name x)).1 refl
 
   -- an item has the name of an earlier one if the first of this name is elsewhere
-  pub repeats_elsewhere : (number : ℕ) → position (λ y. bytes_eq (name y) (name x)) xs ≡ Some number → not (nat_eq number i) ≡ is_among (map name (take i xs)) (name x)
+  repeats_elsewhere : (number : ℕ) → position (λ y. bytes_eq (name y) (name x)) xs ≡ Some number → not (nat_eq number i) ≡ is_among (map name (take i xs)) (name x)
   repeats_elsewhere number found = by (nat_eq number i) refl ∙ sym (among_names name (take i xs) (name x))
     where
       by : (b : Bool) → nat_eq number i ≡ b → not b ≡ list_any (λ y. bytes_eq (name y) (name x)) (take i xs)
       by true e = let same : number ≡ i = grind (arith, nat_tests) in sym (is_first (λ y. bytes_eq (name y) (name x)) xs i x at itself (found ∙ ap (λ n. Some n) same))
       by false e = sym (is_later (λ y. bytes_eq (name y) (name x)) xs i x at itself (λ first. let same : number ≡ i = cc in grind (arith, nat_tests)))
 
-  pub repeats_nowhere : position (λ y. bytes_eq (name y) (name x)) xs ≡ None → true ≡ is_among (map name (take i xs)) (name x)
+  repeats_nowhere : position (λ y. bytes_eq (name y) (name x)) xs ≡ None → true ≡ is_among (map name (take i xs)) (name x)
   repeats_nowhere none = sym (is_later (λ y. bytes_eq (name y) (name x)) xs i x at itself (λ first. cc)) ∙ sym (among_names name (take i xs) (name x))
+
+  pub repeats : (first : Option ℕ) → position (λ y. bytes_eq (name y) (name x)) xs ≡ first →
+      not (option_map_or (λ number. nat_eq number i) first false) ≡ is_among (map name (take i xs)) (name x)
+  repeats (Some number) found = repeats_elsewhere number found
+  repeats None none = repeats_nowhere none
 
 -- a name has a first place if and only if it is among those of the items
 pub among_position : {X : Type 0} (name : X → List ℕ) (xs : List X) (wanted : List ℕ) → is_some (position (λ x. bytes_eq (name x) wanted) xs) ≡ is_among (map name xs) wanted

@@ -1,22 +1,11 @@
 -- Variables in the lists around a place.
-use Rattle.std.proofs.Common.{◌≡◌, [], ℕ, List, ◌∷◌, Some, None, sym, ap, ◌∙◌}
-use Rattle.std.specs.Borrow.{Bor}
+use Rattle.std.proofs.Common.{◌≡◌, ℕ, List, ◌∷◌, Some, None, sym, ap, ◌∙◌}
 use Rattle.std.specs.Option.{option_or}
 use Rattle.std.specs.Str.{bytes_eq}
 use Rattle.std.proofs.lemmas.List.Folds.{find-append}
 use Rattle.fond_ast.specs.declared.names.TypedName.{TypedName}
 use Rattle.fond_names.specs.Names.{first_of}
-use Rattle.fond_names.specs.Scopes.{lists_of, lists_step}
 use Rattle.fond_names.specs.Sites.{Scope, variable_of, variables_of}
-use Rattle.fond_names.specs.declared.scope.Around.{Around, Nothing, Inside}
-use Rattle.fond_names.specs.declared.scope.Around.TheFolds.{fold-roll-Around}
-use Rattle.fond_names.specs.declared.scope.Around.TheOpen as open_around
-use Rattle.fond_names.specs.declared.scope.Around.TheViews.{rolls-Nothing, rolls-Inside}
-use Rattle.fond_names.specs.declared.scope.Variables.{Variables}
-
--- the lists around a place inside one more list
-pub lists-Inside : (variables : Bor Variables) (outer : Bor Around) → lists_of (Inside variables outer) ≡ variables.now.names.now ∷ lists_of outer.now
-lists-Inside variables outer = ap lists_of (sym (rolls-Inside variables outer)) ∙ fold-roll-Around Scope lists_step (open_around.Inside variables outer)
 
 module _ (names : List TypedName) (around : Scope) (name : List ℕ) where
   inner : variable_of (names ∷ around) name ≡ option_or (first_of names name) (variable_of around name)
@@ -29,7 +18,3 @@ module _ (names : List TypedName) (around : Scope) (name : List ℕ) where
   -- another variable has the declaration that it has outside
   pub variable_outside : None ≡ first_of names name → variable_of around name ≡ variable_of (names ∷ around) name
   variable_outside none = ap (λ first. option_or first (variable_of around name)) none ∙ sym inner
-
--- no lists are around a place outside
-pub lists-Nothing : lists_of Nothing ≡ []
-lists-Nothing = ap lists_of (sym rolls-Nothing) ∙ fold-roll-Around Scope lists_step open_around.Nothing

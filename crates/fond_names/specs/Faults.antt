@@ -2,8 +2,10 @@
 use Rattle.std.specs.Prelude.{◌≡◌, ◌≢◌, ◌⊎◌, ℕ, true, false, List, [], ◌++◌, map, length, Contains, Option, Some, None, slice_get, find, if◌then◌else◌}
 use Rattle.std.specs.List.{AllZip, list_all}
 use Rattle.std.specs.Str.{bytes_eq}
+use Rattle.fond_text.specs.Firsts.{IsFirst}
 use Rattle.fond_text.specs.Lists.{Somewhere}
 use Rattle.fond_text.specs.declared.code.TheConstants.{UNKNOWN_TYPE, UNKNOWN_PREDICATE, WRONG_ARITY, TYPE_MISMATCH, UNKNOWN_TERM, REPEATED_NAME, UNKNOWN_SCHEMA}
+use Rattle.fond_text.specs.declared.first.Found.{Found}
 use Rattle.fond_text.specs.declared.place.FileKind.{FileKind}
 use Rattle.fond_text.specs.declared.place.FileKind.TheVariants as kind
 use Rattle.fond_text.specs.declared.place.Place.{Place}
@@ -18,7 +20,7 @@ use Rattle.fond_ast.specs.declared.files.Schema.{Schema}
 use Rattle.fond_kinds.specs.Faults.{StandsInKinds}
 use Rattle.fond_kinds.specs.Kinds.{only_kind, is_type, are_types, Fit}
 use Rattle.fond_names.specs.Names.{Declarations, is_among, first_of, all_objects, predicate_of, schema_of, schema_leaves, schema_names}
-use Rattle.fond_names.specs.Sites.{Scope, Site, AnAtom, AnEquality, AList, variable_of, domain_sites, problem_sites}
+use Rattle.fond_names.specs.Sites.{Scope, Site, AnAtom, AnEquality, AList, sites_within, variable_of, domain_sites, problem_sites}
 
 -- a type of one of these names is not declared; the fault is at the type
 abbrev pub HasUnknownType : List TypedName → List TypedName → Place → ℕ → Type 0
@@ -105,6 +107,23 @@ OccursAt files place code (AList names) = HasUnknownType files.domain.kinds name
 abbrev pub OccursAmong : Declarations → List Site → Place → ℕ → Type 0
 OccursAmong files sites place code = (site : Site) × Contains sites site × OccursAt files place code site
 
+-- the first fault of names at a site
+abbrev pub IsFirstAt : Declarations → Site → Option Found → Type 0
+IsFirstAt files site found = IsFirst (λ place code. OccursAt files place code site) found
+
+-- the first fault of names at some sites
+abbrev pub IsFirstIn : Declarations → List Site → Option Found → Type 0
+IsFirstIn files sites found = IsFirst (OccursAmong files sites) found
+
+-- the first fault of names inside a list of variables: in the list itself, or in a part that it is around
+abbrev pub IsFirstWithin : Declarations → List TypedName → (Scope → List Site) → Scope → Option Found → Type 0
+IsFirstWithin files names of around found = IsFirstIn files (sites_within names of around) found
+
+-- the first of some objects that is declared again with another type, whichever objects come before and after them
+abbrev pub IsFirstRepeated : List TypedName → List TypedName → Option Found → Type 0
+IsFirstRepeated all objects found =
+    (before after : List TypedName) → all ≡ before ++ (objects ++ after) → IsFirst (IsRepeatedObject before objects) found
+
 -- a type of a parameter of a predicate is not declared
 abbrev pub HasUnknownParameter : Declarations → Place → ℕ → Type 0
 HasUnknownParameter files place code = (declared : Declared) × Contains files.domain.predicates declared × HasUnknownType files.domain.kinds declared.parameters place code
@@ -124,10 +143,21 @@ abbrev pub HasUnknownObject : Declarations → Pattern → Place → ℕ → Typ
 HasUnknownObject files pattern place code =
     (term : Term) × Contains pattern.terms term × (term.variable ≡ false) × (first_of (all_objects files) term.name ≡ None) × (place ≡ term.place) × (code ≡ UNKNOWN_TERM)
 
+-- a pattern has a fault in its terms
+abbrev pub IsFaultyPattern : Declarations → Pattern → Place → ℕ → Type 0
+IsFaultyPattern files pattern place code = HasWrongCount files.domain pattern place code ⊎ HasUnknownObject files pattern place code
+
 -- some pattern of the side list has a fault in its terms
 abbrev pub HasFaultyPattern : Declarations → Place → ℕ → Type 0
 HasFaultyPattern files place code =
     (pattern : Pattern) × Contains files.side.patterns pattern × (HasWrongCount files.domain pattern place code ⊎ HasUnknownObject files pattern place code)
+
+-- a predicate or a schema is declared again, or a schema has a fault
+abbrev pub HasLaterFault : Declarations → Place → ℕ → Type 0
+HasLaterFault files place code =
+    IsRepeatedPredicate files.domain.predicates place code
+    ⊎ IsRepeatedSchema files.domain.schemas place code
+    ⊎ OccursAmong files (domain_sites files.domain) place code
 
 -- a fault of names occurs in one of the files
 abbrev pub StandsInNames : Declarations → FileKind → Place → ℕ → Type 0

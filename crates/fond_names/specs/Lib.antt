@@ -3,6 +3,7 @@ pub mod Sites
 pub mod Faults
 pub mod Indexes
 pub mod Scopes
+pub mod ScopeFalls
 pub mod Files
 pub mod Same
 pub mod Subtypes

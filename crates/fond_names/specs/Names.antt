@@ -56,6 +56,10 @@ schema_names domain = map (λ schema. schema.name) domain.schemas
 abbrev pub schema_of : Domain → List ℕ → Option Schema
 schema_of domain name = find (λ schema. bytes_eq schema.name name) domain.schemas
 
+-- the first member of each pattern of a side list
+abbrev pub front_leaves : Side → List Kind
+front_leaves side = map (λ pattern. pattern.schema) side.patterns
+
 -- the leaves of a side list that should name schemas: those outside parentheses, and the first member of each pattern
 abbrev pub schema_leaves : Side → List Kind
 schema_leaves side = side.names ++ map (λ pattern. pattern.schema) side.patterns

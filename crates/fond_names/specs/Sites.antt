@@ -73,3 +73,15 @@ domain_sites domain = flat_map schema_sites domain.schemas
 -- the sites of a problem: its initial atoms, negated or not, and those of its goal
 abbrev pub problem_sites : Problem → List Site
 problem_sites problem = map (λ initial. AnAtom [] initial.atom) problem.init ++ condition_sites problem.goal []
+
+-- the sites inside a list of variables: the list itself, and those of a part that it is around
+abbrev pub sites_within : List TypedName → (Scope → List Site) → Scope → List Site
+sites_within names of around = AList names ∷ of (names ∷ around)
+
+-- the sites of some conditions or effects, one after the other
+abbrev pub sites_of : {A : Type 0} → (A → Scope → List Site) → List A → Scope → List Site
+sites_of of parts around = flat_map (λ part. part around) (map of parts)
+
+-- the sites of the initial atoms of a problem, negated or not
+abbrev pub initial_sites : Problem → List Site
+initial_sites problem = map (λ initial. AnAtom [] initial.atom) problem.init

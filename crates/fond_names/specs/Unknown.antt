@@ -1,5 +1,5 @@
 -- Unknown types, and arguments that do not fit, one by one.
-use Rattle.std.specs.Prelude.{◌≡◌, ℕ, false, true, List, Contains, Some}
+use Rattle.std.specs.Prelude.{◌≡◌, ◌||◌, ℕ, Bool, false, true, is_some, List, Contains, Some}
 use Rattle.fond_text.specs.declared.code.TheConstants.{UNKNOWN_TYPE, TYPE_MISMATCH}
 use Rattle.fond_text.specs.declared.place.Place.{Place}
 use Rattle.fond_ast.specs.declared.names.Kind.{Kind}
@@ -7,7 +7,7 @@ use Rattle.fond_ast.specs.declared.names.Term.{Term}
 use Rattle.fond_ast.specs.declared.names.TypedName.{TypedName}
 use Rattle.fond_kinds.specs.Kinds.{is_type, are_types, Fit}
 use Rattle.fond_names.specs.Faults.{declaration_of}
-use Rattle.fond_names.specs.Names.{Declarations}
+use Rattle.fond_names.specs.Names.{Declarations, all_objects, first_of}
 use Rattle.fond_names.specs.Sites.{Scope}
 
 -- one of these types is not declared; the fault is at the type
@@ -23,3 +23,7 @@ pub record IsMisfit (files : Declarations) (around : Scope) (argument : Term) (p
   pub misfit : ¬ Fit files.domain.kinds declared.kinds parameter.kinds
   pub place_is : place ≡ argument.place
   pub coded : code ≡ TYPE_MISMATCH
+
+-- whether a term of a pattern is a variable or a declared object
+abbrev pub is_sound_term : Declarations → Term → Bool
+is_sound_term files term = term.variable || is_some (first_of (all_objects files) term.name)

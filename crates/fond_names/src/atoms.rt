@@ -1,10 +1,9 @@
 //! The first fault of names in an atom, an equality or a list of variables.
 
 ghost use Rattle.fond_text.specs.Firsts.{IsFirst};
-ghost use Rattle.fond_names.specs.Faults.{HasMismatch, HasWrongArity, IsUnknownTerm, HasUnknownTerm, OccursAt};
+ghost use Rattle.fond_names.specs.Faults.{HasMismatch, HasWrongArity, IsUnknownTerm, HasUnknownTerm, IsFirstAt};
 ghost use Rattle.fond_names.specs.Files.{declarations_of};
 ghost use Rattle.fond_names.specs.Names.{predicate_of};
-ghost use Rattle.fond_names.specs.Scopes.{lists_of};
 ghost use Rattle.fond_names.specs.Sites.{AnAtom, AnEquality, AList};
 ghost use Rattle.fond_names.specs.Unknown.{IsMisfit};
 ghost use Rattle.std.specs.Prelude.{◌≡◌, Some};
@@ -23,7 +22,7 @@ use fond_text::first::{Found, earlier, found_if};
 
 /// A term, if it is unknown.
 fn unknown_one(files: &Files, around: &Around, term: &Term) -> Option<Found>
-    ensures { IsFirst (IsUnknownTerm (declarations_of files.now) (lists_of around.now) term.now) result }
+    ensures { IsFirst (IsUnknownTerm (declarations_of files.now) around.now term.now) result }
 {
     let unknown = find_term(files, around, term).is_none();
     found_if(unknown, term.place, UNKNOWN_TERM)
@@ -31,7 +30,7 @@ fn unknown_one(files: &Files, around: &Around, term: &Term) -> Option<Found>
 
 /// The first unknown term of an atom.
 fn unknown_term(files: &Files, around: &Around, atom: &ReadAtom) -> Option<Found>
-    ensures { IsFirst (HasUnknownTerm (declarations_of files.now) (lists_of around.now) atom.now) result }
+    ensures { IsFirst (HasUnknownTerm (declarations_of files.now) around.now atom.now) result }
 {
     let mut first = None;
     for i in 0..atom.terms.len() {
@@ -42,7 +41,7 @@ fn unknown_term(files: &Files, around: &Around, atom: &ReadAtom) -> Option<Found
 
 /// An argument, if it does not fit a parameter.
 fn misfit(files: &Files, around: &Around, argument: &Term, parameter: &TypedName) -> Option<Found>
-    ensures { IsFirst (IsMisfit (declarations_of files.now) (lists_of around.now) argument.now parameter.now) result }
+    ensures { IsFirst (IsMisfit (declarations_of files.now) around.now argument.now parameter.now) result }
 {
     match find_term(files, around, argument) {
         Some(declared) => {
@@ -56,7 +55,7 @@ fn misfit(files: &Files, around: &Around, argument: &Term, parameter: &TypedName
 /// The first argument of an atom that does not fit its parameter.
 fn mismatch(files: &Files, around: &Around, predicate: &Declared, atom: &ReadAtom) -> Option<Found>
     requires { predicate_of files.now.domain.now atom.now.name ≡ Some predicate.now }
-    ensures { IsFirst (HasMismatch (declarations_of files.now) (lists_of around.now) atom.now) result }
+    ensures { IsFirst (HasMismatch (declarations_of files.now) around.now atom.now) result }
 {
     let mut first = None;
     for i in 0..atom.terms.len().min(predicate.parameters.len()) {
@@ -77,7 +76,7 @@ fn wrong_arity(files: &Files, predicate: &Declared, atom: &ReadAtom) -> Option<F
 
 /// The first fault of names in an atom.
 pub(crate) fn atom_fault(files: &Files, around: &Around, atom: &ReadAtom) -> Option<Found>
-    ensures { IsFirst (λ place code. OccursAt (declarations_of files.now) place code (AnAtom (lists_of around.now) atom.now)) result }
+    ensures { IsFirstAt (declarations_of files.now) (AnAtom around.now atom.now) result }
 {
     let terms = unknown_term(files, around, atom);
     match find_predicate(files, &atom.name) {
@@ -97,7 +96,7 @@ pub(crate) fn equality_fault(
     term: &Term,
     other: &Term,
 ) -> Option<Found>
-    ensures { IsFirst (λ place code. OccursAt (declarations_of files.now) place code (AnEquality (lists_of around.now) term.now other.now)) result }
+    ensures { IsFirstAt (declarations_of files.now) (AnEquality around.now term.now other.now) result }
 {
     let first = unknown_one(files, around, term);
     earlier(first, unknown_one(files, around, other))
@@ -105,8 +104,8 @@ pub(crate) fn equality_fault(
 
 /// The first fault of names in a list of variables.
 pub(crate) fn list_fault(files: &Files, variables: &Variables) -> Option<Found>
-    ensures { IsFirst (λ place code. OccursAt (declarations_of files.now) place code (AList variables.now.names.now)) result }
+    ensures { IsFirstAt (declarations_of files.now) (AList variables.now) result }
 {
-    let unknown = unknown_type(&files.types, variables.names);
+    let unknown = unknown_type(&files.types, variables.names());
     earlier(unknown, repeated_variable(variables))
 }

@@ -3,10 +3,9 @@
 ghost use Rattle.fond_text.specs.declared.place.FileKind.TheVariants.{Domain as InDomain, Problem as InProblem, Side as InSide};
 ghost use Rattle.fond_text.specs.Faults.{AreClean, IsFirstAmong};
 ghost use Rattle.fond_text.specs.Firsts.{IsFirst};
-ghost use Rattle.fond_names.specs.Faults.{IsRepeatedPredicate, IsRepeatedSchema, OccursAmong, StandsInNames};
+ghost use Rattle.fond_names.specs.Faults.{HasLaterFault, StandsInNames};
 ghost use Rattle.fond_names.specs.Files.{declarations_of};
-ghost use Rattle.fond_names.specs.Sites.{domain_sites};
-ghost use Rattle.std.specs.Prelude.{◌≡◌, ◌⊎◌, IfOk, IfSome, IfNone};
+ghost use Rattle.std.specs.Prelude.{◌≡◌, IfOk, IfSome, IfNone};
 
 use crate::files::Files;
 use crate::leaves::unknown_schema;
@@ -24,8 +23,7 @@ use std::alloc::Global;
 
 /// The first predicate or schema that is declared again, or fault in a schema.
 fn later_fault(alloc: Global, files: &Files) -> Result<Option<Found>, NoMemory>
-    ensures { IfOk result (IsFirst (λ place code. IsRepeatedPredicate files.now.domain.now.predicates place code
-        ⊎ (IsRepeatedSchema files.now.domain.now.schemas place code ⊎ OccursAmong (declarations_of files.now) (domain_sites files.now.domain.now) place code))) }
+    ensures { IfOk result (IsFirst (HasLaterFault (declarations_of files.now))) }
 {
     let predicates = redeclared_predicate(alloc, files)?;
     let schemas = earlier(repeated_schema(files), domain_site_fault(alloc, files)?);

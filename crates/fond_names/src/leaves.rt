@@ -2,8 +2,8 @@
 
 ghost use Rattle.fond_text.specs.Firsts.{IsFirst};
 ghost use Rattle.fond_names.specs.Faults.{IsUnknownSchema};
-ghost use Rattle.fond_names.specs.Names.{is_among, schema_leaves, schema_names};
-ghost use Rattle.std.specs.Prelude.{◌≡◌, map, not};
+ghost use Rattle.fond_names.specs.Names.{front_leaves, is_among, schema_leaves, schema_names};
+ghost use Rattle.std.specs.Prelude.{◌≡◌, not};
 
 use crate::files::Files;
 use fond_text::code::UNKNOWN_SCHEMA;
@@ -32,7 +32,7 @@ fn unknown_outside(files: &Files) -> Option<Found>
 
 /// The first member at the front of a pattern that names no schema.
 fn unknown_in_front(files: &Files) -> Option<Found>
-    ensures { IsFirst (IsUnknownSchema (schema_names files.now.domain.now) (map (λ pattern. pattern.schema) files.now.side.now.patterns)) result }
+    ensures { IsFirst (IsUnknownSchema (schema_names files.now.domain.now) (front_leaves files.now.side.now)) result }
 {
     let mut first = None;
     for i in 0..files.side.patterns.len() {

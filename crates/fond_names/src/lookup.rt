@@ -23,7 +23,7 @@ fn indexed_names(
     problem: &Problem,
 ) -> Result<(TextIndex, TextIndex), NoMemory>
     ensures predicates { IfOk result (λ made. IsIndex (λ predicate. predicate.name) made.0 domain.now.predicates) }
-    ensures objects { IfOk result (λ made. IsIndex (λ object. object.name) made.1 (domain.now.constants ++ problem.now.objects)) }
+    ensures objects { IfOk result (λ made. IsIndex (λ one. one.name) made.1 (domain.now.constants ++ problem.now.objects)) }
 {
     let predicates = index_predicates(alloc, &domain.predicates)?;
     let objects = index_objects(alloc, &domain.constants, &problem.objects)?;
@@ -39,9 +39,9 @@ pub fn indexed<'a>(
 ) -> Result<Files<'a>, NoMemory>
     ensures { IfOk result (λ files. declarations_of files ≡ record { domain = domain.now; problem = problem.now; side = side.now }) }
 {
-    let types = TypeTable::of(alloc, &domain.kinds)?;
     let schemas = index_schemas(alloc, &domain.schemas)?;
     let (predicates, objects) = indexed_names(alloc, domain, problem)?;
+    let types = TypeTable::of(alloc, &domain.kinds)?;
     Ok(Files {
         domain,
         problem,

@@ -1,10 +1,10 @@
 //! The first fault of names in the terms of the patterns of the side list.
 
 ghost use Rattle.fond_text.specs.Firsts.{IsFirst};
-ghost use Rattle.fond_names.specs.Faults.{HasWrongCount, HasUnknownObject, HasFaultyPattern};
+ghost use Rattle.fond_names.specs.Faults.{HasWrongCount, HasUnknownObject, HasFaultyPattern, IsFaultyPattern};
 ghost use Rattle.fond_names.specs.Files.{declarations_of};
-ghost use Rattle.fond_names.specs.Names.{all_objects, first_of};
-ghost use Rattle.std.specs.Prelude.{◌≡◌, ◌⊎◌, ◌||◌, is_some, not};
+ghost use Rattle.fond_names.specs.Unknown.{is_sound_term};
+ghost use Rattle.std.specs.Prelude.{◌≡◌, not};
 
 use crate::files::Files;
 use crate::lookup::{find_object, find_schema};
@@ -15,7 +15,7 @@ use fond_text::first::{Found, earlier, found_if};
 
 /// Whether a term of a pattern is a name that no object has.
 fn is_unknown(files: &Files, term: &Term) -> bool
-    ensures { result ≡ not (term.now.variable || is_some (first_of (all_objects (declarations_of files.now)) term.now.name)) }
+    ensures { result ≡ not (is_sound_term (declarations_of files.now) term.now) }
 {
     !term.variable && find_object(files, &term.name).is_none()
 }
@@ -48,7 +48,7 @@ fn wrong_count(files: &Files, pattern: &Pattern) -> Option<Found>
 
 /// The first fault of names in the terms of a pattern.
 fn pattern_fault(files: &Files, pattern: &Pattern) -> Option<Found>
-    ensures { IsFirst (λ place code. HasWrongCount files.now.domain.now pattern.now place code ⊎ HasUnknownObject (declarations_of files.now) pattern.now place code) result }
+    ensures { IsFirst (IsFaultyPattern (declarations_of files.now) pattern.now) result }
 {
     let count = wrong_count(files, pattern);
     earlier(count, unknown_object(files, pattern))

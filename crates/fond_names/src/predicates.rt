@@ -3,11 +3,10 @@
 ghost use Rattle.fond_lookup.specs.Texts.{number_beside};
 ghost use Rattle.fond_text.specs.Firsts.{IsFirst};
 ghost use Rattle.fond_names.specs.Faults.{IsRepeatedPredicate};
-ghost use Rattle.fond_names.specs.Names.{is_among, predicate_of};
-ghost use Rattle.fond_names.specs.Same.{kind_names, are_same_kinds, are_same_types};
+ghost use Rattle.fond_names.specs.Names.{is_among};
+ghost use Rattle.fond_names.specs.Same.{kind_names, are_same_kinds, are_same_types, has_other_types};
 ghost use Rattle.std.specs.List.{list_all};
-ghost use Rattle.std.specs.Option.{option_map_or};
-ghost use Rattle.std.specs.Prelude.{◌≡◌, ℕ, List, IfOk, false, not, is_some};
+ghost use Rattle.std.specs.Prelude.{◌≡◌, ℕ, List, IfOk, is_some};
 
 use crate::files::Files;
 use crate::index::insert_name;
@@ -67,7 +66,7 @@ fn are_same_types(alloc: Global, ones: &TypedNames, others: &TypedNames) -> Resu
 
 /// Whether the first declaration of a predicate has other parameters than this one.
 fn is_redeclared(alloc: Global, files: &Files, declared: &Declared) -> Result<bool, NoMemory>
-    ensures { IfOk result (λ again. again ≡ option_map_or (λ first. not (are_same_types first.parameters declared.now.parameters)) (predicate_of files.now.domain.now declared.now.name) false) }
+    ensures { IfOk result (λ again. again ≡ has_other_types files.now.domain.now declared.now) }
 {
     match find_predicate(files, &declared.name) {
         Some(first) => Ok(!are_same_types(alloc, &first.parameters, &declared.parameters)?),

@@ -1,31 +1,21 @@
 //! Names that occur again: schemas, and variables of one list.
 
-ghost use Rattle.fond_ast.specs.declared.files.Schema.{Schema};
-ghost use Rattle.fond_ast.specs.declared.names.TypedName.{TypedName};
 ghost use Rattle.fond_text.specs.Firsts.{IsFirst};
 ghost use Rattle.fond_names.specs.Faults.{IsRepeatedSchema, IsRepeatedVariable};
-ghost use Rattle.fond_names.specs.Indexes.{IsIndex};
-ghost use Rattle.fond_names.specs.Names.{is_among};
-ghost use Rattle.std.specs.Prelude.{◌≡◌, List, Some, map, slice_get, take};
+ghost use Rattle.std.specs.Option.{option_map_or};
+ghost use Rattle.std.specs.Prelude.{◌≡◌, false, nat_eq, not};
 
 use crate::files::Files;
 use crate::scope::Variables;
-use fond_ast::files::Schema;
-use fond_ast::names::TypedName;
-use fond_lookup::text_index::TextIndex;
 use fond_text::code::REPEATED_NAME;
 use fond_text::first::{Found, earlier, found_if};
-use fond_text::name::Name;
 
-/// Whether the first position of a name is not this one.
-fn is_elsewhere(index: &TextIndex, name: &Name, i: usize) -> bool
-    ensures schemas { (schemas : List Schema) (schema : Schema) → IsIndex (λ one. one.name) index.now schemas → slice_get schemas i ≡ Some schema → schema.name ≡ name.now →
-        result ≡ is_among (map (λ one. one.name) (take i schemas)) name.now }
-    ensures variables { (names : List TypedName) (variable : TypedName) → IsIndex (λ one. one.name) index.now names → slice_get names i ≡ Some variable → variable.name ≡ name.now →
-        result ≡ is_among (map (λ one. one.name) (take i names)) name.now }
+/// Whether this is not the first position of a name.
+fn is_elsewhere(first: Option<u32>, i: usize) -> bool
+    ensures { result ≡ not (option_map_or (λ at. nat_eq at i) first false) }
 {
-    match index.find(name.bytes()) {
-        Some(position) => position as usize != i,
+    match first {
+        Some(at) => at as usize != i,
         None => true,
     }
 }
@@ -37,7 +27,7 @@ pub(crate) fn repeated_schema(files: &Files) -> Option<Found>
     let mut first = None;
     for i in 0..files.domain.schemas.len() {
         let schema = files.domain.schemas.get(i);
-        let again = is_elsewhere(&files.schemas, &schema.name, i);
+        let again = is_elsewhere(files.schemas.find(schema.name.bytes()), i);
         first = earlier(first, found_if(again, schema.place, REPEATED_NAME));
     }
     first
@@ -45,12 +35,13 @@ pub(crate) fn repeated_schema(files: &Files) -> Option<Found>
 
 /// The first variable of a list that occurs in it before.
 pub(crate) fn repeated_variable(variables: &Variables) -> Option<Found>
-    ensures { IsFirst (IsRepeatedVariable variables.now.names.now) result }
+    ensures { IsFirst (IsRepeatedVariable variables.now) result }
 {
+    let names = variables.names();
     let mut first = None;
-    for i in 0..variables.names.len() {
-        let variable = variables.names.get(i);
-        let again = is_elsewhere(&variables.index, &variable.name, i);
+    for i in 0..names.len() {
+        let variable = names.get(i);
+        let again = is_elsewhere(variables.position(&variable.name), i);
         first = earlier(first, found_if(again, variable.place, REPEATED_NAME));
     }
     first

@@ -2,17 +2,14 @@
 
 ghost use Rattle.fond_ast.specs.Read.{condition_variables, effect_variables, has_few_variables, schema_variables};
 ghost use Rattle.fond_text.specs.declared.code.TheConstants.{LONGEST_TEXT};
-ghost use Rattle.fond_text.specs.Firsts.{IsFirst};
-ghost use Rattle.fond_names.specs.Faults.{OccursAmong};
+ghost use Rattle.fond_names.specs.Faults.{IsFirstIn, IsFirstWithin};
 ghost use Rattle.fond_names.specs.Files.{declarations_of};
-ghost use Rattle.fond_names.specs.Scopes.{lists_of};
-ghost use Rattle.fond_names.specs.Sites.{AList, AnAtom, condition_sites, effect_sites, schema_sites, domain_sites, problem_sites};
-ghost use Rattle.std.specs.Prelude.{◌≡◌, ◌≤◌, ◌+◌, ◌∷◌, [], IfOk, length, map, true};
+ghost use Rattle.fond_names.specs.Sites.{condition_sites, effect_sites, schema_sites, domain_sites, problem_sites, initial_sites, sites_of};
+ghost use Rattle.std.specs.Prelude.{◌≡◌, ◌≤◌, ◌+◌, IfOk, length, map, sum, true};
 
 use crate::atoms::{atom_fault, equality_fault, list_fault};
 use crate::files::Files;
-use crate::scope::{Around, Variables};
-use crate::variable::{indexed_variables, inside};
+use crate::scope::{Around, Variables, inside, outside};
 use fond_ast::files::Schema;
 use fond_ast::names::TypedNames;
 use fond_ast::syntax::{Cond, Effect};
@@ -29,19 +26,13 @@ fn condition_fault(
     around: &Around,
 ) -> Result<Option<Found>, NoMemory>
     requires { condition_variables condition.now ≤ LONGEST_TEXT }
-    ensures { IfOk result (IsFirst (OccursAmong (declarations_of files.now) (condition_sites condition.now (lists_of around.now)))) }
+    ensures { IfOk result (IsFirstIn (declarations_of files.now) (condition_sites condition.now around.now)) }
 {
     match condition {
         Cond::Truth => Ok(None),
         Cond::Holds(atom) => Ok(atom_fault(files, around, atom)),
         Cond::Equal(term, other) => Ok(equality_fault(files, around, term, other)),
-        Cond::And(parts) | Cond::Or(parts) => {
-            let mut first = None;
-            for part in parts {
-                first = earlier(first, condition_fault(alloc, files, part, around)?);
-            }
-            Ok(first)
-        }
+        Cond::And(parts) | Cond::Or(parts) => conditions_fault(alloc, files, parts, around),
         Cond::Not(part) => condition_fault(alloc, files, part, around),
         Cond::Imply(part, other) => {
             let first = condition_fault(alloc, files, part, around)?;
@@ -51,6 +42,24 @@ fn condition_fault(
             quantified_fault(alloc, files, names, part, around)
         }
     }
+}
+
+/// The first fault of names in conditions.
+#[cycle(condition_fault)]
+fn conditions_fault(
+    alloc: Global,
+    files: &Files,
+    conditions: &[Cond],
+    around: &Around,
+) -> Result<Option<Found>, NoMemory>
+    requires { sum (map condition_variables conditions.now) ≤ LONGEST_TEXT }
+    ensures { IfOk result (IsFirstIn (declarations_of files.now) (sites_of condition_sites conditions.now around.now)) }
+{
+    let mut first = None;
+    for condition in conditions {
+        first = earlier(first, condition_fault(alloc, files, condition, around)?);
+    }
+    Ok(first)
 }
 
 /// The first fault of names in the variables and the part of a quantifier.
@@ -63,11 +72,26 @@ fn quantified_fault(
     around: &Around,
 ) -> Result<Option<Found>, NoMemory>
     requires { length names.now + condition_variables part.now ≤ LONGEST_TEXT }
-    ensures { IfOk result (IsFirst (OccursAmong (declarations_of files.now) (AList names.now ∷ condition_sites part.now (names.now ∷ lists_of around.now)))) }
+    ensures { IfOk result (IsFirstWithin (declarations_of files.now) names.now (condition_sites part.now) around.now) }
 {
-    let variables = indexed_variables(alloc, names)?;
-    let first = list_fault(files, &variables);
-    let within = inside(&variables, &*around);
+    let variables = Variables::of(alloc, names)?;
+    quantified_inside(alloc, files, &variables, part, around)
+}
+
+/// The first fault of names in these variables and the part of their quantifier.
+#[cycle(condition_fault)]
+fn quantified_inside(
+    alloc: Global,
+    files: &Files,
+    variables: &Variables,
+    part: &Cond,
+    around: &Around,
+) -> Result<Option<Found>, NoMemory>
+    requires { length variables.now + condition_variables part.now ≤ LONGEST_TEXT }
+    ensures { IfOk result (IsFirstWithin (declarations_of files.now) variables.now (condition_sites part.now) around.now) }
+{
+    let first = list_fault(files, variables);
+    let within = inside(&*variables, &*around);
     Ok(earlier(first, condition_fault(alloc, files, part, &within)?))
 }
 
@@ -80,24 +104,36 @@ fn effect_fault(
     around: &Around,
 ) -> Result<Option<Found>, NoMemory>
     requires { effect_variables effect.now ≤ LONGEST_TEXT }
-    ensures { IfOk result (IsFirst (OccursAmong (declarations_of files.now) (effect_sites effect.now (lists_of around.now)))) }
+    ensures { IfOk result (IsFirstIn (declarations_of files.now) (effect_sites effect.now around.now)) }
 {
     match effect {
         Effect::Nothing => Ok(None),
         Effect::Add(atom) | Effect::Delete(atom) => Ok(atom_fault(files, around, atom)),
-        Effect::And(parts) | Effect::OneOf(parts) => {
-            let mut first = None;
-            for part in parts {
-                first = earlier(first, effect_fault(alloc, files, part, around)?);
-            }
-            Ok(first)
-        }
+        Effect::And(parts) | Effect::OneOf(parts) => effects_fault(alloc, files, parts, around),
         Effect::Forall(names, part) => universal_fault(alloc, files, names, part, around),
         Effect::When(condition, part) => {
             let first = condition_fault(alloc, files, condition, around)?;
             Ok(earlier(first, effect_fault(alloc, files, part, around)?))
         }
     }
+}
+
+/// The first fault of names in effects.
+#[cycle(effect_fault)]
+fn effects_fault(
+    alloc: Global,
+    files: &Files,
+    effects: &[Effect],
+    around: &Around,
+) -> Result<Option<Found>, NoMemory>
+    requires { sum (map effect_variables effects.now) ≤ LONGEST_TEXT }
+    ensures { IfOk result (IsFirstIn (declarations_of files.now) (sites_of effect_sites effects.now around.now)) }
+{
+    let mut first = None;
+    for effect in effects {
+        first = earlier(first, effect_fault(alloc, files, effect, around)?);
+    }
+    Ok(first)
 }
 
 /// The first fault of names in the variables and the part of a quantified effect.
@@ -110,11 +146,26 @@ fn universal_fault(
     around: &Around,
 ) -> Result<Option<Found>, NoMemory>
     requires { length names.now + effect_variables part.now ≤ LONGEST_TEXT }
-    ensures { IfOk result (IsFirst (OccursAmong (declarations_of files.now) (AList names.now ∷ effect_sites part.now (names.now ∷ lists_of around.now)))) }
+    ensures { IfOk result (IsFirstWithin (declarations_of files.now) names.now (effect_sites part.now) around.now) }
 {
-    let variables = indexed_variables(alloc, names)?;
-    let first = list_fault(files, &variables);
-    let within = inside(&variables, &*around);
+    let variables = Variables::of(alloc, names)?;
+    universal_inside(alloc, files, &variables, part, around)
+}
+
+/// The first fault of names in these variables and the part of their quantifier.
+#[cycle(effect_fault)]
+fn universal_inside(
+    alloc: Global,
+    files: &Files,
+    variables: &Variables,
+    part: &Effect,
+    around: &Around,
+) -> Result<Option<Found>, NoMemory>
+    requires { length variables.now + effect_variables part.now ≤ LONGEST_TEXT }
+    ensures { IfOk result (IsFirstWithin (declarations_of files.now) variables.now (effect_sites part.now) around.now) }
+{
+    let first = list_fault(files, variables);
+    let within = inside(&*variables, &*around);
     Ok(earlier(first, effect_fault(alloc, files, part, &within)?))
 }
 
@@ -125,12 +176,12 @@ fn fault_inside(
     schema: &Schema,
     parameters: &Variables,
 ) -> Result<Option<Found>, NoMemory>
-    requires named { parameters.now.names.now ≡ schema.now.parameters }
+    requires named { parameters.now ≡ schema.now.parameters }
     requires few { has_few_variables schema.now ≡ true }
-    ensures { IfOk result (IsFirst (OccursAmong (declarations_of files.now) (schema_sites schema.now))) }
+    ensures { IfOk result (IsFirstIn (declarations_of files.now) (schema_sites schema.now)) }
 {
     let list = list_fault(files, parameters);
-    let outside = Around::Nothing;
+    let outside = outside();
     let within = inside(&*parameters, &outside);
     let first = condition_fault(alloc, files, &schema.pre, &within)?;
     let body = earlier(first, effect_fault(alloc, files, &schema.effect, &within)?);
@@ -140,15 +191,15 @@ fn fault_inside(
 /// The first fault of names in a schema.
 fn schema_fault(alloc: Global, files: &Files, schema: &Schema) -> Result<Option<Found>, NoMemory>
     requires { has_few_variables schema.now ≡ true }
-    ensures { IfOk result (IsFirst (OccursAmong (declarations_of files.now) (schema_sites schema.now))) }
+    ensures { IfOk result (IsFirstIn (declarations_of files.now) (schema_sites schema.now)) }
 {
-    let parameters = indexed_variables(alloc, &schema.parameters)?;
+    let parameters = Variables::of(alloc, &schema.parameters)?;
     fault_inside(alloc, files, schema, &parameters)
 }
 
 /// The first fault of names in the schemas of the domain.
 pub(crate) fn domain_site_fault(alloc: Global, files: &Files) -> Result<Option<Found>, NoMemory>
-    ensures { IfOk result (IsFirst (OccursAmong (declarations_of files.now) (domain_sites files.now.domain.now))) }
+    ensures { IfOk result (IsFirstIn (declarations_of files.now) (domain_sites files.now.domain.now)) }
 {
     let mut first = None;
     for i in 0..files.domain.schemas.len() {
@@ -160,9 +211,9 @@ pub(crate) fn domain_site_fault(alloc: Global, files: &Files) -> Result<Option<F
 
 /// The first fault of names in the initial atoms of the problem.
 fn init_fault(files: &Files) -> Option<Found>
-    ensures { IsFirst (OccursAmong (declarations_of files.now) (map (λ initial. AnAtom [] initial.atom) files.now.problem.now.init)) result }
+    ensures { IsFirstIn (declarations_of files.now) (initial_sites files.now.problem.now) result }
 {
-    let outside = Around::Nothing;
+    let outside = outside();
     let mut first = None;
     for i in 0..files.problem.init.len() {
         let initial = files.problem.init.get(i);
@@ -173,9 +224,9 @@ fn init_fault(files: &Files) -> Option<Found>
 
 /// The first fault of names in the initial atoms and the goal of the problem.
 pub(crate) fn problem_site_fault(alloc: Global, files: &Files) -> Result<Option<Found>, NoMemory>
-    ensures { IfOk result (IsFirst (OccursAmong (declarations_of files.now) (problem_sites files.now.problem.now))) }
+    ensures { IfOk result (IsFirstIn (declarations_of files.now) (problem_sites files.now.problem.now)) }
 {
-    let outside = Around::Nothing;
+    let outside = outside();
     let first = init_fault(files);
     Ok(earlier(
         first,

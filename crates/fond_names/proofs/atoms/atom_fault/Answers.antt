@@ -1,16 +1,15 @@
 use Rattle.std.proofs.Common.{sym}
 use Rattle.fond_names.specs.Files.{declarations_of}
-use Rattle.fond_names.specs.Scopes.{lists_of}
 use Rattle.fond_names.proofs.AtomFaults.{fault_if_declared, fault_if_unknown}
 use Rattle.fond_names.proofs.atoms.atom_fault.Goals as goal
 
 pub returns-in-Some : goal.returns-in-Some
 returns-in-Some c =
-    fault_if_declared (declarations_of c.args.files.now) (lists_of c.args.around.now) c.args.atom.now c.in-Some.predicate.now (sym c.in-Some.ensures)
+    fault_if_declared (declarations_of c.args.files.now) c.args.around.now c.args.atom.now c.in-Some.predicate.now (sym c.in-Some.ensures)
     c.wrong_arity-arity.result c.mismatch.result c.unknown_term-terms.result c.earlier-arguments.result c.earlier.result
     c.wrong_arity-arity.ensures c.mismatch.ensures c.unknown_term-terms.ensures c.earlier-arguments.ensures c.earlier.ensures
 
 pub returns-in-None : goal.returns-in-None
 returns-in-None c =
-    fault_if_unknown (declarations_of c.args.files.now) (lists_of c.args.around.now) c.args.atom.now (sym c.in-None.ensures)
+    fault_if_unknown (declarations_of c.args.files.now) c.args.around.now c.args.atom.now (sym c.in-None.ensures)
     c.found_if.result c.unknown_term-terms.result c.earlier-in-None.result c.found_if.ensures c.unknown_term-terms.ensures c.earlier-in-None.ensures

@@ -5,7 +5,6 @@ use Rattle.fond_text.proofs.Earliest.{first_along}
 use Rattle.fond_text.specs.declared.code.TheConstants.{TYPE_MISMATCH}
 use Rattle.fond_names.specs.Faults.{declaration_of}
 use Rattle.fond_names.specs.Files.{declarations_of}
-use Rattle.fond_names.specs.Scopes.{lists_of}
 use Rattle.fond_names.specs.Subtypes.{are_misfits}
 use Rattle.fond_names.specs.Unknown.{IsMisfit}
 use Rattle.fond_names.proofs.Fits.{misfits_decide}
@@ -14,7 +13,7 @@ use Rattle.fond_names.proofs.atoms.misfit.Goals as goal
 pub returns-in-Some : goal.returns-in-Some
 returns-in-Some c =
     let files = c.args.files.now in
-    let lists = lists_of c.args.around.now in
+    let lists = c.args.around.now in
     let argument = c.args.argument.now in
     let parameter = c.args.parameter.now in
     let types = files.domain.now.kinds in

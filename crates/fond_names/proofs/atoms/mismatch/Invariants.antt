@@ -1,10 +1,9 @@
 use Rattle.fond_text.specs.Firsts.{IsFirst}
 use Rattle.fond_names.specs.Files.{declarations_of}
-use Rattle.fond_names.specs.Scopes.{lists_of}
 use Rattle.fond_names.proofs.Among.{Below}
 use Rattle.fond_names.proofs.Mismatches.{IsMisfitAt}
 use Rattle.fond_names.proofs.atoms.mismatch.Given as goal
 
 -- the fault is the first among the arguments so far
 abbrev pub invariant-loop-i : goal.invariant-loop-i
-invariant-loop-i l = IsFirst (Below (IsMisfitAt (declarations_of l.files) (lists_of l.around) l.predicate l.atom) l.i) l.first
+invariant-loop-i l = IsFirst (Below (IsMisfitAt (declarations_of l.files) l.around l.predicate l.atom) l.i) l.first

@@ -1,8 +1,10 @@
-use Rattle.std.proofs.Common.{◌≡◌, List, true, map, refl, sym, ◌∙◌, arith}
+use Rattle.std.proofs.Common.{◌≡◌, List, true, map, sym, ap, ◌∙◌, arith}
 use Rattle.fond_ast.specs.declared.files.Schema.{Schema}
+use Rattle.fond_lookup.specs.Texts.{number_beside}
 use Rattle.fond_text.specs.declared.code.TheConstants.{REPEATED_NAME}
 use Rattle.fond_names.specs.Names.{is_among}
 use Rattle.fond_names.proofs.Among.{later_none, later_next, later_all}
+use Rattle.fond_names.proofs.Positions.{repeats}
 use Rattle.fond_names.proofs.repeated.repeated_schema.Goals as goal
 
 abbrev IsAgain : List Schema → Schema → Type 0
@@ -15,7 +17,9 @@ pub loop-i-preserved : goal.loop-i-preserved
 loop-i-preserved c =
     let items = c.args.files.now.domain.now.schemas in
     let one = c.get-schema.result.now in
-    let told = c.is_elsewhere-again.ensures.schemas items one c.args.files.now.schemas_indexed c.get-schema.ensures refl in
+    let files = c.args.files.now in
+    let found = c.find.ensures ∙ ap (number_beside files.schemas) c.bytes.ensures.value ∙ files.schemas_indexed one.name in
+    let told = c.is_elsewhere-again.ensures ∙ repeats (λ (other : Schema). other.name) items c.loop-i.i one c.get-schema.ensures c.find.result (sym found) in
     later_next IsAgain (λ one. one.place) REPEATED_NAME items c.loop-i.i one c.is_elsewhere-again.result c.loop-i.first c.found_if.result c.earlier-first.result c.get-schema.ensures
     (λ e. sym told ∙ e, λ h. told ∙ h) c.loop-i.invariant c.found_if.ensures c.earlier-first.ensures
 

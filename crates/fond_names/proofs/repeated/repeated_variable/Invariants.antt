@@ -5,4 +5,4 @@ use Rattle.fond_names.proofs.repeated.repeated_variable.Given as goal
 
 -- the fault is the first among the variables so far
 abbrev pub invariant-loop-i : goal.invariant-loop-i
-invariant-loop-i l = IsFirst (IsRepeatedVariable (take l.i l.variables.names.now)) l.first
+invariant-loop-i l = IsFirst (IsRepeatedVariable (take l.i l.names)) l.first

@@ -8,9 +8,8 @@ use Rattle.fond_ast.specs.declared.syntax.Effect.TheVariants as made
 use Rattle.fond_text.specs.declared.code.TheConstants.{LONGEST_TEXT}
 use Rattle.fond_text.specs.Firsts.{IsFirst}
 use Rattle.fond_ast.specs.declared.names.TypedName.{TypedName}
-use Rattle.fond_names.specs.Faults.{OccursAmong, OccursAt}
+use Rattle.fond_names.specs.Faults.{OccursAmong}
 use Rattle.fond_names.specs.Files.{declarations_of}
-use Rattle.fond_names.specs.Scopes.{lists_of}
 use Rattle.fond_names.specs.Sites.{Site, AnAtom, AList, condition_sites, effect_sites}
 use Rattle.fond_names.proofs.SiteLemmas.{effect_sites_by, site_one, sites_both, site_then, sites_next, fewer_left}
 use Rattle.fond_names.proofs.sites.+effect_fault.Goals as goal
@@ -18,7 +17,7 @@ use Rattle.fond_names.proofs.sites.+effect_fault.Goals as goal
 pub effect_fault-returns-in-Add : goal.effect_fault-returns-in-Add
 effect_fault-returns-in-Add t c =
     let files = declarations_of c.args.files.now in
-    let around = lists_of c.args.around.now in
+    let around = c.args.around.now in
     let atom = c.in-Add.atom in
     let same : effect_sites c.args.effect.now around ≡ AnAtom around atom ∷ [] =
     elim c.in-Add.is [
@@ -30,7 +29,7 @@ effect_fault-returns-in-Add t c =
 pub effect_fault-returns-in_ok-effect_fault-in-When : goal.effect_fault-returns-in_ok-effect_fault-in-When
 effect_fault-returns-in_ok-effect_fault-in-When t c =
     let files = declarations_of c.args.files.now in
-    let around = lists_of c.args.around.now in
+    let around = c.args.around.now in
     let condition = c.in-When.condition in
     let part = c.in-When.part in
     let same = effect_sites_by c.args.effect.now (open_effect.When condition part) (ap out-Effect c.in-When.is ∙ made.outs-When condition part) around in
@@ -43,7 +42,7 @@ effect_fault-returns-in_ok-effect_fault-in-When t c =
 pub effect_fault-returns-in-Forall : goal.effect_fault-returns-in-Forall
 effect_fault-returns-in-Forall t c =
     let files = declarations_of c.args.files.now in
-    let around = lists_of c.args.around.now in
+    let around = c.args.around.now in
     let names = c.in-Forall.names in
     let part = c.in-Forall.part in
     let same : effect_sites c.args.effect.now around ≡ AList names ∷ effect_sites part.value (names ∷ around) =
@@ -54,35 +53,45 @@ effect_fault-returns-in-Forall t c =
 pub universal_fault-returns : goal.universal_fault-returns
 universal_fault-returns t c =
     let files = declarations_of c.args.files.now in
-    let around = lists_of c.args.around.now in
-    let names = c.args.names.now in
-    let named = c.in_ok-variables.ensures in
-    let lists : lists_of c.inside-within.result ≡ names ∷ around = c.inside-within.ensures ∙ ap (λ (list : List TypedName). list ∷ around) named in
+    subst (λ (list : List TypedName). IfOk c.universal_inside.result (IsFirst (OccursAmong files (AList list ∷ effect_sites c.args.part.now (list ∷ c.args.around.now))))) c.in_ok-variables.ensures c.universal_inside.ensures
+
+pub universal_inside-returns : goal.universal_inside-returns
+universal_inside-returns t c =
+    let files = declarations_of c.args.files.now in
+    let around = c.args.around.now in
+    let names = c.args.variables.now in
     let found = c.in_ok-effect_fault.field-0 in
-    site_then files (AList names) (effect_sites c.args.part.now (names ∷ around)) c.list_fault-first.result found c.earlier.result
-    (subst (λ (list : List TypedName). IsFirst (λ place code. OccursAt files place code (AList list)) c.list_fault-first.result) named c.list_fault-first.ensures)
-    (subst (λ (sites : List Site). IsFirst (OccursAmong files sites) found) (ap (effect_sites c.args.part.now) lists) c.in_ok-effect_fault.ensures)
+    site_then files (AList names) (effect_sites c.args.part.now (names ∷ around)) c.list_fault-first.result found c.earlier.result c.list_fault-first.ensures
+    (subst (λ (sites : List Site). IsFirst (OccursAmong files sites) found) (ap (effect_sites c.args.part.now) c.inside-within.ensures) c.in_ok-effect_fault.ensures)
     c.earlier.ensures
 
-pub effect_fault-loop-part-preserved : goal.effect_fault-loop-part-preserved
-effect_fault-loop-part-preserved t c =
-    let parts = c.deref-part-items.result.now in
-    let part = c.part-item.result in
+pub effects_fault-loop-effect-preserved : goal.effects_fault-loop-effect-preserved
+effects_fault-loop-effect-preserved t c =
+    let parts = c.args.effects.now in
+    let part = c.effect-item.result in
     record {
-      first = sites_next (declarations_of c.args.files.now) effect_sites (lists_of c.args.around.now) parts c.loop-part.part-index part c.loop-part.first c.in_ok-effect_fault-in-And.field-0 c.earlier-first.result
-          c.loop-part-test.true c.part-item.is c.loop-part.invariant.first c.in_ok-effect_fault-in-And.ensures c.earlier-first.ensures;
-      few = fewer_left effect_variables parts c.loop-part.part-index LONGEST_TEXT part c.loop-part-test.true c.part-item.is c.loop-part.invariant.few;
+      first = sites_next (declarations_of c.args.files.now) effect_sites c.args.around.now parts c.loop-effect.effect-index part c.loop-effect.first c.in_ok-effect_fault.field-0 c.earlier-first.result
+          c.loop-effect-test.true c.effect-item.is c.loop-effect.invariant.first c.in_ok-effect_fault.ensures c.earlier-first.ensures;
+      few = fewer_left effect_variables parts c.loop-effect.effect-index LONGEST_TEXT part c.loop-effect-test.true c.effect-item.is c.loop-effect.invariant.few;
     }
 
-pub effect_fault-returns-after-loop-part : goal.effect_fault-returns-after-loop-part
-effect_fault-returns-after-loop-part t c =
+pub effects_fault-returns : goal.effects_fault-returns
+effects_fault-returns t c =
     let files = declarations_of c.args.files.now in
-    let around = lists_of c.args.around.now in
+    let parts = c.args.effects.now in
+    let all = take_all c.loop-effect.effect-index parts (omega arith) in
+    subst (λ (some : List Effect). IsFirst (OccursAmong files (flat_map (λ part. part c.args.around.now) (map effect_sites some))) c.loop-effect.first) all c.loop-effect.invariant.first
+
+pub effect_fault-returns-in-And : goal.effect_fault-returns-in-And
+effect_fault-returns-in-And t c =
+    let files = declarations_of c.args.files.now in
+    let around = c.args.around.now in
     let parts = c.in-And.parts in
     let same : effect_sites c.args.effect.now around ≡ flat_map (λ part. part around) (map effect_sites parts.items) =
     elim c.in-And.is [
       | inl e ↦ effect_sites_by c.args.effect.now (open_effect.And parts) (ap out-Effect e ∙ made.outs-And parts) around
       | inr e ↦ effect_sites_by c.args.effect.now (open_effect.OneOf parts) (ap out-Effect e ∙ made.outs-OneOf parts) around
     ] in
-    let all = take_all c.loop-part.part-index c.deref-part-items.result.now (omega arith) ∙ c.deref-part-items.ensures.value in
-    subst (λ (sites : List Site). IsFirst (OccursAmong files sites) c.loop-part.first) (ap (λ (some : List Effect). flat_map (λ part. part around) (map effect_sites some)) all ∙ sym same) c.loop-part.invariant.first
+    let inner : flat_map (λ part. part around) (map effect_sites c.deref-in-And.result.now) ≡ flat_map (λ part. part around) (map effect_sites parts.items) =
+    ap (λ (some : List Effect). flat_map (λ part. part around) (map effect_sites some)) c.deref-in-And.ensures.value in
+    subst (λ (sites : List Site). IfOk c.effects_fault.result (IsFirst (OccursAmong files sites))) (inner ∙ sym same) c.effects_fault.ensures

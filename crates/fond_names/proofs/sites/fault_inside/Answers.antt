@@ -3,9 +3,7 @@ use Rattle.fond_ast.specs.declared.names.TypedName.{TypedName}
 use Rattle.fond_text.specs.Firsts.{IsFirst}
 use Rattle.fond_names.specs.Faults.{OccursAmong, OccursAt}
 use Rattle.fond_names.specs.Files.{declarations_of}
-use Rattle.fond_names.specs.Scopes.{lists_of}
 use Rattle.fond_names.specs.Sites.{Scope, AList, condition_sites, effect_sites}
-use Rattle.fond_names.proofs.ScopeLemmas.{lists-Nothing}
 use Rattle.fond_names.proofs.SiteLemmas.{sites_both, site_then}
 use Rattle.fond_names.proofs.sites.fault_inside.Goals as goal
 
@@ -14,7 +12,7 @@ returns c =
     let files = declarations_of c.args.files.now in
     let schema = c.args.schema.now in
     let named = c.requires.named in
-    let lists : lists_of c.inside-within.result ≡ schema.parameters ∷ [] = c.inside-within.ensures ∙ (λ i. named i ∷ lists-Nothing i) in
+    let lists : c.inside-within.result ≡ schema.parameters ∷ [] = c.inside-within.ensures ∙ (λ i. named i ∷ c.outside-outside.ensures i) in
     let conditions = condition_sites schema.pre (schema.parameters ∷ []) in
     let effects = effect_sites schema.effect (schema.parameters ∷ []) in
     site_then files (AList schema.parameters) (conditions ++ effects) c.list_fault-list.result c.earlier-body.result c.earlier.result

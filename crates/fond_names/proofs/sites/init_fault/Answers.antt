@@ -4,7 +4,6 @@ use Rattle.fond_text.specs.Firsts.{IsFirst}
 use Rattle.fond_names.specs.Faults.{OccursAt}
 use Rattle.fond_names.specs.Files.{declarations_of}
 use Rattle.fond_names.specs.Sites.{Scope, AnAtom}
-use Rattle.fond_names.proofs.ScopeLemmas.{lists-Nothing}
 use Rattle.fond_names.proofs.SiteLemmas.{site_more}
 use Rattle.fond_names.proofs.sites.init_fault.Goals as goal
 
@@ -13,4 +12,4 @@ loop-i-preserved c =
     let files = declarations_of c.args.files.now in
     let initial = c.get-initial.result.now in
     site_more files (λ (one : InitAtom). AnAtom [] one.atom) c.args.files.now.problem.now.init c.loop-i.i initial c.loop-i.first c.atom_fault.result c.earlier-first.result c.get-initial.ensures c.loop-i.invariant
-    (subst (λ (around : Scope). IsFirst (λ place code. OccursAt files place code (AnAtom around initial.atom)) c.atom_fault.result) lists-Nothing c.atom_fault.ensures) c.earlier-first.ensures
+    (subst (λ (around : Scope). IsFirst (λ place code. OccursAt files place code (AnAtom around initial.atom)) c.atom_fault.result) c.outside-outside.ensures c.atom_fault.ensures) c.earlier-first.ensures
