@@ -1,4 +1,5 @@
 pub mod AtomLemmas
+pub mod BodyLemmas
 pub mod CleanLemmas
 pub mod Firsts
 pub mod GroundLemmas

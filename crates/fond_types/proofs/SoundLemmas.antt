@@ -18,7 +18,8 @@ use Rattle.fond_names.specs.Names.{Declarations, is_among, all_objects, first_of
 use Rattle.fond_names.proofs.Members.{and_parts, and_both, all_from, here, there, here_or_there, or_right}
 use Rattle.fond_types.proofs.RangeLemmas.{found_passes}
 use Rattle.fond_types.proofs.TermLemmas.{some_found, among_names}
-use Rattle.fond_types.specs.Patterns.{is_sound_term, is_sound_pattern}
+use Rattle.fond_names.specs.Unknown.{is_sound_term}
+use Rattle.fond_types.specs.Patterns.{is_sound_pattern}
 
 contains_mapped : {X Y : Type 0} (f : X → Y) (xs : List X) (x : X) → Contains xs x → Contains (map f xs) (f x)
 contains_mapped f [] x within = let low = within.1 in absurd (omega (arith, low))

@@ -2,7 +2,7 @@
 use Rattle.std.proofs.Common.{◌≡◌, ℕ, zero, suc, ◌+◌, ◌<◌, ◌&&◌, nat_lt, Some, slice_get, Bool, true, List, [], ◌∷◌, ◌++◌, map, drop, sum, length, get_or, refl, sym, ap, ◌∙◌, arith}
 use Rattle.std.specs.List.{list_all, flat_map}
 use Rattle.std.proofs.lemmas.List.Folds.{list_all-append}
-use Rattle.fond_ast.specs.Ranges.{RangeList, is_rising}
+use Rattle.fond_ast.specs.Ranges.{RangeList, is_rising, objects_of}
 use Rattle.fond_ast.specs.Within.{are_ranges_within, is_condition_within, condition_within_step, is_effect_within, effect_within_step}
 use Rattle.fond_ast.specs.declared.form.LCond.{LCond, out-LCond}
 use Rattle.fond_ast.specs.declared.form.LCond.TheOpen as open_condition
@@ -14,7 +14,7 @@ use Rattle.fond_ast.specs.declared.names.Kind.{Kind}
 use Rattle.fond_ast.specs.declared.names.TypedName.{TypedName}
 use Rattle.fond_ast.specs.declared.task.LPredicate.{LPredicate}
 use Rattle.fond_types.specs.Kept.{range_by}
-use Rattle.fond_types.specs.Meanings.{meanings}
+use Rattle.fond_types.specs.Meanings.{meanings, ranges_around}
 use Rattle.fond_names.specs.Names.{Declarations, objects_declared}
 use Rattle.fond_types.specs.Resolves.{are_ranges}
 use Rattle.fond_names.specs.Same.{kind_names}
@@ -55,6 +55,13 @@ ranges_within files names ranges is =
     each : (some : List TypedName) → list_all (λ range. is_rising range && list_all (λ object. nat_lt object (length (objects_declared files))) range) (map (λ (name : TypedName). (meanings files).range name.kinds) some) ≡ true
     each [] = refl
     each (name ∷ some) = and_both (is_rising ((meanings files).range name.kinds) && list_all (λ object. nat_lt object (length (objects_declared files))) ((meanings files).range name.kinds)) _ (range_within files name.kinds) (each some)
+
+-- a quantifier is within if its part is within with its variables around it
+pub quantifier_within : (files : Declarations) (around : Scope) (names : List TypedName) (ranges : RangeList) (test : List (List ℕ) → Bool) → are_ranges (meanings files) names ranges ≡ true →
+    test (ranges_around (meanings files).range (names ∷ around)) ≡ true → (are_ranges_within (length (objects_declared files)) ranges && test (ranges_around (meanings files).range around ++ objects_of ranges)) ≡ true
+quantifier_within files around names ranges test are within =
+    and_both (are_ranges_within (length (objects_declared files)) ranges) _ (ranges_within files names ranges are)
+    (ap (λ objects. test (ranges_around (meanings files).range around ++ objects)) (are_ranges_of files names ranges are) ∙ within)
 
 -- the sites of each part are sound if those of all parts are
 pub sound_parts : {A : Type 0} (files : Declarations) (of : A → Scope → List Site) (around : Scope) (parts : List A) → are_sound files (flat_map (λ part. part around) (map of parts)) ≡ true → list_all (λ part. are_sound files (of part around)) parts ≡ true

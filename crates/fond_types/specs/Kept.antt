@@ -1,5 +1,5 @@
 -- Ranges that are kept, and the ranges of names of types.
-use Rattle.std.specs.Prelude.{ℕ, Bool, List, map, filter}
+use Rattle.std.specs.Prelude.{◌≡◌, ℕ, Bool, true, Contains, List, map, filter}
 use Rattle.std.specs.List.{list_all, list_any, enumerate_from}
 use Rattle.std.specs.Str.{bytes_eq}
 use Rattle.fond_ast.specs.declared.names.TypedName.{TypedName}
@@ -23,3 +23,13 @@ range_by files names = numbers_of files.domain.kinds names 0 (objects_declared f
 -- whether each range that is kept is that of its types
 abbrev pub are_kept : Declarations → List Kept → Bool
 are_kept files entries = list_all (λ entry. bytes_eq (range_by files entry.kinds) entry.range.value) entries
+
+-- if the ranges that were kept are those of their types, and a new one is that of its types, the ranges that are kept
+-- afterwards are those of their types
+abbrev pub Keeps : List Kept → List Kept → List (List ℕ) → List ℕ → Type 0
+Keeps before after names range =
+    (files : Declarations) → are_kept files before ≡ true → bytes_eq (range_by files names) range ≡ true → are_kept files after ≡ true
+
+-- an entry is kept, and has these names of types
+abbrev pub IsKeptFor : List Kept → List (List ℕ) → Kept → Type 0
+IsKeptFor entries names entry = (entry.kinds ≡ names) × Contains entries entry

@@ -2,6 +2,8 @@ pub mod Resolves
 pub mod Parts
 pub mod Ground
 pub mod Context
+pub mod Numbered
+pub mod Bodies
 pub mod Kept
 pub mod Meanings
 pub mod Sound

@@ -1,5 +1,5 @@
 -- What names stand for in three files, by the test for subtypes, and the ranges of variables around a place.
-use Rattle.std.specs.Prelude.{ℕ, suc, Bool, List, [], ◌∷◌, ◌++◌, map, if◌then◌else◌}
+use Rattle.std.specs.Prelude.{ℕ, suc, Bool, List, [], ◌∷◌, ◌++◌, fold, map, if◌then◌else◌}
 use Rattle.std.specs.List.{list_all}
 use Rattle.std.specs.Str.{bytes_eq}
 use Rattle.fond_ast.specs.declared.names.Kind.{Kind}
@@ -22,6 +22,10 @@ ranges_around range (names ∷ outer) = ranges_around range outer ++ map (λ nam
 -- names with one more, unless it is one of them
 abbrev pub name_also : List (List ℕ) → List ℕ → List (List ℕ)
 name_also names name = if is_among names name then names else names ++ name ∷ []
+
+-- the names of items, each once, in the order in which they come first
+abbrev pub names_once : {A : Type 0} → (A → List ℕ) → List A → List (List ℕ)
+names_once name items = fold name_also [] (map name items)
 
 -- names with their numbers, from this number on
 abbrev pub numbered_from : ℕ → List (List ℕ) → List (List ℕ × ℕ)

@@ -1,25 +1,27 @@
 -- Patterns without a fault of names, the places of their variables, and patterns over numbers that are filed by schema.
-use Rattle.std.specs.Prelude.{◌≡◌, ◌==◌, ◌&&◌, ◌||◌, ℕ, Bool, false, is_some, List, length, map, filter, position, Option}
+use Rattle.std.specs.Prelude.{◌≡◌, ◌==◌, ◌&&◌, ℕ, Bool, false, List, length, map, filter, position, Option, if◌then◌else◌}
 use Rattle.std.specs.List.{list_all}
 use Rattle.std.specs.Option.{option_map_or}
 use Rattle.std.specs.Str.{bytes_eq}
 use Rattle.fond_text.specs.Lists.{each_passes}
 use Rattle.fond_ast.specs.declared.files.Pattern.{Pattern}
+use Rattle.fond_ast.specs.declared.files.Schema.{Schema}
 use Rattle.fond_ast.specs.declared.form.LTerm.{LTerm}
 use Rattle.fond_ast.specs.declared.names.Term.{Term}
-use Rattle.fond_lookup.specs.Texts.{number_beside}
-use Rattle.fond_names.specs.Names.{Declarations, all_objects, first_of, schema_of}
+use Rattle.fond_lookup.specs.Texts.{number_beside, with_text}
+use Rattle.fond_names.specs.Names.{Declarations, schema_of}
+use Rattle.fond_names.specs.Unknown.{is_sound_term}
 use Rattle.fond_types.specs.Meanings.{meanings}
-use Rattle.fond_types.specs.Resolves.{Meanings, is_pattern}
-
--- whether a term of a pattern is a variable or a declared object
-abbrev pub is_sound_term : Declarations → Term → Bool
-is_sound_term files term = term.variable || is_some (first_of (all_objects files) term.name)
+use Rattle.fond_types.specs.Resolves.{Meanings, is_pattern, is_pattern_term}
 
 -- whether a pattern names a schema, has as many terms as it has parameters, and has only variables and declared objects
 abbrev pub is_sound_pattern : Declarations → Pattern → Bool
 is_sound_pattern files pattern =
     option_map_or (λ schema. length pattern.terms == length schema.parameters) (schema_of files.domain pattern.schema.name) false && list_all (is_sound_term files) pattern.terms
+
+-- whether a pattern is of this schema
+abbrev pub is_of_schema : Pattern → Schema → Bool
+is_of_schema pattern schema = bytes_eq schema.name pattern.schema.name
 
 -- the position where a variable occurs first among terms
 abbrev pub first_place : List Term → List ℕ → Option ℕ
@@ -32,6 +34,18 @@ HasPlaces terms index = (name : List ℕ) → number_beside index name ≡ first
 -- whether patterns over numbers are those of some written ones that name this schema, in order
 abbrev pub are_patterns : Meanings → List Pattern → List ℕ → List (List LTerm) → Bool
 are_patterns meanings patterns name numbers = each_passes (map (is_pattern meanings) (filter (λ pattern. bytes_eq pattern.schema.name name) patterns)) numbers
+
+-- whether patterns over numbers are those of the side list that name a schema, in order
+abbrev pub are_patterns_of : Declarations → Schema → List (List LTerm) → Bool
+are_patterns_of files schema numbers = are_patterns (meanings files) files.side.patterns schema.name numbers
+
+-- whether terms over numbers are those of a pattern with these terms
+abbrev pub are_pattern_terms : Declarations → List Term → List LTerm → Bool
+are_pattern_terms files terms numbers = each_passes (map (is_pattern_term (meanings files) terms) terms) numbers
+
+-- the numbers of variables with one more, unless a term is none or has one
+abbrev pub with_variable : List (List ℕ × ℕ) → Term → ℕ → List (List ℕ × ℕ)
+with_variable places term number = if term.variable then with_text places term.name number else places
 
 -- whether there is a list for each schema, of the patterns over numbers that name it
 abbrev pub are_filed : Declarations → List Pattern → List (List (List LTerm)) → Bool

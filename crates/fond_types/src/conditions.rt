@@ -1,31 +1,20 @@
 //! Conditions with each name replaced by its number.
 
-ghost use Rattle.fond_ast.specs.Ranges.{objects_of};
-ghost use Rattle.fond_ast.specs.Read.{condition_variables};
-ghost use Rattle.fond_ast.specs.Within.{are_ranges_within, is_condition_within};
-ghost use Rattle.fond_names.specs.Files.{declarations_of};
-ghost use Rattle.fond_names.specs.Names.{objects_declared};
-ghost use Rattle.fond_names.specs.Scopes.{lists_of};
-ghost use Rattle.fond_names.specs.Sites.{condition_sites, variables_of};
-ghost use Rattle.fond_text.specs.Lists.{each_passes};
-ghost use Rattle.fond_text.specs.declared.code.TheConstants.{LONGEST_TEXT};
+ghost use Rattle.fond_types.specs.Bodies.{AreNumberedConditions, AreSoundConditions, IsNumberedCondition, IsSoundCondition};
 ghost use Rattle.fond_types.specs.Kept.{are_kept};
-ghost use Rattle.fond_types.specs.Meanings.{meanings, ranges_around, are_typed, are_typed_around};
-ghost use Rattle.fond_types.specs.Resolves.{is_condition, are_ranges};
-ghost use Rattle.fond_types.specs.Sound.{are_sound};
-ghost use Rattle.std.specs.List.{flat_map, list_all};
-ghost use Rattle.std.specs.Prelude.{◌≡◌, ◌≤◌, ◌+◌, ◌∷◌, ◌++◌, [], IfOk, OnOk, length, map, sum, true};
+ghost use Rattle.fond_types.specs.Meanings.{meanings};
+ghost use Rattle.fond_types.specs.Resolves.{are_ranges};
+ghost use Rattle.std.specs.Prelude.{◌≡◌, ◌∷◌, [], IfOk, OnOk, true};
 
 use crate::context::Context;
 use crate::kept::KeptRanges;
 use crate::numbered_atom::numbered_atom;
-use crate::ranges::ranges_of;
+use crate::ranges::ranges_in;
 use crate::terms::numbered_term;
 use fond_ast::form::{LCond, Ranges};
 use fond_ast::names::TypedNames;
 use fond_ast::syntax::Cond;
-use fond_names::scope::Around;
-use fond_names::variable::{indexed_variables, inside};
+use fond_names::scope::{Around, Variables, inside};
 use fond_text::fault::NoMemory;
 use std::alloc::Global;
 
@@ -38,21 +27,17 @@ pub(crate) fn numbered_condition(
     condition: &Cond,
     around: &Around,
 ) -> Result<LCond, NoMemory>
-    requires sound { are_sound (declarations_of context.now.table.now.files.now) (condition_sites condition.now (lists_of around.now)) ≡ true }
-    requires typed { are_typed_around context.now.table.now.files.now.domain.now.kinds (lists_of around.now) ≡ true }
-    requires few { length (variables_of (lists_of around.now)) + condition_variables condition.now ≤ LONGEST_TEXT }
-    requires kept { are_kept (declarations_of context.now.table.now.files.now) kept.old.entries.items ≡ true }
-    ensures resolved { IfOk result (λ number. is_condition (meanings (declarations_of context.now.table.now.files.now)) condition.now (lists_of around.now) number ≡ true) }
-    ensures within { IfOk result (λ number. is_condition_within (length (objects_declared (declarations_of context.now.table.now.files.now))) context.now.predicates.now number
-        (ranges_around (meanings (declarations_of context.now.table.now.files.now)).range (lists_of around.now)) ≡ true) }
-    ensures kept { OnOk result (are_kept (declarations_of context.now.table.now.files.now) kept.new.entries.items ≡ true) }
+    requires sound { IsSoundCondition context.now.files around.now condition.now }
+    requires kept { are_kept context.now.files kept.old.entries.items ≡ true }
+    ensures numbered { IfOk result (IsNumberedCondition context.now around.now condition.now) }
+    ensures kept { OnOk result (are_kept context.now.files kept.new.entries.items ≡ true) }
 {
     match condition {
         Cond::Truth => Ok(LCond::Truth),
         Cond::Holds(atom) => Ok(LCond::Holds(numbered_atom(alloc, context, around, atom)?)),
         Cond::Equal(term, other) => Ok(LCond::Equal(
-            numbered_term(context.table, around, term),
-            numbered_term(context.table, around, other),
+            numbered_term(context, around, term),
+            numbered_term(context, around, other),
         )),
         Cond::And(parts) => Ok(LCond::And(numbered_conditions(
             alloc, context, kept, parts, around,
@@ -84,14 +69,10 @@ fn numbered_boxed(
     condition: &Cond,
     around: &Around,
 ) -> Result<Box<LCond>, NoMemory>
-    requires sound { are_sound (declarations_of context.now.table.now.files.now) (condition_sites condition.now (lists_of around.now)) ≡ true }
-    requires typed { are_typed_around context.now.table.now.files.now.domain.now.kinds (lists_of around.now) ≡ true }
-    requires few { length (variables_of (lists_of around.now)) + condition_variables condition.now ≤ LONGEST_TEXT }
-    requires kept { are_kept (declarations_of context.now.table.now.files.now) kept.old.entries.items ≡ true }
-    ensures resolved { IfOk result (λ number. is_condition (meanings (declarations_of context.now.table.now.files.now)) condition.now (lists_of around.now) number.value ≡ true) }
-    ensures within { IfOk result (λ number. is_condition_within (length (objects_declared (declarations_of context.now.table.now.files.now))) context.now.predicates.now number.value
-        (ranges_around (meanings (declarations_of context.now.table.now.files.now)).range (lists_of around.now)) ≡ true) }
-    ensures kept { OnOk result (are_kept (declarations_of context.now.table.now.files.now) kept.new.entries.items ≡ true) }
+    requires sound { IsSoundCondition context.now.files around.now condition.now }
+    requires kept { are_kept context.now.files kept.old.entries.items ≡ true }
+    ensures numbered { IfOk result (λ number. IsNumberedCondition context.now around.now condition.now number.value) }
+    ensures kept { OnOk result (are_kept context.now.files kept.new.entries.items ≡ true) }
 {
     let number = numbered_condition(alloc, context, kept, condition, around)?;
     Ok(Box::new(alloc, number)?)
@@ -107,17 +88,12 @@ fn numbered_inside(
     part: &Cond,
     around: &Around,
 ) -> Result<Box<LCond>, NoMemory>
-    requires names { are_typed context.now.table.now.files.now.domain.now.kinds names.now ≡ true }
-    requires sound { are_sound (declarations_of context.now.table.now.files.now) (condition_sites part.now (names.now ∷ lists_of around.now)) ≡ true }
-    requires typed { are_typed_around context.now.table.now.files.now.domain.now.kinds (lists_of around.now) ≡ true }
-    requires few { length (variables_of (lists_of around.now)) + (length names.now + condition_variables part.now) ≤ LONGEST_TEXT }
-    requires kept { are_kept (declarations_of context.now.table.now.files.now) kept.old.entries.items ≡ true }
-    ensures resolved { IfOk result (λ made. is_condition (meanings (declarations_of context.now.table.now.files.now)) part.now (names.now ∷ lists_of around.now) made.value ≡ true) }
-    ensures within { IfOk result (λ made. is_condition_within (length (objects_declared (declarations_of context.now.table.now.files.now))) context.now.predicates.now made.value
-        (ranges_around (meanings (declarations_of context.now.table.now.files.now)).range (names.now ∷ lists_of around.now)) ≡ true) }
-    ensures kept { OnOk result (are_kept (declarations_of context.now.table.now.files.now) kept.new.entries.items ≡ true) }
+    requires sound { IsSoundCondition context.now.files (names.now ∷ around.now) part.now }
+    requires kept { are_kept context.now.files kept.old.entries.items ≡ true }
+    ensures numbered { IfOk result (λ made. IsNumberedCondition context.now (names.now ∷ around.now) part.now made.value) }
+    ensures kept { OnOk result (are_kept context.now.files kept.new.entries.items ≡ true) }
 {
-    let variables = indexed_variables(alloc, names)?;
+    let variables = Variables::of(alloc, names)?;
     let within = inside(&variables, &*around);
     numbered_boxed(alloc, context, kept, part, &within)
 }
@@ -132,20 +108,14 @@ fn numbered_part(
     part: &Cond,
     around: &Around,
 ) -> Result<(Ranges, Box<LCond>), NoMemory>
-    requires names { are_typed context.now.table.now.files.now.domain.now.kinds names.now ≡ true }
-    requires sound { are_sound (declarations_of context.now.table.now.files.now) (condition_sites part.now (names.now ∷ lists_of around.now)) ≡ true }
-    requires typed { are_typed_around context.now.table.now.files.now.domain.now.kinds (lists_of around.now) ≡ true }
-    requires few { length (variables_of (lists_of around.now)) + (length names.now + condition_variables part.now) ≤ LONGEST_TEXT }
-    requires kept { are_kept (declarations_of context.now.table.now.files.now) kept.old.entries.items ≡ true }
-    ensures ranges { IfOk result (λ made. are_ranges (meanings (declarations_of context.now.table.now.files.now)) names.now made.0 ≡ true) }
-    ensures rising { IfOk result (λ made. are_ranges_within (length (objects_declared (declarations_of context.now.table.now.files.now))) made.0 ≡ true) }
-    ensures resolved { IfOk result (λ made. is_condition (meanings (declarations_of context.now.table.now.files.now)) part.now (names.now ∷ lists_of around.now) made.1.value ≡ true) }
-    ensures within { IfOk result (λ made. is_condition_within (length (objects_declared (declarations_of context.now.table.now.files.now))) context.now.predicates.now made.1.value
-        (ranges_around (meanings (declarations_of context.now.table.now.files.now)).range (lists_of around.now) ++ objects_of made.0) ≡ true) }
-    ensures kept { OnOk result (are_kept (declarations_of context.now.table.now.files.now) kept.new.entries.items ≡ true) }
+    requires sound { IsSoundCondition context.now.files (names.now ∷ around.now) part.now }
+    requires kept { are_kept context.now.files kept.old.entries.items ≡ true }
+    ensures ranges { IfOk result (λ made. are_ranges (meanings context.now.files) names.now made.0 ≡ true) }
+    ensures numbered { IfOk result (λ made. IsNumberedCondition context.now (names.now ∷ around.now) part.now made.1.value) }
+    ensures kept { OnOk result (are_kept context.now.files kept.new.entries.items ≡ true) }
 {
     let part = numbered_inside(alloc, context, kept, names, part, around)?;
-    Ok((ranges_of(alloc, context.table, kept, names)?, part))
+    Ok((ranges_in(alloc, context, kept, names)?, part))
 }
 
 /// Sound conditions over numbers, in order.
@@ -157,14 +127,10 @@ fn numbered_conditions(
     conditions: &[Cond],
     around: &Around,
 ) -> Result<Vec<LCond>, NoMemory>
-    requires sound { are_sound (declarations_of context.now.table.now.files.now) (flat_map (λ part. part (lists_of around.now)) (map condition_sites conditions.now)) ≡ true }
-    requires typed { are_typed_around context.now.table.now.files.now.domain.now.kinds (lists_of around.now) ≡ true }
-    requires few { length (variables_of (lists_of around.now)) + sum (map condition_variables conditions.now) ≤ LONGEST_TEXT }
-    requires kept { are_kept (declarations_of context.now.table.now.files.now) kept.old.entries.items ≡ true }
-    ensures resolved { IfOk result (λ all. each_passes (map (λ part. part (lists_of around.now)) (map (is_condition (meanings (declarations_of context.now.table.now.files.now))) conditions.now)) all.items ≡ true) }
-    ensures within { IfOk result (λ all. list_all (λ part. part (ranges_around (meanings (declarations_of context.now.table.now.files.now)).range (lists_of around.now)))
-        (map (is_condition_within (length (objects_declared (declarations_of context.now.table.now.files.now))) context.now.predicates.now) all.items) ≡ true) }
-    ensures kept { OnOk result (are_kept (declarations_of context.now.table.now.files.now) kept.new.entries.items ≡ true) }
+    requires sound { AreSoundConditions context.now.files around.now conditions.now }
+    requires kept { are_kept context.now.files kept.old.entries.items ≡ true }
+    ensures numbered { IfOk result (λ all. AreNumberedConditions context.now around.now conditions.now all.items) }
+    ensures kept { OnOk result (are_kept context.now.files kept.new.entries.items ≡ true) }
 {
     let mut all = Vec::with_capacity(alloc, conditions.len())?;
     put_conditions(alloc, context, kept, conditions, around, &mut all)?;
@@ -182,14 +148,10 @@ fn put_conditions(
     all: &mut Vec<LCond>,
 ) -> Result<(), NoMemory>
     requires empty { all.old.items ≡ [] }
-    requires sound { are_sound (declarations_of context.now.table.now.files.now) (flat_map (λ part. part (lists_of around.now)) (map condition_sites conditions.now)) ≡ true }
-    requires typed { are_typed_around context.now.table.now.files.now.domain.now.kinds (lists_of around.now) ≡ true }
-    requires few { length (variables_of (lists_of around.now)) + sum (map condition_variables conditions.now) ≤ LONGEST_TEXT }
-    requires kept { are_kept (declarations_of context.now.table.now.files.now) kept.old.entries.items ≡ true }
-    ensures resolved { OnOk result (each_passes (map (λ part. part (lists_of around.now)) (map (is_condition (meanings (declarations_of context.now.table.now.files.now))) conditions.now)) all.new.items ≡ true) }
-    ensures within { OnOk result (list_all (λ part. part (ranges_around (meanings (declarations_of context.now.table.now.files.now)).range (lists_of around.now)))
-        (map (is_condition_within (length (objects_declared (declarations_of context.now.table.now.files.now))) context.now.predicates.now) all.new.items) ≡ true) }
-    ensures kept { OnOk result (are_kept (declarations_of context.now.table.now.files.now) kept.new.entries.items ≡ true) }
+    requires sound { AreSoundConditions context.now.files around.now conditions.now }
+    requires kept { are_kept context.now.files kept.old.entries.items ≡ true }
+    ensures numbered { OnOk result (AreNumberedConditions context.now around.now conditions.now all.new.items) }
+    ensures kept { OnOk result (are_kept context.now.files kept.new.entries.items ≡ true) }
 {
     for condition in conditions {
         all.push(numbered_condition(alloc, context, kept, condition, around)?)?;

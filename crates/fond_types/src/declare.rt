@@ -3,8 +3,8 @@
 ghost use Rattle.fond_names.specs.Files.{declarations_of};
 ghost use Rattle.fond_names.specs.Names.{all_objects};
 ghost use Rattle.fond_text.specs.declared.code.TheConstants.{LONGEST_TEXT};
-ghost use Rattle.fond_types.specs.Meanings.{name_also, numbered_from};
-ghost use Rattle.std.specs.Prelude.{◌≡◌, ◌<◌, ◌≤◌, ◌+◌, ◌^◌, [], IfOk, OnOk, fold, length, map};
+ghost use Rattle.fond_types.specs.Meanings.{name_also, names_once, numbered_from};
+ghost use Rattle.std.specs.Prelude.{◌≡◌, ◌<◌, ◌≤◌, ◌+◌, ◌^◌, IfOk, OnOk, length};
 
 use crate::numbers::Numbers;
 use fond_lookup::text_index::TextIndex;
@@ -37,7 +37,7 @@ fn declare(
 
 /// The predicates of the domain.
 pub(crate) fn declared_predicates(alloc: Global, files: &Files) -> Result<Numbers, NoMemory>
-    ensures { IfOk result (λ numbers. numbers.names ≡ fold name_also [] (map (λ declared. declared.name) files.now.domain.now.predicates)) }
+    ensures { IfOk result (λ all. all.names ≡ names_once (λ one. one.name) files.now.domain.now.predicates) }
 {
     let mut names = Names::new(alloc);
     let mut numbers = TextIndex::new(alloc);
@@ -54,7 +54,7 @@ pub(crate) fn declared_predicates(alloc: Global, files: &Files) -> Result<Number
 
 /// The constants and the objects of the problem.
 pub(crate) fn declared_objects(alloc: Global, files: &Files) -> Result<Numbers, NoMemory>
-    ensures { IfOk result (λ numbers. numbers.names ≡ fold name_also [] (map (λ declared. declared.name) (all_objects (declarations_of files.now)))) }
+    ensures { IfOk result (λ all. all.names ≡ names_once (λ one. one.name) (all_objects (declarations_of files.now))) }
 {
     let (constants, objects) = (&files.domain.constants, &files.problem.objects);
     let mut names = Names::new(alloc);

@@ -1,21 +1,19 @@
 //! Initial atoms with each name replaced by its number.
 
 ghost use Rattle.fond_ast.specs.Within.{is_initial_within};
-ghost use Rattle.fond_names.specs.Files.{declarations_of};
-ghost use Rattle.fond_names.specs.Sites.{AnAtom};
-ghost use Rattle.fond_text.specs.Lists.{each_passes};
-ghost use Rattle.fond_types.specs.Ground.{objects_in};
+ghost use Rattle.fond_names.specs.Sites.{AnAtom, initial_sites};
+ghost use Rattle.fond_types.specs.Ground.{are_initial, objects_in};
 ghost use Rattle.fond_types.specs.Meanings.{meanings};
-ghost use Rattle.fond_types.specs.Resolves.{is_ground_atom, positive};
+ghost use Rattle.fond_types.specs.Resolves.{is_ground_atom};
 ghost use Rattle.fond_types.specs.Sound.{are_sound, is_sound};
 ghost use Rattle.std.specs.List.{list_all};
-ghost use Rattle.std.specs.Prelude.{◌≡◌, [], IfOk, map, true};
+ghost use Rattle.std.specs.Prelude.{◌≡◌, [], IfOk, true};
 
 use crate::context::Context;
 use crate::numbered_atom::numbered_atom;
 use fond_ast::form::{LTerm, LTerms};
 use fond_ast::names::ReadAtom;
-use fond_names::scope::Around;
+use fond_names::scope::outside;
 use fond_text::atom::{Atom, Atoms, Objects};
 use fond_text::fault::NoMemory;
 use std::alloc::Global;
@@ -36,11 +34,11 @@ fn objects_in(alloc: Global, terms: &LTerms) -> Result<Objects, NoMemory>
 
 /// A sound atom without variables over numbers.
 fn ground_atom(alloc: Global, context: &Context, atom: &ReadAtom) -> Result<Atom, NoMemory>
-    requires { is_sound (declarations_of context.now.table.now.files.now) (AnAtom [] atom.now) ≡ true }
-    ensures resolved { IfOk result (λ number. is_ground_atom (meanings (declarations_of context.now.table.now.files.now)) atom.now number ≡ true) }
-    ensures within { IfOk result (λ number. is_initial_within context.now.predicates.now number ≡ true) }
+    requires { is_sound context.now.files (AnAtom [] atom.now) ≡ true }
+    ensures resolved { IfOk result (λ number. is_ground_atom (meanings context.now.files) atom.now number ≡ true) }
+    ensures within { IfOk result (λ number. is_initial_within context.now.predicates number ≡ true) }
 {
-    let outside = Around::Nothing;
+    let outside = outside();
     let number = numbered_atom(alloc, context, &outside, atom)?;
     Ok(Atom {
         predicate: number.predicate,
@@ -50,11 +48,11 @@ fn ground_atom(alloc: Global, context: &Context, atom: &ReadAtom) -> Result<Atom
 
 /// The initial atoms that are not negated, over numbers, in order.
 pub(crate) fn numbered_init(alloc: Global, context: &Context) -> Result<Atoms, NoMemory>
-    requires { are_sound (declarations_of context.now.table.now.files.now) (map (λ initial. AnAtom [] initial.atom) context.now.table.now.files.now.problem.now.init) ≡ true }
-    ensures resolved { IfOk result (λ all. each_passes (map (is_ground_atom (meanings (declarations_of context.now.table.now.files.now))) (positive context.now.table.now.files.now.problem.now.init)) all ≡ true) }
-    ensures within { IfOk result (λ all. list_all (is_initial_within context.now.predicates.now) all ≡ true) }
+    requires { are_sound context.now.files (initial_sites context.now.files.problem) ≡ true }
+    ensures resolved { IfOk result (λ all. are_initial context.now.files all ≡ true) }
+    ensures within { IfOk result (λ all. list_all (is_initial_within context.now.predicates) all ≡ true) }
 {
-    let init = &context.table.files.problem.init;
+    let init = &context.problem().init;
     let mut all = Atoms::new(alloc);
     for i in 0..init.len() {
         let initial = init.get(i);

@@ -1,9 +1,9 @@
 //! The predicates of which an effect of some schema has a literal.
 
-ghost use Rattle.fond_lookup.specs.Texts.{number_beside};
+ghost use Rattle.fond_names.specs.Indexes.{GainsNames, HasNames};
 ghost use Rattle.fond_types.specs.Resolves.{mentions};
 ghost use Rattle.fond_types.specs.Sound.{is_mentioned};
-ghost use Rattle.std.specs.Prelude.{◌≡◌, ◌||◌, ℕ, List, IfOk, OnOk, is_some};
+ghost use Rattle.std.specs.Prelude.{IfOk, OnOk};
 ghost use Rattle.std.specs.Str.{bytes_eq};
 
 use fond_ast::files::Domain;
@@ -16,14 +16,14 @@ use std::alloc::Global;
 
 /// Adds the name of an atom.
 fn add_atom(alloc: Global, index: &mut TextIndex, atom: &ReadAtom) -> Result<(), NoMemory>
-    ensures { OnOk result ((name : List ℕ) → is_some (number_beside index.new name) ≡ (is_some (number_beside index.old name) || bytes_eq atom.now.name name)) }
+    ensures { OnOk result (GainsNames (bytes_eq atom.now.name) index.old index.new) }
 {
     insert_name(alloc, index, &atom.name, 0)
 }
 
 /// Adds the names of the predicates of all literals of an effect.
 fn add_effect(alloc: Global, index: &mut TextIndex, effect: &Effect) -> Result<(), NoMemory>
-    ensures { OnOk result ((name : List ℕ) → is_some (number_beside index.new name) ≡ (is_some (number_beside index.old name) || mentions name effect.now)) }
+    ensures { OnOk result (GainsNames (λ name. mentions name effect.now) index.old index.new) }
 {
     match effect {
         Effect::Nothing => Ok(()),
@@ -40,7 +40,7 @@ fn add_effect(alloc: Global, index: &mut TextIndex, effect: &Effect) -> Result<(
 
 /// The names of the predicates of all literals of effects, all with the number 0.
 pub(crate) fn mentioned(alloc: Global, domain: &Domain) -> Result<TextIndex, NoMemory>
-    ensures { IfOk result (λ index. (name : List ℕ) → is_some (number_beside index name) ≡ is_mentioned domain.now name) }
+    ensures { IfOk result (HasNames (is_mentioned domain.now)) }
 {
     let mut index = TextIndex::new(alloc);
     for i in 0..domain.schemas.len() {

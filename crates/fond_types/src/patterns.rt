@@ -1,15 +1,12 @@
 //! The patterns of the side list with each name replaced by its number, filed by schema in one pass. A variable has the
 //! position where it occurs first in its pattern, which an index finds.
 
-ghost use Rattle.fond_lookup.specs.Texts.{with_text};
-ghost use Rattle.fond_names.specs.Files.{declarations_of};
-ghost use Rattle.fond_text.specs.Lists.{each_passes};
 ghost use Rattle.fond_types.specs.Meanings.{meanings};
-ghost use Rattle.fond_types.specs.Patterns.{are_filed, HasPlaces, is_sound_pattern, is_sound_term};
+ghost use Rattle.fond_names.specs.Unknown.{is_sound_term};
+ghost use Rattle.fond_types.specs.Patterns.{are_filed, are_pattern_terms, HasPlaces, is_of_schema, is_sound_pattern, with_variable};
 ghost use Rattle.fond_types.specs.Resolves.{is_pattern, is_pattern_term};
 ghost use Rattle.std.specs.List.{list_all};
-ghost use Rattle.std.specs.Prelude.{◌≡◌, ◌<◌, ◌+◌, ◌^◌, ◌∷◌, [], IfOk, IfSome, OnOk, drop, length, map, slice_get, take, true, if◌then◌else◌, vec_len};
-ghost use Rattle.std.specs.Str.{bytes_eq};
+ghost use Rattle.std.specs.Prelude.{◌≡◌, ◌<◌, ◌+◌, ◌^◌, ◌∷◌, [], IfOk, IfSome, OnOk, drop, length, slice_get, take, true, vec_len};
 
 use crate::table::Table;
 use fond_ast::files::Pattern;
@@ -28,7 +25,7 @@ fn add_variable(
     term: &Term,
     number: u32,
 ) -> Result<(), NoMemory>
-    ensures { OnOk result (places.new ≡ (if term.now.variable then with_text places.old term.now.name number else places.old)) }
+    ensures { OnOk result (places.new ≡ with_variable places.old term.now number) }
 {
     if !term.variable {
         return Ok(());
@@ -52,8 +49,8 @@ fn places_of(alloc: Global, terms: &Terms) -> Result<TextIndex, NoMemory>
 fn numbered_at(table: &Table, places: &TextIndex, terms: &Terms, i: usize) -> LTerm
     requires within { i < length terms.now }
     requires places { HasPlaces terms.now places.now }
-    requires sound { list_all (is_sound_term (declarations_of table.now.files.now)) terms.now ≡ true }
-    ensures { IfSome (slice_get terms.now i) (λ term. is_pattern_term (meanings (declarations_of table.now.files.now)) terms.now term result ≡ true) }
+    requires sound { list_all (is_sound_term table.now) terms.now ≡ true }
+    ensures { IfSome (slice_get terms.now i) (λ one. is_pattern_term (meanings table.now) terms.now one result ≡ true) }
 {
     let term = terms.get(i);
     if term.variable {
@@ -62,7 +59,7 @@ fn numbered_at(table: &Table, places: &TextIndex, terms: &Terms, i: usize) -> LT
             None => unreachable!(),
         }
     } else {
-        match table.objects.numbers.find(term.name.bytes()) {
+        match table.object_number(&term.name) {
             Some(number) => LTerm::Object(number),
             None => unreachable!(),
         }
@@ -77,8 +74,8 @@ fn placed_terms(
     terms: &Terms,
 ) -> Result<LPattern, NoMemory>
     requires places { HasPlaces terms.now places.now }
-    requires sound { list_all (is_sound_term (declarations_of table.now.files.now)) terms.now ≡ true }
-    ensures { IfOk result (λ numbers. each_passes (map (is_pattern_term (meanings (declarations_of table.now.files.now)) terms.now) terms.now) numbers ≡ true) }
+    requires sound { list_all (is_sound_term table.now) terms.now ≡ true }
+    ensures { IfOk result (λ numbers. are_pattern_terms table.now terms.now numbers ≡ true) }
 {
     let mut numbers = LPattern::new(alloc);
     for i in 0..terms.len() {
@@ -89,8 +86,8 @@ fn placed_terms(
 
 /// A sound pattern over numbers. Takes time linear in its terms.
 fn numbered_pattern(alloc: Global, table: &Table, pattern: &Pattern) -> Result<LPattern, NoMemory>
-    requires { is_sound_pattern (declarations_of table.now.files.now) pattern.now ≡ true }
-    ensures { IfOk result (λ numbers. is_pattern (meanings (declarations_of table.now.files.now)) pattern.now numbers ≡ true) }
+    requires { is_sound_pattern table.now pattern.now ≡ true }
+    ensures { IfOk result (λ numbers. is_pattern (meanings table.now) pattern.now numbers ≡ true) }
 {
     let places = places_of(alloc, &pattern.terms)?;
     placed_terms(alloc, table, &places, &pattern.terms)
@@ -98,11 +95,11 @@ fn numbered_pattern(alloc: Global, table: &Table, pattern: &Pattern) -> Result<L
 
 /// The position of the schema that a sound pattern names.
 fn schema_position(table: &Table, pattern: &Pattern) -> usize
-    requires { is_sound_pattern (declarations_of table.now.files.now) pattern.now ≡ true }
-    ensures within { result < length table.now.files.now.domain.now.schemas }
-    ensures named { IfSome (slice_get table.now.files.now.domain.now.schemas result) (λ schema. bytes_eq schema.name pattern.now.schema.name ≡ true) }
+    requires { is_sound_pattern table.now pattern.now ≡ true }
+    ensures within { result < length table.now.domain.schemas }
+    ensures named { IfSome (slice_get table.now.domain.schemas result) (λ schema. is_of_schema pattern.now schema ≡ true) }
 {
-    match table.files.schemas.find(pattern.schema.name.bytes()) {
+    match table.schema_position(&pattern.schema.name) {
         Some(at) => at as usize,
         None => unreachable!(),
     }
@@ -115,11 +112,12 @@ fn file_pattern(
     filed: &mut Vec<LPatterns>,
     i: usize,
 ) -> Result<(), NoMemory>
-    requires within { i < length table.now.files.now.side.now.patterns }
-    requires filed { are_filed (declarations_of table.now.files.now) (take i table.now.files.now.side.now.patterns) filed.old.items ≡ true }
-    ensures { OnOk result (are_filed (declarations_of table.now.files.now) (take (i + 1) table.now.files.now.side.now.patterns) filed.new.items ≡ true) }
+    requires within { i < length table.now.side.patterns }
+    requires filed { are_filed table.now (take i table.now.side.patterns) filed.old.items ≡ true }
+    ensures { OnOk result (are_filed table.now (take (i + 1) table.now.side.patterns) filed.new.items ≡ true) }
 {
-    let pattern = table.files.side.patterns.get(i);
+    table.is_well_named();
+    let pattern = table.side().patterns.get(i);
     let numbers = numbered_pattern(alloc, table, pattern)?;
     let at = schema_position(table, pattern);
     filed[at].push(numbers)
@@ -127,10 +125,10 @@ fn file_pattern(
 
 /// Files the patterns of the side list in empty lists, one for each schema.
 fn file_patterns(alloc: Global, table: &Table, filed: &mut Vec<LPatterns>) -> Result<(), NoMemory>
-    requires { are_filed (declarations_of table.now.files.now) [] filed.old.items ≡ true }
-    ensures { OnOk result (are_filed (declarations_of table.now.files.now) table.now.files.now.side.now.patterns filed.new.items ≡ true) }
+    requires { are_filed table.now [] filed.old.items ≡ true }
+    ensures { OnOk result (are_filed table.now table.now.side.patterns filed.new.items ≡ true) }
 {
-    for i in 0..table.files.side.patterns.len() {
+    for i in 0..table.side().patterns.len() {
         file_pattern(alloc, table, filed, i)?;
     }
     Ok(())
@@ -138,10 +136,10 @@ fn file_patterns(alloc: Global, table: &Table, filed: &mut Vec<LPatterns>) -> Re
 
 /// An empty list of patterns for each schema.
 fn empty_lists(alloc: Global, table: &Table) -> Result<Vec<LPatterns>, NoMemory>
-    ensures { IfOk result (λ filed. are_filed (declarations_of table.now.files.now) [] filed.items ≡ true) }
+    ensures { IfOk result (λ filed. are_filed table.now [] filed.items ≡ true) }
 {
     let mut filed = Vec::new(alloc);
-    for _i in 0..table.files.domain.schemas.len() {
+    for _i in 0..table.domain().schemas.len() {
         filed.push(LPatterns::new(alloc))?;
     }
     Ok(filed)
@@ -150,7 +148,7 @@ fn empty_lists(alloc: Global, table: &Table) -> Result<Vec<LPatterns>, NoMemory>
 /// The patterns of the side list over numbers: for each schema those that name it, in order. Takes time linear in the
 /// schemas and the terms of the patterns.
 pub(crate) fn filed_patterns(alloc: Global, table: &Table) -> Result<Vec<LPatterns>, NoMemory>
-    ensures { IfOk result (λ filed. are_filed (declarations_of table.now.files.now) table.now.files.now.side.now.patterns filed.items ≡ true) }
+    ensures { IfOk result (λ filed. are_filed table.now table.now.side.patterns filed.items ≡ true) }
 {
     let mut filed = empty_lists(alloc, table)?;
     file_patterns(alloc, table, &mut filed)?;

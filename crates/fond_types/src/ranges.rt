@@ -2,22 +2,20 @@
 
 ghost use Rattle.fond_ast.specs.declared.names.TypedName.{TypedName};
 ghost use Rattle.fond_kinds.specs.Kinds.{are_types};
-ghost use Rattle.fond_names.specs.Files.{declarations_of};
-ghost use Rattle.fond_names.specs.Names.{Declarations, objects_declared};
+ghost use Rattle.fond_names.specs.Names.{objects_declared};
 ghost use Rattle.fond_names.specs.Same.{kind_names};
-ghost use Rattle.fond_types.specs.Kept.{is_of, range_by, are_kept};
+ghost use Rattle.fond_types.specs.Kept.{is_of, range_by, are_kept, IsKeptFor, Keeps};
 ghost use Rattle.fond_types.specs.Meanings.{meanings, are_typed};
 ghost use Rattle.fond_types.specs.Resolves.{are_ranges};
 ghost use Rattle.std.specs.Option.{option_copied};
-ghost use Rattle.std.specs.Prelude.{◌≡◌, ◌<◌, ◌++◌, ◌∷◌, [], ℕ, List, IfOk, IfSome, OnOk, Contains, true, slice_get, Some, length};
-ghost use Rattle.std.specs.Str.{bytes_eq};
+ghost use Rattle.std.specs.Prelude.{◌≡◌, ◌<◌, [], IfOk, IfSome, OnOk, Some, length, slice_get, true};
 
+use crate::context::Context;
 use crate::kept::{Kept, KeptRanges};
 use crate::table::Table;
 use fond_ast::form::{Range, Ranges};
 use fond_ast::names::{Kind, Kinds, TypedNames};
 use fond_lookup::text_index::TextIndex;
-use fond_names::lookup::find_object;
 use fond_names::types::is_below_some;
 use fond_text::atom::Objects;
 use fond_text::fault::NoMemory;
@@ -27,24 +25,26 @@ use std::rc::Rc;
 
 /// Whether the object of a number is of one of some types.
 fn is_in_range(table: &Table, i: usize, kinds: &Kinds) -> bool
-    requires typed { are_types table.now.files.now.domain.now.kinds kinds.now ≡ true }
-    requires there { i < length table.now.objects.names }
-    ensures { (object : TypedName) → slice_get (objects_declared (declarations_of table.now.files.now)) i ≡ Some object
-        → result ≡ is_of table.now.files.now.domain.now.kinds (kind_names kinds.now) object }
+    requires typed { are_types table.now.domain.kinds kinds.now ≡ true }
+    requires there { i < length (meanings table.now).objects }
+    ensures { (object : TypedName) → slice_get (objects_declared table.now) i ≡ Some object
+        → result ≡ is_of table.now.domain.kinds (kind_names kinds.now) object }
 {
-    match find_object(table.files, table.objects.names.get(i)) {
-        Some(object) => is_below_some(&table.files.types, &object.kinds.get(0).name, kinds),
+    table.is_well_named();
+    let names = table.objects();
+    match table.find_object(names.get(i)) {
+        Some(object) => is_below_some(table.types(), &object.kinds.get(0).name, kinds),
         None => false,
     }
 }
 
 /// The objects whose type is below one of some types, in order.
 fn made_range(alloc: Global, table: &Table, kinds: &Kinds) -> Result<Objects, NoMemory>
-    requires { are_types table.now.files.now.domain.now.kinds kinds.now ≡ true }
-    ensures { IfOk result (λ range. range ≡ range_by (declarations_of table.now.files.now) (kind_names kinds.now)) }
+    requires { are_types table.now.domain.kinds kinds.now ≡ true }
+    ensures { IfOk result (λ range. range ≡ range_by table.now (kind_names kinds.now)) }
 {
     let mut range = Objects::new(alloc);
-    for i in 0..table.objects.names.len() {
+    for i in 0..table.objects().len() {
         if is_in_range(table, i, kinds) {
             range.push(i as u32)?;
         }
@@ -96,7 +96,7 @@ fn key_of(alloc: Global, kinds: &Kinds) -> Result<Vec<u8>, NoMemory> {
 
 /// A range of these types that is kept.
 fn find_kept<'k>(kept: &'k KeptRanges, key: &[u8], kinds: &Kinds) -> Option<&'k Kept>
-    ensures { IfSome (option_copied result) (λ entry. (entry.kinds ≡ kind_names kinds.now) × Contains kept.now.entries.items entry) }
+    ensures { IfSome (option_copied result) (IsKeptFor kept.now.entries.items (kind_names kinds.now)) }
 {
     let at = kept.index.find(key)? as usize;
     let entry = kept.entries.get(at)?;
@@ -109,8 +109,7 @@ fn find_kept<'k>(kept: &'k KeptRanges, key: &[u8], kinds: &Kinds) -> Option<&'k 
 
 /// Keeps a range, unless 2^32 are kept.
 fn keep(kept: &mut KeptRanges, key: Vec<u8>, entry: Kept) -> Result<(), NoMemory>
-    ensures { (files : Declarations) → are_kept files kept.old.entries.items ≡ true → bytes_eq (range_by files entry.kinds) entry.range.value ≡ true
-        → OnOk result (are_kept files kept.new.entries.items ≡ true) }
+    ensures { OnOk result (Keeps kept.old.entries.items kept.new.entries.items entry.kinds entry.range.value) }
 {
     if let Ok(at) = u32::try_from(kept.entries.len()) {
         kept.index.insert(key, at)?;
@@ -139,8 +138,7 @@ fn keep_range(
     kinds: &Kinds,
     range: &Range,
 ) -> Result<(), NoMemory>
-    ensures { (files : Declarations) → are_kept files kept.old.entries.items ≡ true → bytes_eq (range_by files (kind_names kinds.now)) range.now.value ≡ true
-        → OnOk result (are_kept files kept.new.entries.items ≡ true) }
+    ensures { OnOk result (Keeps kept.old.entries.items kept.new.entries.items (kind_names kinds.now) range.now.value) }
 {
     let entry = entry_of(alloc, kinds, range)?;
     keep(kept, key, entry)
@@ -148,8 +146,8 @@ fn keep_range(
 
 /// The range of some types, to be shared.
 fn shared_range(alloc: Global, table: &Table, kinds: &Kinds) -> Result<Range, NoMemory>
-    requires { are_types table.now.files.now.domain.now.kinds kinds.now ≡ true }
-    ensures { IfOk result (λ range. range.value ≡ range_by (declarations_of table.now.files.now) (kind_names kinds.now)) }
+    requires { are_types table.now.domain.kinds kinds.now ≡ true }
+    ensures { IfOk result (λ range. range.value ≡ range_by table.now (kind_names kinds.now)) }
 {
     let range = made_range(alloc, table, kinds)?;
     Ok(Rc::new(alloc, range)?)
@@ -163,10 +161,10 @@ fn new_range(
     key: Vec<u8>,
     kinds: &Kinds,
 ) -> Result<Range, NoMemory>
-    requires typed { are_types table.now.files.now.domain.now.kinds kinds.now ≡ true }
-    requires sound { are_kept (declarations_of table.now.files.now) kept.old.entries.items ≡ true }
-    ensures range { IfOk result (λ range. range.value ≡ range_by (declarations_of table.now.files.now) (kind_names kinds.now)) }
-    ensures sound { OnOk result (are_kept (declarations_of table.now.files.now) kept.new.entries.items ≡ true) }
+    requires typed { are_types table.now.domain.kinds kinds.now ≡ true }
+    requires sound { are_kept table.now kept.old.entries.items ≡ true }
+    ensures range { IfOk result (λ range. range.value ≡ range_by table.now (kind_names kinds.now)) }
+    ensures sound { OnOk result (are_kept table.now kept.new.entries.items ≡ true) }
 {
     let range = shared_range(alloc, table, kinds)?;
     keep_range(alloc, kept, key, kinds, &range)?;
@@ -180,10 +178,10 @@ fn range_of(
     kept: &mut KeptRanges,
     kinds: &Kinds,
 ) -> Result<Range, NoMemory>
-    requires typed { are_types table.now.files.now.domain.now.kinds kinds.now ≡ true }
-    requires sound { are_kept (declarations_of table.now.files.now) kept.old.entries.items ≡ true }
-    ensures range { IfOk result (λ range. range.value ≡ (meanings (declarations_of table.now.files.now)).range kinds.now) }
-    ensures sound { OnOk result (are_kept (declarations_of table.now.files.now) kept.new.entries.items ≡ true) }
+    requires typed { are_types table.now.domain.kinds kinds.now ≡ true }
+    requires sound { are_kept table.now kept.old.entries.items ≡ true }
+    ensures range { IfOk result (λ range. range.value ≡ (meanings table.now).range kinds.now) }
+    ensures sound { OnOk result (are_kept table.now kept.new.entries.items ≡ true) }
 {
     let key = key_of(alloc, kinds)?;
     if let Some(entry) = find_kept(kept, &key, kinds) {
@@ -201,10 +199,10 @@ fn put_ranges(
     ranges: &mut Ranges,
 ) -> Result<(), NoMemory>
     requires empty { ranges.old ≡ [] }
-    requires typed { are_typed table.now.files.now.domain.now.kinds names.now ≡ true }
-    requires sound { are_kept (declarations_of table.now.files.now) kept.old.entries.items ≡ true }
-    ensures ranges { OnOk result (are_ranges (meanings (declarations_of table.now.files.now)) names.now ranges.new ≡ true) }
-    ensures sound { OnOk result (are_kept (declarations_of table.now.files.now) kept.new.entries.items ≡ true) }
+    requires typed { are_typed table.now.domain.kinds names.now ≡ true }
+    requires sound { are_kept table.now kept.old.entries.items ≡ true }
+    ensures ranges { OnOk result (are_ranges (meanings table.now) names.now ranges.new ≡ true) }
+    ensures sound { OnOk result (are_kept table.now kept.new.entries.items ≡ true) }
 {
     for i in 0..names.len() {
         ranges.push(range_of(alloc, table, kept, &names.get(i).kinds)?)?;
@@ -219,12 +217,27 @@ pub(crate) fn ranges_of(
     kept: &mut KeptRanges,
     names: &TypedNames,
 ) -> Result<Ranges, NoMemory>
-    requires typed { are_typed table.now.files.now.domain.now.kinds names.now ≡ true }
-    requires sound { are_kept (declarations_of table.now.files.now) kept.old.entries.items ≡ true }
-    ensures ranges { IfOk result (λ ranges. are_ranges (meanings (declarations_of table.now.files.now)) names.now ranges ≡ true) }
-    ensures sound { OnOk result (are_kept (declarations_of table.now.files.now) kept.new.entries.items ≡ true) }
+    requires typed { are_typed table.now.domain.kinds names.now ≡ true }
+    requires sound { are_kept table.now kept.old.entries.items ≡ true }
+    ensures ranges { IfOk result (λ ranges. are_ranges (meanings table.now) names.now ranges ≡ true) }
+    ensures sound { OnOk result (are_kept table.now kept.new.entries.items ≡ true) }
 {
     let mut ranges = Ranges::new(alloc);
     put_ranges(alloc, table, kept, names, &mut ranges)?;
     Ok(ranges)
+}
+
+/// The ranges of some names in a context, in order.
+pub(crate) fn ranges_in(
+    alloc: Global,
+    context: &Context,
+    kept: &mut KeptRanges,
+    names: &TypedNames,
+) -> Result<Ranges, NoMemory>
+    requires typed { are_typed context.now.files.domain.kinds names.now ≡ true }
+    requires sound { are_kept context.now.files kept.old.entries.items ≡ true }
+    ensures ranges { IfOk result (λ ranges. are_ranges (meanings context.now.files) names.now ranges ≡ true) }
+    ensures sound { OnOk result (are_kept context.now.files kept.new.entries.items ≡ true) }
+{
+    ranges_of(alloc, context.table(), kept, names)
 }

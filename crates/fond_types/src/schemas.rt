@@ -1,33 +1,26 @@
 //! Schemas with each name replaced by its number.
 
-ghost use Rattle.fond_ast.specs.Read.{is_schema_with_choices, has_few_variables};
-ghost use Rattle.fond_ast.specs.Within.{is_condition_within, is_effect_fluent, is_effect_within, is_schema_fluent, is_schema_within};
-ghost use Rattle.fond_lookup.specs.Texts.{number_beside};
-ghost use Rattle.fond_names.specs.Files.{declarations_of};
-ghost use Rattle.fond_names.specs.Names.{is_among, objects_declared};
+ghost use Rattle.fond_names.specs.Indexes.{HasNames};
+ghost use Rattle.fond_names.specs.Names.{is_among};
 ghost use Rattle.fond_names.specs.Same.{kind_names};
-ghost use Rattle.fond_names.specs.Sites.{domain_sites, schema_sites};
-ghost use Rattle.fond_text.specs.Lists.{each_passes};
+ghost use Rattle.fond_names.specs.Sites.{domain_sites};
+ghost use Rattle.fond_types.specs.Bodies.{AreNumberedSchemas, IsNumberedBody, IsNumberedSchema, IsSoundSchema};
 ghost use Rattle.fond_types.specs.Kept.{are_kept};
-ghost use Rattle.fond_types.specs.Meanings.{meanings, ranges_around};
-ghost use Rattle.fond_types.specs.Patterns.{are_filed};
-ghost use Rattle.fond_types.specs.Resolves.{is_condition, is_effect, is_pattern, IsResolvedSchema, patterns_of};
-ghost use Rattle.fond_types.specs.Sound.{are_sound, is_mentioned, literals_pass};
-ghost use Rattle.std.specs.List.{AllZip, list_all};
-ghost use Rattle.std.specs.Prelude.{◌≡◌, ◌∷◌, [], ℕ, List, IfOk, OnOk, is_some, length, map, true};
+ghost use Rattle.fond_types.specs.Patterns.{are_filed, are_patterns_of};
+ghost use Rattle.fond_types.specs.Sound.{are_sound};
+ghost use Rattle.std.specs.Prelude.{◌≡◌, ◌∷◌, ◌+◌, IfOk, OnOk, true};
 
 use crate::conditions::numbered_condition;
 use crate::context::Context;
 use crate::effects::numbered_effect;
 use crate::kept::KeptRanges;
 use crate::patterns::taken;
-use crate::ranges::ranges_of;
+use crate::ranges::ranges_in;
 use fond_ast::files::Schema;
 use fond_ast::form::{LCond, LEffect, LPatterns};
 use fond_ast::task::{LSchema, LSchemas};
 use fond_lookup::text_index::TextIndex;
-use fond_names::scope::{Around, Variables};
-use fond_names::variable::{indexed_variables, inside};
+use fond_names::scope::{Variables, inside, outside};
 use fond_text::fault::NoMemory;
 use std::alloc::Global;
 
@@ -39,22 +32,13 @@ fn body_inside(
     schema: &Schema,
     parameters: &Variables,
 ) -> Result<(LCond, LEffect), NoMemory>
-    requires named { parameters.now.names.now ≡ schema.now.parameters }
-    requires sound { are_sound (declarations_of context.now.table.now.files.now) (schema_sites schema.now) ≡ true }
-    requires choices { is_schema_with_choices schema.now ≡ true }
-    requires literals { literals_pass (is_mentioned context.now.table.now.files.now.domain.now) schema.now.effect ≡ true }
-    requires few { has_few_variables schema.now ≡ true }
-    requires kept { are_kept (declarations_of context.now.table.now.files.now) kept.old.entries.items ≡ true }
-    ensures pre { IfOk result (λ body. is_condition (meanings (declarations_of context.now.table.now.files.now)) schema.now.pre (schema.now.parameters ∷ []) body.0 ≡ true) }
-    ensures effect { IfOk result (λ body. is_effect (meanings (declarations_of context.now.table.now.files.now)) schema.now.effect (schema.now.parameters ∷ []) body.1 ≡ true) }
-    ensures pre_within { IfOk result (λ body. is_condition_within (length (objects_declared (declarations_of context.now.table.now.files.now))) context.now.predicates.now body.0
-        (ranges_around (meanings (declarations_of context.now.table.now.files.now)).range (schema.now.parameters ∷ [])) ≡ true) }
-    ensures effect_within { IfOk result (λ body. is_effect_within (length (objects_declared (declarations_of context.now.table.now.files.now))) context.now.predicates.now body.1
-        (ranges_around (meanings (declarations_of context.now.table.now.files.now)).range (schema.now.parameters ∷ [])) ≡ true) }
-    ensures fluent { IfOk result (λ body. is_effect_fluent context.now.predicates.now body.1 ≡ true) }
-    ensures kept { OnOk result (are_kept (declarations_of context.now.table.now.files.now) kept.new.entries.items ≡ true) }
+    requires named { parameters.now ≡ schema.now.parameters }
+    requires sound { IsSoundSchema context.now.files schema.now }
+    requires kept { are_kept context.now.files kept.old.entries.items ≡ true }
+    ensures numbered { IfOk result (λ body. IsNumberedBody context.now schema.now body.0 body.1) }
+    ensures kept { OnOk result (are_kept context.now.files kept.new.entries.items ≡ true) }
 {
-    let outside = Around::Nothing;
+    let outside = outside();
     let within = inside(&*parameters, &outside);
     let pre = numbered_condition(alloc, context, kept, &schema.pre, &within)?;
     let effect = numbered_effect(alloc, context, kept, &schema.effect, &within)?;
@@ -68,21 +52,12 @@ fn numbered_body(
     kept: &mut KeptRanges,
     schema: &Schema,
 ) -> Result<(LCond, LEffect), NoMemory>
-    requires sound { are_sound (declarations_of context.now.table.now.files.now) (schema_sites schema.now) ≡ true }
-    requires choices { is_schema_with_choices schema.now ≡ true }
-    requires literals { literals_pass (is_mentioned context.now.table.now.files.now.domain.now) schema.now.effect ≡ true }
-    requires few { has_few_variables schema.now ≡ true }
-    requires kept { are_kept (declarations_of context.now.table.now.files.now) kept.old.entries.items ≡ true }
-    ensures pre { IfOk result (λ body. is_condition (meanings (declarations_of context.now.table.now.files.now)) schema.now.pre (schema.now.parameters ∷ []) body.0 ≡ true) }
-    ensures effect { IfOk result (λ body. is_effect (meanings (declarations_of context.now.table.now.files.now)) schema.now.effect (schema.now.parameters ∷ []) body.1 ≡ true) }
-    ensures pre_within { IfOk result (λ body. is_condition_within (length (objects_declared (declarations_of context.now.table.now.files.now))) context.now.predicates.now body.0
-        (ranges_around (meanings (declarations_of context.now.table.now.files.now)).range (schema.now.parameters ∷ [])) ≡ true) }
-    ensures effect_within { IfOk result (λ body. is_effect_within (length (objects_declared (declarations_of context.now.table.now.files.now))) context.now.predicates.now body.1
-        (ranges_around (meanings (declarations_of context.now.table.now.files.now)).range (schema.now.parameters ∷ [])) ≡ true) }
-    ensures fluent { IfOk result (λ body. is_effect_fluent context.now.predicates.now body.1 ≡ true) }
-    ensures kept { OnOk result (are_kept (declarations_of context.now.table.now.files.now) kept.new.entries.items ≡ true) }
+    requires sound { IsSoundSchema context.now.files schema.now }
+    requires kept { are_kept context.now.files kept.old.entries.items ≡ true }
+    ensures numbered { IfOk result (λ body. IsNumberedBody context.now schema.now body.0 body.1) }
+    ensures kept { OnOk result (are_kept context.now.files kept.new.entries.items ≡ true) }
 {
-    let parameters = indexed_variables(alloc, &schema.parameters)?;
+    let parameters = Variables::of(alloc, &schema.parameters)?;
     body_inside(alloc, context, kept, schema, &parameters)
 }
 
@@ -95,21 +70,16 @@ fn numbered_schema(
     schema: &Schema,
     patterns: LPatterns,
 ) -> Result<LSchema, NoMemory>
-    requires patterns { each_passes (map (is_pattern (meanings (declarations_of context.now.table.now.files.now))) (patterns_of context.now.table.now.files.now.side.now schema.now.name)) patterns ≡ true }
-    requires leaves { (name : List ℕ) → is_some (number_beside leaves.now name) ≡ is_among (kind_names context.now.table.now.files.now.side.now.names) name }
-    requires sound { are_sound (declarations_of context.now.table.now.files.now) (schema_sites schema.now) ≡ true }
-    requires choices { is_schema_with_choices schema.now ≡ true }
-    requires literals { literals_pass (is_mentioned context.now.table.now.files.now.domain.now) schema.now.effect ≡ true }
-    requires few { has_few_variables schema.now ≡ true }
-    requires kept { are_kept (declarations_of context.now.table.now.files.now) kept.old.entries.items ≡ true }
-    ensures resolved { IfOk result (IsResolvedSchema (meanings (declarations_of context.now.table.now.files.now)) context.now.table.now.files.now.side.now schema.now) }
-    ensures within { IfOk result (λ number. is_schema_within (length (objects_declared (declarations_of context.now.table.now.files.now))) context.now.predicates.now number ≡ true) }
-    ensures fluent { IfOk result (λ number. is_schema_fluent context.now.predicates.now number ≡ true) }
-    ensures kept { OnOk result (are_kept (declarations_of context.now.table.now.files.now) kept.new.entries.items ≡ true) }
+    requires patterns { are_patterns_of context.now.files schema.now patterns ≡ true }
+    requires leaves { HasNames (is_among (kind_names context.now.files.side.names)) leaves.now }
+    requires sound { IsSoundSchema context.now.files schema.now }
+    requires kept { are_kept context.now.files kept.old.entries.items ≡ true }
+    ensures numbered { IfOk result (IsNumberedSchema context.now schema.now) }
+    ensures kept { OnOk result (are_kept context.now.files kept.new.entries.items ≡ true) }
 {
     let name = schema.name.copy(alloc)?;
     let unfair = leaves.find(schema.name.bytes()).is_some();
-    let ranges = ranges_of(alloc, context.table, kept, &schema.parameters)?;
+    let ranges = ranges_in(alloc, context, kept, &schema.parameters)?;
     let (pre, effect) = numbered_body(alloc, context, kept, schema)?;
     Ok(LSchema {
         place: schema.place,
@@ -130,16 +100,14 @@ pub(crate) fn numbered_schemas(
     leaves: &TextIndex,
     filed: &mut Vec<LPatterns>,
 ) -> Result<LSchemas, NoMemory>
-    requires filed { are_filed (declarations_of context.now.table.now.files.now) context.now.table.now.files.now.side.now.patterns filed.old.items ≡ true }
-    requires leaves { (name : List ℕ) → is_some (number_beside leaves.now name) ≡ is_among (kind_names context.now.table.now.files.now.side.now.names) name }
-    requires sound { are_sound (declarations_of context.now.table.now.files.now) (domain_sites context.now.table.now.files.now.domain.now) ≡ true }
-    requires kept { are_kept (declarations_of context.now.table.now.files.now) kept.old.entries.items ≡ true }
-    ensures resolved { IfOk result (AllZip (IsResolvedSchema (meanings (declarations_of context.now.table.now.files.now)) context.now.table.now.files.now.side.now) context.now.table.now.files.now.domain.now.schemas) }
-    ensures within { IfOk result (λ all. list_all (is_schema_within (length (objects_declared (declarations_of context.now.table.now.files.now))) context.now.predicates.now) all ≡ true) }
-    ensures fluent { IfOk result (λ all. list_all (is_schema_fluent context.now.predicates.now) all ≡ true) }
-    ensures kept { OnOk result (are_kept (declarations_of context.now.table.now.files.now) kept.new.entries.items ≡ true) }
+    requires filed { are_filed context.now.files context.now.files.side.patterns filed.old.items ≡ true }
+    requires leaves { HasNames (is_among (kind_names context.now.files.side.names)) leaves.now }
+    requires sound { are_sound context.now.files (domain_sites context.now.files.domain) ≡ true }
+    requires kept { are_kept context.now.files kept.old.entries.items ≡ true }
+    ensures numbered { IfOk result (AreNumberedSchemas context.now) }
+    ensures kept { OnOk result (are_kept context.now.files kept.new.entries.items ≡ true) }
 {
-    let domain = context.table.files.domain;
+    let domain = context.domain();
     let mut all = LSchemas::new(alloc);
     for i in 0..domain.schemas.len() {
         let schema = domain.schemas.get(i);

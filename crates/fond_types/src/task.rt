@@ -1,28 +1,23 @@
 //! The task of declarations without a fault of names.
 
-ghost use Rattle.fond_ast.specs.Within.{is_condition_within, is_schema_fluent, is_schema_within};
 ghost use Rattle.fond_names.specs.Faults.{StandsInNames};
 ghost use Rattle.fond_names.specs.Files.{declarations_of};
-ghost use Rattle.fond_names.specs.Names.{objects_declared};
 ghost use Rattle.fond_names.specs.Sites.{domain_sites, problem_sites};
 ghost use Rattle.fond_text.specs.Faults.{AreClean};
+ghost use Rattle.fond_types.specs.Bodies.{AreNumberedSchemas, IsNumberedCondition};
 ghost use Rattle.fond_types.specs.Context.{are_predicates};
 ghost use Rattle.fond_types.specs.Kept.{are_kept};
-ghost use Rattle.fond_types.specs.Meanings.{meanings};
 ghost use Rattle.fond_types.specs.Parts.{AreParts};
-ghost use Rattle.fond_types.specs.Resolves.{is_condition, IsResolved, IsResolvedSchema};
+ghost use Rattle.fond_types.specs.Resolves.{IsResolved};
 ghost use Rattle.fond_types.specs.Sound.{are_sound};
-ghost use Rattle.std.specs.List.{AllZip, list_all};
-ghost use Rattle.std.specs.Prelude.{◌≡◌, [], IfOk, OnOk, length, true};
+ghost use Rattle.std.specs.Prelude.{◌≡◌, [], IfOk, OnOk, true};
 
 use crate::conditions::numbered_condition;
 use crate::context::Context;
-use crate::declare::{declared_objects, declared_predicates};
 use crate::initial::numbered_init;
 use crate::kept::KeptRanges;
 use crate::mentioned::mentioned;
 use crate::numbered_predicates::numbered_predicates;
-use crate::numbers::Numbers;
 use crate::parts::Parts;
 use crate::patterns::filed_patterns;
 use crate::schemas::numbered_schemas;
@@ -32,40 +27,18 @@ use fond_ast::task::{LPredicates, LSchemas, LiftedTask};
 use fond_lookup::text_index::TextIndex;
 use fond_names::files::Files;
 use fond_names::predicates::index_kinds;
-use fond_names::scope::Around;
+use fond_names::scope::outside;
 use fond_text::fault::NoMemory;
-use fond_text::name::Names;
 use std::alloc::Global;
-
-/// The numbers of the names of clean declarations.
-fn table_of<'a>(alloc: Global, files: &'a Files<'a>) -> Result<Table<'a>, NoMemory>
-    requires { AreClean (StandsInNames (declarations_of files.now)) }
-    ensures { IfOk result (λ table. table.files.now ≡ files.now) }
-{
-    let predicates = declared_predicates(alloc, files)?;
-    let objects = declared_objects(alloc, files)?;
-    Ok(Table {
-        files,
-        predicates,
-        objects,
-    })
-}
 
 /// A sound goal over numbers.
 fn numbered_goal(alloc: Global, context: &Context, kept: &mut KeptRanges) -> Result<LCond, NoMemory>
-    requires sound { are_sound (declarations_of context.now.table.now.files.now) (problem_sites context.now.table.now.files.now.problem.now) ≡ true }
-    requires kept { are_kept (declarations_of context.now.table.now.files.now) kept.old.entries.items ≡ true }
-    ensures resolved { IfOk result (λ number. is_condition (meanings (declarations_of context.now.table.now.files.now)) context.now.table.now.files.now.problem.now.goal [] number ≡ true) }
-    ensures within { IfOk result (λ number. is_condition_within (length (objects_declared (declarations_of context.now.table.now.files.now))) context.now.predicates.now number [] ≡ true) }
+    requires sound { are_sound context.now.files (problem_sites context.now.files.problem) ≡ true }
+    requires kept { are_kept context.now.files kept.old.entries.items ≡ true }
+    ensures { IfOk result (IsNumberedCondition context.now [] context.now.files.problem.goal) }
 {
-    let outside = Around::Nothing;
-    numbered_condition(
-        alloc,
-        context,
-        kept,
-        &context.table.files.problem.goal,
-        &outside,
-    )
+    let outside = outside();
+    numbered_condition(alloc, context, kept, &context.problem().goal, &outside)
 }
 
 /// The schemas of sound files over numbers. Those that the side list names outside parentheses are unfair, and each has
@@ -75,15 +48,13 @@ fn numbered_actions(
     context: &Context,
     kept: &mut KeptRanges,
 ) -> Result<LSchemas, NoMemory>
-    requires sound { are_sound (declarations_of context.now.table.now.files.now) (domain_sites context.now.table.now.files.now.domain.now) ≡ true }
-    requires kept { are_kept (declarations_of context.now.table.now.files.now) kept.old.entries.items ≡ true }
-    ensures resolved { IfOk result (AllZip (IsResolvedSchema (meanings (declarations_of context.now.table.now.files.now)) context.now.table.now.files.now.side.now) context.now.table.now.files.now.domain.now.schemas) }
-    ensures within { IfOk result (λ all. list_all (is_schema_within (length (objects_declared (declarations_of context.now.table.now.files.now))) context.now.predicates.now) all ≡ true) }
-    ensures fluent { IfOk result (λ all. list_all (is_schema_fluent context.now.predicates.now) all ≡ true) }
-    ensures kept { OnOk result (are_kept (declarations_of context.now.table.now.files.now) kept.new.entries.items ≡ true) }
+    requires sound { are_sound context.now.files (domain_sites context.now.files.domain) ≡ true }
+    requires kept { are_kept context.now.files kept.old.entries.items ≡ true }
+    ensures numbered { IfOk result (AreNumberedSchemas context.now) }
+    ensures kept { OnOk result (are_kept context.now.files kept.new.entries.items ≡ true) }
 {
-    let leaves = index_kinds(alloc, &context.table.files.side.names)?;
-    let mut filed = filed_patterns(alloc, context.table)?;
+    let leaves = index_kinds(alloc, &context.table().side().names)?;
+    let mut filed = filed_patterns(alloc, context.table())?;
     numbered_schemas(alloc, context, kept, &leaves, &mut filed)
 }
 
@@ -93,10 +64,10 @@ fn numbered_parts(
     context: &Context,
     kept: &mut KeptRanges,
 ) -> Result<Parts, NoMemory>
-    requires domain { are_sound (declarations_of context.now.table.now.files.now) (domain_sites context.now.table.now.files.now.domain.now) ≡ true }
-    requires problem { are_sound (declarations_of context.now.table.now.files.now) (problem_sites context.now.table.now.files.now.problem.now) ≡ true }
-    requires kept { are_kept (declarations_of context.now.table.now.files.now) kept.old.entries.items ≡ true }
-    ensures { IfOk result (AreParts (declarations_of context.now.table.now.files.now) context.now.predicates.now) }
+    requires domain { are_sound context.now.files (domain_sites context.now.files.domain) ≡ true }
+    requires problem { are_sound context.now.files (problem_sites context.now.files.problem) ≡ true }
+    requires kept { are_kept context.now.files kept.old.entries.items ≡ true }
+    ensures { IfOk result (AreParts context.now.files context.now.predicates) }
 {
     let schemas = numbered_actions(alloc, context, kept)?;
     let init = numbered_init(alloc, context)?;
@@ -108,33 +79,20 @@ fn numbered_parts(
     })
 }
 
-/// The names of the objects of a table.
-fn object_names(table: Table) -> Names
-    ensures { result ≡ table.entry.objects.names }
-{
-    let Table {
-        files: _,
-        predicates: _,
-        objects,
-    } = table;
-    let Numbers { names, numbers: _ } = objects;
-    names
-}
-
 /// The task of a table, its predicates over numbers and its other parts.
 fn assembled(table: Table, predicates: LPredicates, parts: Parts) -> LiftedTask
-    requires clean { AreClean (StandsInNames (declarations_of table.files.now)) }
-    requires predicates { are_predicates (declarations_of table.files.now) predicates ≡ true }
-    requires parts { AreParts (declarations_of table.files.now) predicates parts }
-    ensures { IsResolved (declarations_of table.entry.files.now) result }
+    requires predicates { are_predicates table predicates ≡ true }
+    requires parts { AreParts table predicates parts }
+    ensures { IsResolved table.entry result }
 {
     let Parts {
         schemas,
         init,
         goal,
     } = parts;
-    let place = table.files.domain.place;
-    let objects = object_names(table);
+    table.is_well_named();
+    let place = table.domain().place;
+    let objects = table.into_objects();
     LiftedTask {
         place,
         objects,
@@ -151,11 +109,11 @@ fn flagged_predicates(
     table: &Table,
     kept: &mut KeptRanges,
 ) -> Result<LPredicates, NoMemory>
-    requires { are_kept (declarations_of table.now.files.now) kept.old.entries.items ≡ true }
-    ensures resolved { IfOk result (λ predicates. are_predicates (declarations_of table.now.files.now) predicates ≡ true) }
-    ensures kept { OnOk result (are_kept (declarations_of table.now.files.now) kept.new.entries.items ≡ true) }
+    requires { are_kept table.now kept.old.entries.items ≡ true }
+    ensures resolved { IfOk result (λ predicates. are_predicates table.now predicates ≡ true) }
+    ensures kept { OnOk result (are_kept table.now kept.new.entries.items ≡ true) }
 {
-    let mentioned = mentioned(alloc, table.files.domain)?;
+    let mentioned = mentioned(alloc, table.domain())?;
     numbered_predicates(alloc, table, kept, &mentioned)
 }
 
@@ -165,27 +123,24 @@ fn predicates_and_parts(
     table: &Table,
     kept: &mut KeptRanges,
 ) -> Result<(LPredicates, Parts), NoMemory>
-    requires domain { are_sound (declarations_of table.now.files.now) (domain_sites table.now.files.now.domain.now) ≡ true }
-    requires problem { are_sound (declarations_of table.now.files.now) (problem_sites table.now.files.now.problem.now) ≡ true }
-    requires kept { are_kept (declarations_of table.now.files.now) kept.old.entries.items ≡ true }
-    ensures predicates { IfOk result (λ made. are_predicates (declarations_of table.now.files.now) made.0 ≡ true) }
-    ensures parts { IfOk result (λ made. AreParts (declarations_of table.now.files.now) made.0 made.1) }
+    requires domain { are_sound table.now (domain_sites table.now.domain) ≡ true }
+    requires problem { are_sound table.now (problem_sites table.now.problem) ≡ true }
+    requires kept { are_kept table.now kept.old.entries.items ≡ true }
+    ensures predicates { IfOk result (λ made. are_predicates table.now made.0 ≡ true) }
+    ensures parts { IfOk result (λ made. AreParts table.now made.0 made.1) }
 {
     let predicates = flagged_predicates(alloc, table, kept)?;
-    let context = Context {
-        table,
-        predicates: &predicates,
-    };
+    let context = Context::of(table, &predicates);
     let parts = numbered_parts(alloc, &context, kept)?;
     Ok((predicates, parts))
 }
 
 /// The predicates and the other parts of sound files over numbers, with ranges that they share.
 fn with_shared_ranges(alloc: Global, table: &Table) -> Result<(LPredicates, Parts), NoMemory>
-    requires domain { are_sound (declarations_of table.now.files.now) (domain_sites table.now.files.now.domain.now) ≡ true }
-    requires problem { are_sound (declarations_of table.now.files.now) (problem_sites table.now.files.now.problem.now) ≡ true }
-    ensures predicates { IfOk result (λ made. are_predicates (declarations_of table.now.files.now) made.0 ≡ true) }
-    ensures parts { IfOk result (λ made. AreParts (declarations_of table.now.files.now) made.0 made.1) }
+    requires domain { are_sound table.now (domain_sites table.now.domain) ≡ true }
+    requires problem { are_sound table.now (problem_sites table.now.problem) ≡ true }
+    ensures predicates { IfOk result (λ made. are_predicates table.now made.0 ≡ true) }
+    ensures parts { IfOk result (λ made. AreParts table.now made.0 made.1) }
 {
     let mut kept = KeptRanges {
         entries: Vec::new(alloc),
@@ -199,7 +154,7 @@ pub(crate) fn numbered_task(alloc: Global, files: &Files) -> Result<LiftedTask, 
     requires { AreClean (StandsInNames (declarations_of files.now)) }
     ensures { IfOk result (IsResolved (declarations_of files.now)) }
 {
-    let table = table_of(alloc, files)?;
+    let table = Table::of(alloc, files)?;
     let (predicates, parts) = with_shared_ranges(alloc, &table)?;
     Ok(assembled(table, predicates, parts))
 }

@@ -1,95 +1,115 @@
-use Rattle.std.proofs.Common.{◌≡◌, ◌+◌, ◌++◌, ◌∷◌, [], Bool, List, ℕ, length, map, take, sym, ap, ◌∙◌, arith}
+use Rattle.std.proofs.Common.{rules, ◌≡◌, ◌+◌, ◌∷◌, [], Bool, List, ℕ, length, map, take, sym, ap, ◌∙◌, subst, arith}
 use Rattle.std.specs.List.{list_all}
 use Rattle.std.proofs.lemmas.List.{take_all}
 use Rattle.std.proofs.lemmas.List.Folds.{list_all-map}
 use Rattle.fond_ast.specs.Read.{condition_variables}
 use Rattle.fond_ast.specs.Within.{is_condition_within}
-use Rattle.fond_ast.specs.declared.form.LCond.{LCond}
+use Rattle.fond_ast.specs.declared.form.LCond.TheOpen as open_condition
+use Rattle.fond_ast.specs.declared.form.LCond.TheVariants as made_condition
 use Rattle.fond_ast.specs.declared.names.TypedName.{TypedName}
-use Rattle.fond_ast.specs.declared.syntax.Cond.{Cond}
+use Rattle.fond_ast.specs.declared.syntax.Cond.{Cond, out-Cond}
+use Rattle.fond_ast.specs.declared.syntax.Cond.TheOpen as open_written
+use Rattle.fond_ast.specs.declared.syntax.Cond.TheVariants as made_written
 use Rattle.fond_text.specs.Lists.{each_passes}
-use Rattle.fond_names.specs.Files.{declarations_of}
 use Rattle.fond_types.specs.Meanings.{meanings, ranges_around}
 use Rattle.fond_names.specs.Names.{objects_declared}
-use Rattle.fond_types.specs.Resolves.{is_condition}
-use Rattle.fond_names.specs.Scopes.{lists_of}
-use Rattle.fond_names.specs.Sites.{condition_sites}
+use Rattle.fond_types.specs.Bodies.{IsNumberedCondition, IsSoundCondition}
+use Rattle.fond_types.specs.Numbered.{is_condition_in}
+use Rattle.fond_types.specs.Resolves.{are_ranges, is_condition}
+use Rattle.fond_names.specs.Sites.{Scope, condition_sites}
 use Rattle.fond_types.specs.Sound.{are_sound}
-use Rattle.fond_types.proofs.AtomLemmas.{are_ranges_of}
+use Rattle.fond_names.proofs.Members.{and_both}
+use Rattle.fond_types.proofs.BodyLemmas.{condition_read_by}
 use Rattle.fond_types.proofs.Passing.{passes_next, if_ok}
-use Rattle.fond_types.proofs.WithinLemmas.{ranges_within, sound_parts, map-map, next_read, rest_passes, all_more, sum_here}
+use Rattle.fond_types.proofs.WithinLemmas.{condition_within_by, quantifier_within, sound_parts, map-map, next_read, rest_passes, all_more, sum_here}
 use Rattle.fond_types.proofs.conditions.+numbering_conditions.Goals as goal
+
+pub numbered_condition-returns-in_ok-ranges-in-Forall-clause-numbered : goal.numbered_condition-returns-in_ok-ranges-in-Forall-clause-numbered
+numbered_condition-returns-in_ok-ranges-in-Forall-clause-numbered t c =
+    let all = c.args.context.now in
+    let ranges = c.in_ok-ranges-in-Forall.ranges in
+    let part = c.in_ok-ranges-in-Forall.part in
+    let names = c.in-Forall.names in
+    let written = c.in-Forall.part in
+    let made = c.in_ok-ranges-in-Forall.ensures in
+    record {
+      resolved = condition_read_by (meanings all.files) c.args.around.now c.args.condition.now (open_written.Forall names written) _ (open_condition.Forall ranges part) (ap out-Cond c.in-Forall.is ∙ made_written.outs-Forall names written) (made_condition.outs-Forall ranges part)
+          ∙ and_both (are_ranges (meanings all.files) names ranges) _ made.ranges
+          (ap (λ (one : Cond). is_condition (meanings all.files) one (names ∷ c.args.around.now) part.value) (sym c.deref-in-Forall.ensures) ∙ made.numbered.resolved);
+      within = condition_within_by (length (objects_declared all.files)) all.predicates _ (open_condition.Forall ranges part) (made_condition.outs-Forall ranges part) (ranges_around (meanings all.files).range c.args.around.now)
+          ∙ quantifier_within all.files c.args.around.now names ranges (is_condition_within (length (objects_declared all.files)) all.predicates part.value) made.ranges made.numbered.within;
+    }
+
+pub numbered_condition-returns-in_ok-ranges-in-Exists-clause-numbered : goal.numbered_condition-returns-in_ok-ranges-in-Exists-clause-numbered
+numbered_condition-returns-in_ok-ranges-in-Exists-clause-numbered t c =
+    let all = c.args.context.now in
+    let ranges = c.in_ok-ranges-in-Exists.ranges in
+    let part = c.in_ok-ranges-in-Exists.part in
+    let names = c.in-Exists.names in
+    let written = c.in-Exists.part in
+    let made = c.in_ok-ranges-in-Exists.ensures in
+    record {
+      resolved = condition_read_by (meanings all.files) c.args.around.now c.args.condition.now (open_written.Exists names written) _ (open_condition.Exists ranges part) (ap out-Cond c.in-Exists.is ∙ made_written.outs-Exists names written) (made_condition.outs-Exists ranges part)
+          ∙ and_both (are_ranges (meanings all.files) names ranges) _ made.ranges
+          (ap (λ (one : Cond). is_condition (meanings all.files) one (names ∷ c.args.around.now) part.value) (sym c.deref-in-Exists.ensures) ∙ made.numbered.resolved);
+      within = condition_within_by (length (objects_declared all.files)) all.predicates _ (open_condition.Exists ranges part) (made_condition.outs-Exists ranges part) (ranges_around (meanings all.files).range c.args.around.now)
+          ∙ quantifier_within all.files c.args.around.now names ranges (is_condition_within (length (objects_declared all.files)) all.predicates part.value) made.ranges made.numbered.within;
+    }
 
 pub put_conditions-loop-condition-init : goal.put_conditions-loop-condition-init
 put_conditions-loop-condition-init t c =
-    let files = declarations_of c.args.context.now.table.now.files.now in
-    let around = lists_of c.args.around.now in
+    let files = c.args.context.now.files in
+    let around = c.args.around.now in
     record {
       resolved = ap (each_passes []) c.requires.empty;
-      within = ap (list_all (λ number. is_condition_within (length (objects_declared files)) c.args.context.now.predicates.now number (ranges_around (meanings files).range around))) c.requires.empty;
-      sound = sound_parts files condition_sites around c.args.conditions.now c.requires.sound;
-      few = c.requires.few;
+      within = ap (list_all (is_condition_in c.args.context.now around)) c.requires.empty;
+      sound = sound_parts files condition_sites around c.args.conditions.now c.requires.sound.sound;
+      few = c.requires.sound.few;
       kept = c.requires.kept;
     }
 
 pub put_conditions-loop-condition-preserved : goal.put_conditions-loop-condition-preserved
 put_conditions-loop-condition-preserved t c =
-    let files = declarations_of c.args.context.now.table.now.files.now in
-    let around = lists_of c.args.around.now in
+    let files = c.args.context.now.files in
+    let around = c.args.around.now in
     let conditions = c.args.conditions.now in
     let i = c.loop-condition.condition-index in
     let condition = c.condition-item.result in
     let got = next_read conditions i condition c.loop-condition-test.true c.condition-item.is in
     let number = c.in_ok-numbered_condition.field-0 in
-    let made = c.in_ok-numbered_condition.ensures in
+    let made = c.in_ok-numbered_condition.ensures.numbered in
     let before = c.loop-condition.invariant in
     let left = sum_here condition_variables conditions i condition got in
     let few = before.few in
     record {
       resolved = ap (each_passes (map (λ (one : Cond). is_condition (meanings files) one around) (take (i + 1) conditions))) c.in_ok-push.ensures.items
           ∙ passes_next (λ (one : Cond). is_condition (meanings files) one around) conditions i condition c.loop-condition.all.items number got before.resolved made.resolved;
-      within = ap (list_all (λ (one : LCond). is_condition_within (length (objects_declared files)) c.args.context.now.predicates.now one (ranges_around (meanings files).range around))) c.in_ok-push.ensures.items
-          ∙ all_more (λ (one : LCond). is_condition_within (length (objects_declared files)) c.args.context.now.predicates.now one (ranges_around (meanings files).range around)) c.loop-condition.all.items number before.within made.within;
+      within = ap (list_all (is_condition_in c.args.context.now around)) c.in_ok-push.ensures.items
+          ∙ all_more (is_condition_in c.args.context.now around) c.loop-condition.all.items number before.within made.within;
       sound = rest_passes (λ (one : Cond). are_sound files (condition_sites one around)) conditions i condition got before.sound;
       few = omega (arith, left, few);
-      kept = made.kept;
+      kept = c.in_ok-numbered_condition.ensures.kept;
     }
 
-pub put_conditions-returns-clause-resolved : goal.put_conditions-returns-clause-resolved
-put_conditions-returns-clause-resolved t c =
-    let files = declarations_of c.args.context.now.table.now.files.now in
-    let around = lists_of c.args.around.now in
+pub put_conditions-returns-clause-numbered : goal.put_conditions-returns-clause-numbered
+put_conditions-returns-clause-numbered t c =
+    let files = c.args.context.now.files in
+    let around = c.args.around.now in
     let conditions = c.args.conditions.now in
-    ap (λ tests. each_passes tests c.loop-condition.all.items) (map-map (is_condition (meanings files)) (λ part. part around) conditions)
-    ∙ ap (λ (some : List Cond). each_passes (map (λ (one : Cond). is_condition (meanings files) one around) some) c.loop-condition.all.items) (sym (take_all c.loop-condition.condition-index conditions (omega arith)))
-    ∙ c.loop-condition.invariant.resolved
+    record {
+      resolved = ap (λ tests. each_passes tests c.loop-condition.all.items) (map-map (is_condition (meanings files)) (λ part. part around) conditions)
+          ∙ ap (λ (some : List Cond). each_passes (map (λ (one : Cond). is_condition (meanings files) one around) some) c.loop-condition.all.items) (sym (take_all c.loop-condition.condition-index conditions (omega arith)))
+          ∙ c.loop-condition.invariant.resolved;
+      within = list_all-map (λ (number : List (List ℕ) → Bool). number (ranges_around (meanings files).range around)) (is_condition_within (length (objects_declared files)) c.args.context.now.predicates) c.loop-condition.all.items
+          ∙ c.loop-condition.invariant.within;
+    }
 
-pub put_conditions-returns-clause-within : goal.put_conditions-returns-clause-within
-put_conditions-returns-clause-within t c =
-    let files = declarations_of c.args.context.now.table.now.files.now in
-    let around = lists_of c.args.around.now in
-    list_all-map (λ (part : List (List ℕ) → Bool). part (ranges_around (meanings files).range around)) (is_condition_within (length (objects_declared files)) c.args.context.now.predicates.now) c.loop-condition.all.items
-    ∙ c.loop-condition.invariant.within
+pub numbered_inside-numbered_boxed-requires : goal.numbered_inside-numbered_boxed-requires
+numbered_inside-numbered_boxed-requires t c =
+    let lists : c.inside-within.result ≡ c.args.names.now ∷ c.args.around.now = c.inside-within.ensures ∙ ap (λ (list : List TypedName). list ∷ c.args.around.now) c.in_ok-variables.ensures in
+    (search rules, (subst (λ (around : Scope). IsSoundCondition c.args.context.now.files around c.args.part.now) (sym lists) c.requires.sound, c.requires.kept))
 
-pub numbered_part-returns-clause-rising : goal.numbered_part-returns-clause-rising
-numbered_part-returns-clause-rising t c = ranges_within (declarations_of c.args.context.now.table.now.files.now) c.args.names.now c.in_ok-ranges_of.field-0 c.in_ok-ranges_of.ensures.ranges
-
-pub numbered_part-returns-clause-within : goal.numbered_part-returns-clause-within
-numbered_part-returns-clause-within t c =
-    let files = declarations_of c.args.context.now.table.now.files.now in
-    let around = lists_of c.args.around.now in
-    let names = c.args.names.now in
-    let predicates = c.args.context.now.predicates.now in
-    let count = length (objects_declared files) in
-    let ranges = are_ranges_of files names c.in_ok-ranges_of.field-0 c.in_ok-ranges_of.ensures.ranges in
-    (λ i. is_condition_within count predicates c.in_ok-part.part.value (ranges_around (meanings files).range around ++ ranges i)) ∙ c.in_ok-part.ensures.within
-
-pub numbered_inside-returns-clause-within : goal.numbered_inside-returns-clause-within
-numbered_inside-returns-clause-within t c =
-    let files = declarations_of c.args.context.now.table.now.files.now in
-    let around = lists_of c.args.around.now in
-    let names = c.args.names.now in
-    let predicates = c.args.context.now.predicates.now in
-    let count = length (objects_declared files) in
-    let lists : lists_of c.inside-within.result ≡ names ∷ around = c.inside-within.ensures ∙ ap (λ (list : List TypedName). list ∷ around) c.in_ok-variables.ensures in
-    if_ok _ _ c.numbered_boxed.result (λ part is. ap (λ some. is_condition_within count predicates part.value (ranges_around (meanings files).range some)) (sym lists) ∙ is) c.numbered_boxed.ensures.within
+pub numbered_inside-returns-clause-numbered : goal.numbered_inside-returns-clause-numbered
+numbered_inside-returns-clause-numbered t c =
+    let lists : c.inside-within.result ≡ c.args.names.now ∷ c.args.around.now = c.inside-within.ensures ∙ ap (λ (list : List TypedName). list ∷ c.args.around.now) c.in_ok-variables.ensures in
+    if_ok _ _ c.numbered_boxed.result (λ part is. subst (λ (around : Scope). IsNumberedCondition c.args.context.now around c.args.part.now part.value) lists is) c.numbered_boxed.ensures.numbered

@@ -1,8 +1,7 @@
 use Rattle.std.proofs.Common.{◌≡◌, true, take}
-use Rattle.fond_names.specs.Files.{declarations_of}
 use Rattle.fond_types.specs.Patterns.{are_filed}
 use Rattle.fond_types.proofs.patterns.file_patterns.Given as goal
 
 -- the patterns so far are filed
 abbrev pub invariant-loop-i : goal.invariant-loop-i
-invariant-loop-i l = are_filed (declarations_of l.table.files.now) (take l.i l.table.files.now.side.now.patterns) l.filed.items ≡ true
+invariant-loop-i l = are_filed l.table (take l.i l.table.side.patterns) l.filed.items ≡ true

@@ -1,7 +1,6 @@
 use Rattle.std.proofs.Common.{◌≡◌, ◌<◌, ◌+◌, true, ap, ◌∙◌, length, map, take, arith}
 use Rattle.fond_ast.specs.declared.names.Term.{Term}
 use Rattle.fond_text.specs.Lists.{each_passes}
-use Rattle.fond_names.specs.Files.{declarations_of}
 use Rattle.fond_types.specs.Meanings.{meanings}
 use Rattle.fond_types.specs.Resolves.{is_pattern_term}
 use Rattle.fond_types.proofs.Passing.{passes_next}
@@ -13,7 +12,7 @@ pub loop-i-preserved : goal.loop-i-preserved
 loop-i-preserved c =
     let terms = c.args.terms.now in
     let i = c.loop-i.i in
-    let test = is_pattern_term (meanings (declarations_of c.args.table.now.files.now)) terms in
+    let test = is_pattern_term (meanings c.args.table.now) terms in
     let low : i < length terms = omega arith in
     let term = got_some terms i low in
     ap (each_passes (map test (take (i + 1) terms))) c.in_ok-push.ensures.ok

@@ -7,7 +7,6 @@ use Rattle.fond_ast.specs.Read.{has_one_kind}
 use Rattle.fond_ast.specs.declared.names.Kind.{Kind}
 use Rattle.fond_ast.specs.declared.names.TypedName.{TypedName}
 use Rattle.fond_kinds.specs.Kinds.{first_kind, only_kind, is_type, are_types}
-use Rattle.fond_names.specs.Files.{declarations_of}
 use Rattle.fond_types.specs.Kept.{is_of}
 use Rattle.fond_names.specs.Names.{all_objects, first_of, objects_declared}
 use Rattle.fond_names.specs.Same.{kind_names}
@@ -32,7 +31,7 @@ first_typed types (first ∷ kinds) kind e all = let same : first ≡ kind = cc 
 
 pub get-requires-in-Some : goal.get-requires-in-Some
 get-requires-in-Some c =
-    let files = declarations_of c.args.table.now.files.now in
+    let files = c.args.table.now in
     let name = c.get.result.now in
     let object = c.in-Some.object.now in
     let found : first_of (all_objects files) name ≡ Some object = sym c.in-Some.ensures in
@@ -42,28 +41,26 @@ get-requires-in-Some c =
 
 pub returns-in-Some : goal.returns-in-Some
 returns-in-Some c = λ wanted got.
-    let table = c.args.table.now in
-    let files = declarations_of table.files.now in
+    let files = c.args.table.now in
     let types = files.domain.kinds in
     let kinds = c.args.kinds.now in
     let name = c.get.result.now in
     let object = c.in-Some.object.now in
     let kind = c.get-in-Some.result.now in
     let found : first_of (all_objects files) name ≡ Some object = sym c.in-Some.ensures in
-    let named : slice_get (objects_declared files) c.args.i ≡ first_of (all_objects files) name = item_named (λ (other : TypedName). other.name) (all_objects files) table.objects.names c.args.i name table.objects_numbered c.get.ensures in
+    let named : slice_get (objects_declared files) c.args.i ≡ first_of (all_objects files) name = item_named (λ (other : TypedName). other.name) (all_objects files) c.objects-names.result.now c.args.i name c.objects-names.ensures.named c.get.ensures in
     let same : wanted ≡ object = (let both : Some wanted ≡ Some object = sym got ∙ named ∙ found in cc) in
     let only : only_kind object ≡ kind.name = only_first object.kinds kind c.get-in-Some.ensures in
-    let typed : are_types types object.kinds ≡ true = found_passes (λ (other : TypedName). bytes_eq other.name name) (λ (one : TypedName). are_types types one.kinds) (all_objects files) object found table.objects_typed in
+    let typed : are_types types object.kinds ≡ true = found_passes (λ (other : TypedName). bytes_eq other.name name) (λ (one : TypedName). are_types types one.kinds) (all_objects files) object found c.is_well_named.ensures.objects_typed in
     let own : is_type types kind.name ≡ true = first_typed types object.kinds kind c.get-in-Some.ensures typed in
-    c.is_below_some.ensures ∙ ap (λ some. is_below_some some kind.name kinds) table.files.now.types_declared
+    c.is_below_some.ensures ∙ ap (λ some. is_below_some some kind.name kinds) c.types.ensures
     ∙ below_is types kind.name kinds own c.requires.typed ∙ ap (λ text. list_any (is_subtype types text) (kind_names kinds)) (sym only) ∙ ap (λ (one : TypedName). is_of types (kind_names kinds) one) (sym same)
 
 pub returns-in-None : goal.returns-in-None
 returns-in-None c = λ wanted got.
-    let table = c.args.table.now in
-    let files = declarations_of table.files.now in
+    let files = c.args.table.now in
     let name = c.get.result.now in
     let none : first_of (all_objects files) name ≡ None = sym c.in-None.ensures in
-    let named : slice_get (objects_declared files) c.args.i ≡ first_of (all_objects files) name = item_named (λ (other : TypedName). other.name) (all_objects files) table.objects.names c.args.i name table.objects_numbered c.get.ensures in
+    let named : slice_get (objects_declared files) c.args.i ≡ first_of (all_objects files) name = item_named (λ (other : TypedName). other.name) (all_objects files) c.objects-names.result.now c.args.i name c.objects-names.ensures.named c.get.ensures in
     let both : Some wanted ≡ None = sym got ∙ named ∙ none in
     absurd (cc (both))

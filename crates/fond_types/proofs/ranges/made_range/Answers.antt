@@ -1,6 +1,5 @@
 use Rattle.std.proofs.Common.{◌≡◌, ◌<◌, ◌+◌, ◌++◌, drop, ap, ◌∙◌, sym, length, ℕ, List, arith}
 use Rattle.fond_ast.specs.declared.names.TypedName.{TypedName}
-use Rattle.fond_names.specs.Files.{declarations_of}
 use Rattle.fond_types.specs.Kept.{range_by, numbers_of}
 use Rattle.fond_names.specs.Names.{objects_declared}
 use Rattle.fond_names.specs.Same.{kind_names}
@@ -10,13 +9,12 @@ use Rattle.fond_types.proofs.ranges.made_range.Goals.{then-is_in_range+in_ok-pus
 
 pub loop-i-preserved : goal.loop-i-preserved
 loop-i-preserved c =
-    let table = c.args.table.now in
-    let files = declarations_of table.files.now in
+    let files = c.args.table.now in
     let types = files.domain.kinds in
     let names = kind_names c.args.kinds.now in
     let objects = objects_declared files in
     let i = c.loop-i.i in
-    let long : length table.objects.names ≡ length objects = ap length table.objects_numbered ∙ length-names (λ (one : TypedName). one.name) objects in
+    let long : length c.objects.result.now ≡ length objects = ap length c.objects.ensures.named ∙ length-names (λ (one : TypedName). one.name) objects in
     let low : i < length objects = omega (arith, long) in
     let item = got_some objects i low in
     let told = c.is_in_range.ensures item.0 item.1 in

@@ -5,7 +5,6 @@ use Rattle.std.proofs.lemmas.List.{map-append}
 use Rattle.fond_ast.specs.Ranges.{objects_of}
 use Rattle.fond_ast.specs.declared.names.TypedName.{TypedName}
 use Rattle.fond_text.specs.Lists.{each_passes}
-use Rattle.fond_names.specs.Files.{declarations_of}
 use Rattle.fond_types.specs.Meanings.{meanings}
 use Rattle.fond_types.specs.Resolves.{are_ranges}
 use Rattle.fond_kinds.specs.Kinds.{are_types}
@@ -15,7 +14,7 @@ use Rattle.fond_types.proofs.ranges.put_ranges.Goals as goal
 
 pub loop-i-preserved : goal.loop-i-preserved
 loop-i-preserved c =
-    let all = meanings (declarations_of c.args.table.now.files.now) in
+    let all = meanings c.args.table.now in
     let names = c.args.names.now in
     let name = c.get.result.now in
     let range = c.in_ok-range_of.field-0.value in
@@ -29,10 +28,10 @@ loop-i-preserved c =
 
 pub range_of-requires-clause-typed : goal.range_of-requires-clause-typed
 range_of-requires-clause-typed c =
-    all_got (λ (name : TypedName). are_types c.args.table.now.files.now.domain.now.kinds name.kinds) c.args.names.now c.loop-i.i c.get.result.now c.get.ensures c.requires.typed
+    all_got (λ (name : TypedName). are_types c.args.table.now.domain.kinds name.kinds) c.args.names.now c.loop-i.i c.get.result.now c.get.ensures c.requires.typed
 
 pub loop-i-init : goal.loop-i-init
 loop-i-init c = record {
-  ranges = ap (are_ranges (meanings (declarations_of c.args.table.now.files.now)) []) c.requires.empty;
+  ranges = ap (are_ranges (meanings c.args.table.now) []) c.requires.empty;
   sound = c.requires.sound;
 }

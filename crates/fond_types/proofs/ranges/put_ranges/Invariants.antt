@@ -1,5 +1,4 @@
 use Rattle.std.proofs.Common.{◌≡◌, true, take}
-use Rattle.fond_names.specs.Files.{declarations_of}
 use Rattle.fond_types.specs.Kept.{are_kept}
 use Rattle.fond_types.specs.Meanings.{meanings}
 use Rattle.fond_types.specs.Resolves.{are_ranges}
@@ -8,6 +7,6 @@ use Rattle.fond_types.proofs.ranges.put_ranges.Given as goal
 -- the ranges so far are those of the names so far
 abbrev pub invariant-loop-i : goal.invariant-loop-i
 invariant-loop-i l = record {
-  ranges : are_ranges (meanings (declarations_of l.table.files.now)) (take l.i l.names) l.ranges ≡ true;
-  sound : are_kept (declarations_of l.table.files.now) l.kept.entries.items ≡ true;
+  ranges : are_ranges (meanings l.table) (take l.i l.names) l.ranges ≡ true;
+  sound : are_kept l.table l.kept.entries.items ≡ true;
 }

@@ -3,7 +3,6 @@ use Rattle.fond_ast.specs.Ranges.{objects_of}
 use Rattle.fond_ast.specs.Within.{are_ranges_within, is_condition_within, is_effect_within}
 use Rattle.fond_ast.specs.declared.names.Kind.{Kind}
 use Rattle.fond_lookup.specs.Texts.{number_beside}
-use Rattle.fond_names.specs.Files.{declarations_of}
 use Rattle.fond_types.specs.Meanings.{meanings, ranges_around}
 use Rattle.fond_names.specs.Names.{objects_declared}
 use Rattle.fond_types.proofs.AtomLemmas.{are_ranges_of}
@@ -12,31 +11,30 @@ use Rattle.fond_types.proofs.TermLemmas.{among_names}
 use Rattle.fond_types.proofs.WithinLemmas.{ranges_within}
 use Rattle.fond_types.proofs.schemas.numbered_schema.Goals as goal
 
-pub returns-clause-resolved : goal.returns-clause-resolved
-returns-clause-resolved c =
-    let schema = c.args.schema.now in
-    let leaves = c.args.leaves.now in
-    let names = c.args.context.now.table.now.files.now.side.now.names in
-    record {
-      place = refl;
-      named = c.in_ok-name.ensures;
-      ranges = c.in_ok-ranges.ensures.ranges;
-      pre = c.in_ok-pre.ensures.pre;
-      effect = c.in_ok-pre.ensures.effect;
-      unfair = c.is_some-unfair.ensures ∙ ap (λ found. is_some found) (c.find.ensures ∙ ap (number_beside leaves) c.bytes.ensures.value) ∙ c.requires.leaves schema.name ∙ among_names (λ (leaf : Kind). leaf.name) names schema.name;
-      patterns = c.requires.patterns;
-    }
-
-pub returns-clause-within : goal.returns-clause-within
-returns-clause-within c =
-    let files = declarations_of c.args.context.now.table.now.files.now in
-    let predicates = c.args.context.now.predicates.now in
+pub returns-clause-numbered : goal.returns-clause-numbered
+returns-clause-numbered c =
+    let files = c.args.context.now.files in
+    let predicates = c.args.context.now.predicates in
     let count = length (objects_declared files) in
     let schema = c.args.schema.now in
+    let leaves = c.args.leaves.now in
     let ranges = c.in_ok-ranges.ranges in
     let objects : objects_of ranges ≡ ranges_around (meanings files).range (schema.parameters ∷ []) = are_ranges_of files schema.parameters ranges c.in_ok-ranges.ensures.ranges in
-    let body = c.in_ok-pre.ensures in
-    and_both (are_ranges_within count ranges && is_condition_within count predicates c.in_ok-pre.pre (objects_of ranges)) (is_effect_within count predicates c.in_ok-pre.effect (objects_of ranges))
-    (and_both (are_ranges_within count ranges) (is_condition_within count predicates c.in_ok-pre.pre (objects_of ranges)) (ranges_within files schema.parameters ranges c.in_ok-ranges.ensures.ranges)
-    (ap (is_condition_within count predicates c.in_ok-pre.pre) objects ∙ body.pre_within))
-    (ap (is_effect_within count predicates c.in_ok-pre.effect) objects ∙ body.effect_within)
+    let body = c.in_ok-pre.ensures.numbered in
+    record {
+      resolved = record {
+        place = refl;
+        named = c.in_ok-name.ensures;
+        ranges = c.in_ok-ranges.ensures.ranges;
+        pre = body.pre_is.resolved;
+        effect = body.effect_is.resolved;
+        unfair = c.is_some-unfair.ensures ∙ ap (λ found. is_some found) (c.find.ensures ∙ ap (number_beside leaves) c.bytes.ensures.value) ∙ c.requires.leaves schema.name
+            ∙ among_names (λ (leaf : Kind). leaf.name) files.side.names schema.name;
+        patterns = c.requires.patterns;
+      };
+      within = and_both (are_ranges_within count ranges && is_condition_within count predicates c.in_ok-pre.pre (objects_of ranges)) (is_effect_within count predicates c.in_ok-pre.effect (objects_of ranges))
+          (and_both (are_ranges_within count ranges) (is_condition_within count predicates c.in_ok-pre.pre (objects_of ranges)) (ranges_within files schema.parameters ranges c.in_ok-ranges.ensures.ranges)
+          (ap (is_condition_within count predicates c.in_ok-pre.pre) objects ∙ body.pre_is.within))
+          (ap (is_effect_within count predicates c.in_ok-pre.effect) objects ∙ body.effect_is.within);
+      fluent = body.effect_is.fluent;
+    }

@@ -1,0 +1,63 @@
+-- Declarations whose names have numbers, and what is said of them over numbers.
+use Rattle.std.specs.Prelude.{◌≡◌, Bool, true, List, length, map}
+use Rattle.std.specs.List.{list_all}
+use Rattle.fond_text.specs.Lists.{are_distinct_texts, each_passes}
+use Rattle.fond_ast.specs.Within.{is_atom_within, is_condition_within, is_effect_within, is_schema_within, is_term_within}
+use Rattle.fond_ast.specs.declared.form.LAtom.{LAtom}
+use Rattle.fond_ast.specs.declared.form.LCond.{LCond}
+use Rattle.fond_ast.specs.declared.form.LEffect.{LEffect}
+use Rattle.fond_ast.specs.declared.form.LTerm.{LTerm}
+use Rattle.fond_ast.specs.declared.names.Term.{Term}
+use Rattle.fond_ast.specs.declared.task.LPredicate.{LPredicate}
+use Rattle.fond_ast.specs.declared.task.LSchema.{LSchema}
+use Rattle.fond_names.specs.Names.{Declarations, all_objects, objects_declared, schema_names}
+use Rattle.fond_names.specs.Sites.{Scope}
+use Rattle.fond_types.specs.Context.{are_predicates}
+use Rattle.fond_types.specs.Meanings.{are_typed, has_root, meanings, ranges_around}
+use Rattle.fond_types.specs.Patterns.{is_sound_pattern}
+use Rattle.fond_types.specs.Resolves.{is_term}
+
+-- each type in declarations is declared, schemas have distinct names, and patterns are sound
+pub record AreWellNamed (files : Declarations) : Type 0 where
+  pub rooted : has_root files.domain.kinds ≡ true
+  pub objects_typed : are_typed files.domain.kinds (all_objects files) ≡ true
+  pub parameters_typed : list_all (λ declared. are_typed files.domain.kinds declared.parameters) files.domain.predicates ≡ true
+  pub schemas_distinct : are_distinct_texts (schema_names files.domain) ≡ true
+  pub patterns_sound : list_all (is_sound_pattern files) files.side.patterns ≡ true
+
+-- declarations, and their predicates over numbers
+pub record Numbered : Type 0 where
+  pub files : Declarations
+  pub predicates : List LPredicate
+
+-- the declarations are well named, and the predicates over numbers are theirs
+pub record AreNumbered (all : Numbered) : Type 0 where
+  pub well_named : AreWellNamed all.files
+  pub resolved : are_predicates all.files all.predicates ≡ true
+
+-- whether a term over numbers names an object or a variable around it
+abbrev pub is_term_in : Declarations → Scope → LTerm → Bool
+is_term_in files around number = is_term_within (length (objects_declared files)) (ranges_around (meanings files).range around) number
+
+-- whether terms over numbers are written ones, one by one
+abbrev pub are_terms : Declarations → Scope → List Term → List LTerm → Bool
+are_terms files around terms numbers = each_passes (map (is_term (meanings files) around) terms) numbers
+
+-- whether an atom over numbers names only what there is, and its arguments fit
+abbrev pub is_atom_in : Numbered → Scope → LAtom → Bool
+is_atom_in all around number =
+    is_atom_within (length (objects_declared all.files)) all.predicates number (ranges_around (meanings all.files).range around)
+
+-- whether a condition over numbers names only what there is, and all arguments in it fit
+abbrev pub is_condition_in : Numbered → Scope → LCond → Bool
+is_condition_in all around number =
+    is_condition_within (length (objects_declared all.files)) all.predicates number (ranges_around (meanings all.files).range around)
+
+-- whether an effect over numbers names only what there is, and all arguments in it fit
+abbrev pub is_effect_in : Numbered → Scope → LEffect → Bool
+is_effect_in all around number =
+    is_effect_within (length (objects_declared all.files)) all.predicates number (ranges_around (meanings all.files).range around)
+
+-- whether a schema over numbers names only what there is, and all arguments in it fit
+abbrev pub is_schema_in : Numbered → LSchema → Bool
+is_schema_in all number = is_schema_within (length (objects_declared all.files)) all.predicates number
