@@ -7,8 +7,10 @@ ghost use Rattle.fond_text.specs.Faults.{IsClean, IsLeastIn, Refuses};
 ghost use Rattle.fond_text.specs.Firsts.{IsFirst};
 ghost use Rattle.fond_text.specs.Lists.{each_passes};
 ghost use Rattle.fond_text.specs.declared.place.FileKind.TheVariants.{Side as SideKind};
+ghost use Rattle.fond_tree.specs.Spelling.{IsReadAsForest};
 ghost use Rattle.fond_tree.specs.Trees.{is_node};
-ghost use Rattle.std.specs.Prelude.{◌≡◌, true, false, map, IfOk, IfErr, OnOk};
+ghost use Rattle.fond_tree.specs.declared.tree.Tree.{Tree};
+ghost use Rattle.std.specs.Prelude.{◌≡◌, true, false, List, map, IfOk, IfErr, OnOk};
 
 use crate::atom::read_atom;
 use crate::node::read_leaf;
@@ -113,6 +115,7 @@ pub fn read_side_list(alloc: Global, trees: &[Tree]) -> Result<Side, FrontError>
 /// trees have a fault with the first one, F7 (docs/FAULTS.md).
 pub fn read_side(alloc: Global, b: &[u8]) -> Result<Side, FrontError>
     ensures read { IfOk result (IsSideOfText b.now) }
+    ensures clean { OnOk result ((trees : List Tree) × IsReadAsForest b.now trees × IsClean (StandsInSide trees)) }
     ensures refused { IfErr result (Refuses (IsSideFault b.now)) }
 {
     let trees = read_forest(alloc, FileKind::Side, b)?;
