@@ -5,7 +5,6 @@ use fond_front::task::read_task;
 use fond_front::texts::TaskTexts;
 use fond_ground::ground::ground;
 use fond_task::task::Task;
-use fond_text::bytes::Bytes;
 use fond_text::fault::FrontError;
 use std::alloc::Global;
 
@@ -14,23 +13,30 @@ const DOMAIN: &[u8] =
 
 const PROBLEM: &[u8] = b"(define (problem c) (:domain coin) (:init (round)) (:goal (heads)))";
 
-/// The task of a domain and a problem without unfair schemas.
-pub fn task_of(alloc: Global, domain: &[u8], problem: &[u8]) -> Result<LiftedTask, FrontError> {
-    let texts = TaskTexts {
-        domain: Bytes::copy(alloc, domain)?,
-        problem: Bytes::copy(alloc, problem)?,
-        side: Bytes::new(alloc),
-    };
-    read_task(alloc, &texts)
+/// The task of a domain and a problem without unfair schemas. Tasks are in boxes, since the time that the proof of a test
+/// takes grows with the fields of the values that it owns.
+pub fn task_of(
+    alloc: Global,
+    domain: &[u8],
+    problem: &[u8],
+) -> Result<Box<LiftedTask>, FrontError> {
+    let task = read_task(alloc, &TaskTexts::new(domain, problem, &[]))?;
+    Ok(Box::new(alloc, task)?)
 }
 
 /// The task of the coin.
-pub fn coin(alloc: Global) -> Result<LiftedTask, FrontError> {
+pub fn coin(alloc: Global) -> Result<Box<LiftedTask>, FrontError> {
     task_of(alloc, DOMAIN, PROBLEM)
 }
 
+/// The ground task of a task.
+pub fn ground_of(alloc: Global, task: &LiftedTask) -> Result<Box<Task>, FrontError> {
+    let game = ground(alloc, task)?;
+    Ok(Box::new(alloc, game)?)
+}
+
 /// The ground task of the coin: the atom `(heads)` and the action `(flip)`.
-pub fn ground_coin(alloc: Global) -> Result<Task, FrontError> {
+pub fn ground_coin(alloc: Global) -> Result<Box<Task>, FrontError> {
     let task = coin(alloc)?;
-    ground(alloc, &task)
+    ground_of(alloc, &task)
 }

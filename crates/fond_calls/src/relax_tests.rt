@@ -1,5 +1,4 @@
-use crate::coin::{ground_coin, task_of};
-use fond_ground::ground::ground;
+use crate::coin::{ground_coin, ground_of, task_of};
 use fond_relax::estimate::{Guess, estimate};
 use std::test::Fail;
 
@@ -21,7 +20,7 @@ fn a_coin_may_show_heads(rt: HostRuntime) -> Result<(), Fail> {
 #[test]
 fn a_task_whose_action_never_applies_is_hopeless(rt: HostRuntime) -> Result<(), Fail> {
     let task = task_of(rt.alloc(), IDLE, IDLE_P)?;
-    let game = ground(rt.alloc(), &task)?;
+    let game = ground_of(rt.alloc(), &task)?;
     match estimate(rt.alloc(), &game, &game.init)? {
         Guess::Never(cube) => {
             assert_eq!(rt; cube.len(), 1);

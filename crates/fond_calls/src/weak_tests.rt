@@ -1,5 +1,4 @@
-use crate::coin::{ground_coin, task_of};
-use fond_ground::ground::ground;
+use crate::coin::{ground_coin, ground_of, task_of};
 use fond_layers::layers::Layers;
 use fond_rules::pairs::Pairs;
 use fond_task::task::Task;
@@ -14,9 +13,9 @@ const SWAP: &[u8] =
 const SWAP_P: &[u8] = b"(define (problem s) (:domain swap) (:init (p)) (:goal (and (p) (q))))\n";
 
 /// The ground task in which one of two atoms is true, and the goal is both.
-fn ground_swap(alloc: Global) -> Result<Task, FrontError> {
+fn ground_swap(alloc: Global) -> Result<Box<Task>, FrontError> {
     let task = task_of(alloc, SWAP, SWAP_P)?;
-    ground(alloc, &task)
+    ground_of(alloc, &task)
 }
 
 /// What is found out about the initial state, with no layers and pairs.

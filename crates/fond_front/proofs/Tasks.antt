@@ -18,7 +18,7 @@ use Rattle.fond_names.specs.Faults.{StandsInNames}
 use Rattle.fond_names.specs.Names.{Declarations}
 use Rattle.fond_types.specs.Resolves.{IsResolved}
 use Rattle.fond_front.specs.declared.parse.Trees.{Trees}
-use Rattle.fond_front.specs.declared.texts.TaskTexts.{TaskTexts}
+use Rattle.fond_front.specs.Texts.{Texts}
 use Rattle.fond_reader.specs.Sides.{StandsInSide}
 use Rattle.fond_front.specs.Tasks.{OccursInTexts, OccursInTrees, AreTreesOf, AreFilesOf, IsTaskOf, IsFirstFault}
 
@@ -102,7 +102,7 @@ module _ (occurs : FileKind → Place → ℕ → Type 0) (fault : Fault) where
       first Side place code there = inr (refl, h.1.1 place code there)
 
 -- the first fault of a phase is that of the task
-module _ (texts : TaskTexts) where
+module _ (texts : Texts) where
   pub text_fault : (error : FrontError) → Refuses (IsFirstAmong (OccursInTexts texts)) error → Refuses (IsFirstFault texts) error
   text_fault = refuses_also _ (IsFirstFault texts) (λ fault first. inl first)
 

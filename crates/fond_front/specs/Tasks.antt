@@ -16,16 +16,16 @@ use Rattle.fond_names.specs.Names.{Declarations}
 use Rattle.fond_types.specs.Resolves.{IsResolved}
 use Rattle.fond_front.specs.declared.declare.Files.{Files}
 use Rattle.fond_front.specs.declared.parse.Trees.{Trees}
-use Rattle.fond_front.specs.declared.texts.TaskTexts.{TaskTexts}
+use Rattle.fond_front.specs.Texts.{Texts}
 
 -- a fault of its text occurs in a file: one of F1 to F6
-abbrev pub OccursInTexts : TaskTexts → FileKind → Place → ℕ → Type 0
+abbrev pub OccursInTexts : Texts → FileKind → Place → ℕ → Type 0
 OccursInTexts texts Domain = IsTextFault OneTree texts.domain
 OccursInTexts texts Problem = IsTextFault OneTree texts.problem
 OccursInTexts texts Side = IsTextFault Forest texts.side
 
 -- a domain and a problem are each read as a tree, and a side list as a forest
-pub record AreTreesOf (texts : TaskTexts) (trees : Trees) : Type 0 where
+pub record AreTreesOf (texts : Texts) (trees : Trees) : Type 0 where
   pub domain : IsReadAs texts.domain trees.domain
   pub problem : IsReadAs texts.problem trees.problem
   pub side : IsReadAsForest texts.side trees.side.items
@@ -41,7 +41,7 @@ abbrev pub declarations_of : Files → Declarations
 declarations_of files = record { domain = files.domain; problem = files.problem; side = files.side }
 
 -- three texts are read as declarations, by way of their trees, in which no fault of form occurs
-pub record AreFilesOf (texts : TaskTexts) (files : Declarations) : Type 0 where
+pub record AreFilesOf (texts : Texts) (files : Declarations) : Type 0 where
   pub trees : Trees
   pub read : AreTreesOf texts trees
   pub clean : AreClean (OccursInTrees trees)
@@ -50,7 +50,7 @@ pub record AreFilesOf (texts : TaskTexts) (files : Declarations) : Type 0 where
   pub side : IsSideOf trees.side.items files.side
 
 -- three texts are read as a task: they are read as declarations that have no fault of names, and these as the task
-pub record IsTaskOf (texts : TaskTexts) (task : LiftedTask) : Type 0 where
+pub record IsTaskOf (texts : Texts) (task : LiftedTask) : Type 0 where
   pub files : Declarations
   pub read : AreFilesOf texts files
   pub clean : AreClean (StandsInNames files)
@@ -58,7 +58,7 @@ pub record IsTaskOf (texts : TaskTexts) (task : LiftedTask) : Type 0 where
 
 -- the first fault of three files: one of their texts, else of their forms, else of their names, and within a phase the
 -- first by file, place and code
-abbrev pub IsFirstFault : TaskTexts → Fault → Type 0
+abbrev pub IsFirstFault : Texts → Fault → Type 0
 IsFirstFault texts fault =
     IsFirstAmong (OccursInTexts texts) fault
     ⊎ ((trees : Trees) × AreTreesOf texts trees × IsFirstAmong (OccursInTrees trees) fault)

@@ -1,11 +1,11 @@
 //! The second phase of reading: trees become declarations.
 
 ghost use Rattle.fond_front.specs.Tasks.{AreTreesOf, AreFilesOf, OccursInTrees, declarations_of};
+ghost use Rattle.fond_front.specs.Texts.{Texts};
 ghost use Rattle.fond_text.specs.Faults.{IsFirstAmong, Refuses};
 ghost use Rattle.std.specs.Prelude.{IfOk, IfErr};
 
 use crate::parse::Trees;
-use crate::texts::TaskTexts;
 use fond_ast::files::{Domain, Problem, Side};
 use fond_reader::domain::read_domain;
 use fond_reader::problem::read_problem;
@@ -22,9 +22,9 @@ pub struct Files {
 }
 
 /// The declarations that trees are read as, or the first fault of form.
-fn files_of(alloc: Global, texts: &TaskTexts, trees: &Trees) -> Result<Files, FrontError>
-    requires { AreTreesOf texts.now trees.now }
-    ensures read { IfOk result (λ files. AreFilesOf texts.now (declarations_of files)) }
+fn files_of(alloc: Global, trees: &Trees) -> Result<Files, FrontError>
+    requires { (texts : Texts) × AreTreesOf texts trees.now }
+    ensures read { IfOk result (λ files. (texts : Texts) → AreTreesOf texts trees.now → AreFilesOf texts (declarations_of files)) }
     ensures refused { IfErr result (Refuses (IsFirstAmong (OccursInTrees trees.now))) }
 {
     let domain = read_domain(alloc, &trees.domain)?;
@@ -39,10 +39,10 @@ fn files_of(alloc: Global, texts: &TaskTexts, trees: &Trees) -> Result<Files, Fr
 
 /// The declarations that trees are read as, or the first fault of form. The trees are dropped, so that
 /// they take no memory while names are resolved.
-pub fn declare(alloc: Global, texts: &TaskTexts, trees: Trees) -> Result<Files, FrontError>
-    requires { AreTreesOf texts.now trees }
-    ensures read { IfOk result (λ files. AreFilesOf texts.now (declarations_of files)) }
+pub fn declare(alloc: Global, trees: Trees) -> Result<Files, FrontError>
+    requires { (texts : Texts) × AreTreesOf texts trees }
+    ensures read { IfOk result (λ files. (texts : Texts) → AreTreesOf texts trees → AreFilesOf texts (declarations_of files)) }
     ensures refused { IfErr result (Refuses (IsFirstAmong (OccursInTrees trees))) }
 {
-    files_of(alloc, texts, &trees)
+    files_of(alloc, &trees)
 }

@@ -24,9 +24,9 @@ pub fn parse(alloc: Global, texts: &TaskTexts) -> Result<Trees, FrontError>
     ensures read { IfOk result (AreTreesOf texts.now) }
     ensures refused { IfErr result (Refuses (IsFirstAmong (OccursInTexts texts.now))) }
 {
-    let domain = read_tree(alloc, FileKind::Domain, texts.domain.as_slice())?;
-    let problem = read_tree(alloc, FileKind::Problem, texts.problem.as_slice())?;
-    let side = read_forest(alloc, FileKind::Side, texts.side.as_slice())?;
+    let domain = read_tree(alloc, FileKind::Domain, texts.domain())?;
+    let problem = read_tree(alloc, FileKind::Problem, texts.problem())?;
+    let side = read_forest(alloc, FileKind::Side, texts.side())?;
     Ok(Trees {
         domain,
         problem,

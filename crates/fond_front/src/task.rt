@@ -21,6 +21,6 @@ pub fn read_task(alloc: Global, texts: &TaskTexts) -> Result<LiftedTask, FrontEr
     ensures refused { IfErr result (Refuses (IsFirstFault texts.now)) }
 {
     let trees = parse(alloc, texts)?;
-    let files = declare(alloc, texts, trees)?;
+    let files = declare(alloc, trees)?;
     resolve(alloc, &files.domain, &files.problem, &files.side)
 }

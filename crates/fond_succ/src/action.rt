@@ -5,7 +5,7 @@ ghost use Rattle.fond_ast.specs.declared.task.LSchema.{LSchema};
 ghost use Rattle.fond_meaning.specs.Conditions.{IsTuple};
 ghost use Rattle.fond_task.specs.Texts.{name_at};
 ghost use Rattle.fond_text.specs.declared.atom.GroundAction.{GroundAction};
-ghost use Rattle.fond_succ.specs.Actions.{AreNamesOf, IsAction, NamesAction, NamesNone, is_leaf_node, leaf_names};
+ghost use Rattle.fond_succ.specs.Actions.{AreNamesOf, IsAction, NameNone, is_leaf_node, leaf_names, names_of};
 ghost use Rattle.fond_tree.specs.Spelling.{IsReadAs};
 ghost use Rattle.fond_tree.specs.Trees.{leaf_of};
 ghost use Rattle.std.specs.List.{list_all};
@@ -126,7 +126,7 @@ fn find_named(
     leaves: &[Tree],
 ) -> Result<Option<GroundAction>, NoMemory>
     requires { IsTrue (list_all (λ tree. is_some (leaf_of tree)) leaves.now) }
-    ensures { IfOk result (λ found. MatchOption found ((action : GroundAction) → ¬ AreNamesOf task.now (leaf_names leaves.now) action) (AreNamesOf task.now (leaf_names leaves.now))) }
+    ensures { IfOk result (λ found. MatchOption found (NameNone task.now (leaf_names leaves.now)) (AreNamesOf task.now (leaf_names leaves.now))) }
 {
     let Some((first, rest)) = leaves.split_first() else {
         return Ok(None);
@@ -141,19 +141,16 @@ fn find_named(
     }
 }
 
-/// The ground action that an action word names, if it names one. Takes time in the length of the word and in the names of
-/// the schemas and of the objects in the ranges of the schema's parameters.
+/// The ground action that an action names, which is given by its tree, if it names one. Takes time in the names of the schemas
+/// and of the objects in the ranges of the schema's parameters.
 pub fn find_action(
     alloc: Global,
     task: &LiftedTask,
-    word: &Word,
+    action: &Tree,
 ) -> Result<Option<GroundAction>, NoMemory>
-    requires { IsAction word.now }
-    ensures { IfOk result (λ found. MatchOption found (NamesNone task.now word.now) (NamesAction task.now word.now)) }
+    requires { is_leaf_node action.now ≡ true }
+    ensures { IfOk result (λ found. MatchOption found (NameNone task.now (names_of action.now)) (AreNamesOf task.now (names_of action.now))) }
 {
-    let Some(action) = read_action(alloc, word)? else {
-        unreachable!()
-    };
     let Some(members) = action.members() else {
         unreachable!()
     };

@@ -15,14 +15,14 @@ use Rattle.fond_policy.specs.Parts.{IsRight}
 use Rattle.fond_check.specs.Verdicts.{IsVerdict}
 use Rattle.fond_check.specs.declared.verdict.Verdict.{Verdict}
 use Rattle.fond_check.specs.declared.verdict.Verdict.TheVariants.{Accepted, Rule, Pair, LayerGoal, LayerAct, NoRule, Count, Outside, Item, Start}
-use Rattle.fond_front.specs.declared.texts.TaskTexts.{TaskTexts}
+use Rattle.fond_front.specs.Texts.{Texts}
 use Rattle.fond_same.proofs.OneTaskOfTexts.{texts_have_one_task_lem}
 use Rattle.fond_same.proofs.SameGround.{ground_of_same}
 use Rattle.fond_same.proofs.SameTask.{alike, same_ground}
 use Rattle.fond_same.specs.Alike.{AreAlike}
 use Rattle.fond_tool.specs.Certified.{DescribeGround, IsCertText, TaskReply}
-use Rattle.fond_tool.specs.Checks.{AnswersCheck, CheckReply, IsFault, verdict_reply, verdict_status}
-use Rattle.fond_tool.specs.Laws.{CorrectAreAccepted, DemosAreAccepted, HopelessTasksAreRefused, IsCertStatus, MigratedAreAccepted, PlannedAreAccepted, SmallTasksAreDecided, accepted_reply}
+use Rattle.fond_tool.specs.Checks.{AnswersCheck, CheckReply, IsFault, verdict_reply, verdict_ending}
+use Rattle.fond_tool.specs.Laws.{CorrectAreAccepted, DemosAreAccepted, HopelessTasksAreRefused, IsCertEnding, MigratedAreAccepted, PlannedAreAccepted, SmallTasksAreDecided, accepted_reply}
 use Rattle.fond_bridge.proofs.Between.{ground-tasks-agree}
 use Rattle.fond_ground.specs.Grounds.{IsGroundOf}
 use Rattle.fond_meaning.specs.Solutions.{IsSolvable, More}
@@ -30,16 +30,15 @@ use Rattle.fond_game.specs.Solutions as games
 use Rattle.fond_game.proofs.Forced.{refusals_exclude}
 use Rattle.fond_relax.specs.Stable.{IsHopeless}
 use Rattle.fond_decide.proofs.Right.{right_hopeless}
-use Rattle.fond_tool.specs.Commands.{CommandReply}
+use Rattle.fond_tool.specs.Jobs.{texts as files}
 use Rattle.fond_tool.specs.Demos.{AnswersDemo, demo_text, demo_texts}
 use Rattle.fond_tool.specs.Migrations.{AnswersMigrate, IsCoverText, MigrateReply}
 use Rattle.fond_tool.specs.Plans.{AnswersPlan}
 use Rattle.fond_tool.specs.Tasks.{Describe}
-use Rattle.fond_tool.specs.declared.words.Command.TheVariants.{Plan}
 use Rattle.fond_tool.specs.Replies.{Reply}
 use Rattle.fond_tool.proofs.Refused.{not_refused}
-use Rattle.fond_tool.specs.declared.status.Status.{Status}
-use Rattle.fond_tool.specs.declared.status.Status.TheVariants.{Done, Unsolvable, Refused, Rejected}
+use Rattle.fond_tool.specs.declared.status.Ending.{Ending}
+use Rattle.fond_tool.specs.declared.status.Ending.TheVariants.{Done, Unsolvable, Refused, Rejected}
 
 module _ (task : LiftedTask) (game : Task) where
   -- the text of a correct certificate is accepted
@@ -60,7 +59,7 @@ module _ (game another : Task) (alike : AreAlike game another) where
   text_alike : (cert : Cert) (text : List ℕ) → IsCertText game cert text → IsCertText another cert text
   text_alike cert text is = (alike.belongs cert is.0, is.1, is.2 ∙ alike.spelled cert)
 
-module _ (texts : TaskTexts) where
+module _ (texts : Texts) where
   -- two ground tasks of the task that three texts describe are alike
   both_alike : (task other : LiftedTask) (game another : Task) → DescribeGround texts task game → DescribeGround texts other another → AreAlike game another
   both_alike task other game another one two = alike game another (same_ground other game another (ground_of_same task other game (texts_have_one_task_lem texts task other one.0.0 two.0.0) one.1) two.1)
@@ -74,44 +73,35 @@ module _ (texts : TaskTexts) where
       let found = correct_reply other another cert text reply (text_alike game another agree cert text is) (agree.right cert right) answers in
       (another, agree, found.0, found.1, found.2)
 
-pub correct : CorrectAreAccepted
-correct texts task game cert text reply described is right answers =
+accepted : (texts : Texts) (task : LiftedTask) (game : Task) (cert : Cert) (text : List ℕ) (reply : Reply) → DescribeGround texts task game → IsCertText game cert text → IsRight game cert → CheckReply texts text reply → reply.ending ≡ Done
+accepted texts task game cert text reply described is right answers =
     let found = reply_to texts task game cert text reply described is right answers in
-    ap (λ (r : Reply). r.status) found.4
+    ap (λ (r : Reply). r.ending) found.4
 
-module _ (texts : TaskTexts) (task : LiftedTask) (game : Task) (described : DescribeGround texts task game) where
-  planned_by : (budget : ℕ) (printed reply : Reply) → AnswersPlan task game budget printed → IsCertStatus printed.status → CheckReply texts printed.text reply → reply ≡ accepted_reply printed.status
-  planned_by budget printed reply (AnswersPlan.policy layers pairs rules items start text is right lean solves has) status answers =
+pub correct : CorrectAreAccepted
+correct domain problem side task game cert text reply described is right answers = accepted (files domain problem side) task game cert text reply described is right answers
+
+module _ (texts : Texts) (task : LiftedTask) (game : Task) (described : DescribeGround texts task game) where
+  planned_by : (budget : ℕ) (printed reply : Reply) → AnswersPlan task game budget printed → IsCertEnding printed.ending → CheckReply texts printed.text reply → reply ≡ accepted_reply printed.ending
+  planned_by budget printed reply (AnswersPlan.policy layers pairs rules items start text is right lean solves has) ends answers =
       let cert = Covered layers pairs rules items start in
       let found = reply_to texts task game cert text reply described is right answers in
       let is_lean : found.2 ≡ true = found.3.1.1 (found.1.items_lean layers pairs rules items lean) in
       found.4 ∙ ap (λ (b : Bool). verdict_reply found.0 cert (Accepted b)) is_lean
-  planned_by budget printed reply (AnswersPlan.unsolvable layers text is right none) status answers = (reply_to texts task game (Refusal layers) text reply described is right answers).4
-  planned_by budget printed reply (AnswersPlan.undecided more hope) status answers = absurd status
+  planned_by budget printed reply (AnswersPlan.unsolvable layers text is right none) ends answers = (reply_to texts task game (Refusal layers) text reply described is right answers).4
+  planned_by budget printed reply (AnswersPlan.undecided more hope) ends answers = absurd ends
 
-planned_of : (texts : TaskTexts) (budget : ℕ) (printed reply : Reply) → TaskReply texts (λ task game. AnswersPlan task game budget) printed → IsCertStatus printed.status → CheckReply texts printed.text reply → reply ≡ accepted_reply printed.status
-planned_of texts budget printed reply (TaskReply.refused fault refusal) status answers = absurd status
-planned_of texts budget printed reply (TaskReply.answered task game same described answered) status answers = planned_by texts task game described budget printed reply answered status answers
-
--- a reply of `plan` is one to a budget
-planned_given : (given : List (List ℕ)) (domain problem side : List ℕ) (printed : Reply) → CommandReply Plan given (domain ∷ problem ∷ side ∷ []) printed
-    → (budget : ℕ) × TaskReply (record { domain = domain; problem = problem; side = side }) (λ task game. AnswersPlan task game budget) printed
-planned_given [] domain problem side printed never = absurd never
-planned_given (a ∷ []) domain problem side printed never = absurd never
-planned_given (a ∷ b ∷ []) domain problem side printed never = absurd never
-planned_given (a ∷ b ∷ c ∷ []) domain problem side printed never = absurd never
-planned_given (a ∷ b ∷ c ∷ budget ∷ []) domain problem side printed answered = (answered.0, answered.2)
-planned_given (a ∷ b ∷ c ∷ d ∷ e ∷ rest) domain problem side printed never = absurd never
+planned_of : (texts : Texts) (budget : ℕ) (printed reply : Reply) → TaskReply texts (λ task game. AnswersPlan task game budget) printed → IsCertEnding printed.ending → CheckReply texts printed.text reply → reply ≡ accepted_reply printed.ending
+planned_of texts budget printed reply (TaskReply.refused fault refusal) ends answers = absurd ends
+planned_of texts budget printed reply (TaskReply.answered task game same described answered) ends answers = planned_by texts task game described budget printed reply answered ends answers
 
 pub planned : PlannedAreAccepted
-planned given other domain problem side printed reply answered status answers =
-    let for = planned_given given domain problem side printed answered in
-    planned_of (record { domain = domain; problem = problem; side = side }) for.0 printed reply for.1 status answers
+planned budget domain problem side printed reply answered ends answers = planned_of (files domain problem side) budget printed reply answered ends answers
 
--- whether a status is that of a job that is done
-abbrev is_done : Status → Type 0
+-- whether an ending is that of a job that is done
+abbrev is_done : Ending → Type 0
 is_done Done = ⊤
-is_done status = ⊥
+is_done ending = ⊥
 
 rejected_done : ¬ Rejected ≡ Done
 rejected_done same = subst is_done (sym same) tt
@@ -120,20 +110,20 @@ refused_done : ¬ Refused ≡ Done
 refused_done same = subst is_done (sym same) tt
 
 -- what a policy of `demo` says between its lines is accepted as lean
-shown_by : (size : ℕ) (task : LiftedTask) (game : Task) (printed : Reply) → DescribeGround (demo_texts size) task game → AnswersDemo size task game printed → printed.status ≡ Done
+shown_by : (size : ℕ) (task : LiftedTask) (game : Task) (printed : Reply) → DescribeGround (demo_texts size) task game → AnswersDemo size task game printed → printed.ending ≡ Done
     → (task : LiftedTask) × (game : Task) × (cert : List ℕ) × DescribeGround (demo_texts size) task game × (printed.text ≡ demo_text size game cert)
     × ((reply : Reply) → CheckReply (demo_texts size) cert reply → reply ≡ accepted_reply Done)
-shown_by size task game printed described (AnswersDemo.policy cert answers) status =
-    (task, game, cert, described, refl, λ reply judged. planned_by (demo_texts size) task game described 1000000 (record { text = cert; status = Done }) reply answers tt judged)
-shown_by size task game printed described (AnswersDemo.other reply answers other) status = absurd (other status)
+shown_by size task game printed described (AnswersDemo.policy cert answers) ends =
+    (task, game, cert, described, refl, λ reply judged. planned_by (demo_texts size) task game described 1000000 (record { text = cert; ending = Done }) reply answers tt judged)
+shown_by size task game printed described (AnswersDemo.other reply answers other) ends = absurd (other ends)
 
 pub shown : DemosAreAccepted
-shown size printed (TaskReply.refused fault refusal) status = absurd (refused_done status)
-shown size printed (TaskReply.answered task game same described answers) status = shown_by size task game printed described answers status
+shown size printed (TaskReply.refused fault refusal) ends = absurd (refused_done ends)
+shown size printed (TaskReply.answered task game same described answers) ends = shown_by size task game printed described answers ends
 
-module _ (texts : TaskTexts) (task : LiftedTask) (budget : ℕ) (described : Describe texts task) (few : ¬ More task budget) where
+module _ (texts : Texts) (task : LiftedTask) (budget : ℕ) (described : Describe texts task) (few : ¬ More task budget) where
   abbrev Decided : Reply → Type 0
-  Decided reply = ((reply.status ≡ Done) × IsSolvable task) ⊎ ((reply.status ≡ Unsolvable) × (¬ IsSolvable task))
+  Decided reply = ((reply.ending ≡ Done) × IsSolvable task) ⊎ ((reply.ending ≡ Unsolvable) × (¬ IsSolvable task))
 
   -- a task with the same ground task agrees
   decided_by : (other : LiftedTask) (game : Task) (reply : Reply) → IsGroundOf other game → IsGroundOf task game → AnswersPlan other game budget reply → Decided reply
@@ -150,28 +140,28 @@ module _ (texts : TaskTexts) (task : LiftedTask) (budget : ℕ) (described : Des
       decided_by other game reply also.1 (ground_of_same other task game (texts_have_one_task_lem texts other task also.0.0 described.0) also.1) answers
 
 pub decided : SmallTasksAreDecided
-decided texts task budget reply described few answers = small_decided texts task budget described few reply answers
+decided domain problem side task budget reply described few answers = small_decided (files domain problem side) task budget described few reply answers
 
 -- the refusal by the cube of a hopeless state is correct, so the task is not solvable
 not_solvable : (game : Task) → IsHopeless game game.init → ¬ games.IsSolvable game
 not_solvable game hopeless = refusals_exclude game ((hopeless.0 ∷ []) ∷ []) (right_hopeless game hopeless.0 hopeless.1).right
 
-module _ (texts : TaskTexts) (task : LiftedTask) (game : Task) (described : DescribeGround texts task game) (hopeless : IsHopeless game game.init) where
-  hopeless_by : (other : LiftedTask) (another : Task) (budget : ℕ) (reply : Reply) → DescribeGround texts other another → AnswersPlan other another budget reply → reply.status ≡ Unsolvable
+module _ (texts : Texts) (task : LiftedTask) (game : Task) (described : DescribeGround texts task game) (hopeless : IsHopeless game game.init) where
+  hopeless_by : (other : LiftedTask) (another : Task) (budget : ℕ) (reply : Reply) → DescribeGround texts other another → AnswersPlan other another budget reply → reply.ending ≡ Unsolvable
   hopeless_by other another budget reply also (AnswersPlan.policy layers pairs rules items start text cert right lean solves has) =
       let agree = both_alike texts task other game another described also in
       absurd (not_solvable another (agree.hopeless hopeless) ((ground-tasks-agree other another also.1).solvable.1 has))
   hopeless_by other another budget reply also (AnswersPlan.unsolvable layers text cert right none) = refl
   hopeless_by other another budget reply also (AnswersPlan.undecided more hope) = absurd (hope ((both_alike texts task other game another described also).hopeless hopeless))
 
-  hopeless_reply : (budget : ℕ) (reply : Reply) → TaskReply texts (λ task game. AnswersPlan task game budget) reply → reply.status ≡ Unsolvable
+  hopeless_reply : (budget : ℕ) (reply : Reply) → TaskReply texts (λ task game. AnswersPlan task game budget) reply → reply.ending ≡ Unsolvable
   hopeless_reply budget reply (TaskReply.refused fault refusal) = absurd (not_refused texts task fault described.0 refusal)
   hopeless_reply budget reply (TaskReply.answered other another same also answers) = hopeless_by other another budget reply also answers
 
 pub hopeless_refused : HopelessTasksAreRefused
-hopeless_refused texts task game budget reply described hopeless answers = hopeless_reply texts task game described hopeless budget reply answers
+hopeless_refused domain problem side task game budget reply described hopeless answers = hopeless_reply (files domain problem side) task game described hopeless budget reply answers
 
-fault_done : (verdict : Verdict) → IsFault verdict → ¬ verdict_status verdict ≡ Done
+fault_done : (verdict : Verdict) → IsFault verdict → ¬ verdict_ending verdict ≡ Done
 fault_done (Accepted lean) fault same = fault
 fault_done (LayerGoal layer cube) fault same = rejected_done same
 fault_done (LayerAct layer cube act) fault same = rejected_done same
@@ -184,21 +174,21 @@ fault_done (Item number) fault same = rejected_done same
 fault_done Start fault same = rejected_done same
 
 -- the text of a cover is accepted
-cover_accepted : (texts : TaskTexts) (task : LiftedTask) (game : Task) (read : Cert) (text : List ℕ) (reply : Reply) → DescribeGround texts task game → IsCoverText game read text → CheckReply texts text reply → reply.status ≡ Done
-cover_accepted texts task game (Policy layers pairs rules reach) text reply described covers answers = correct texts task game (Covered layers pairs rules covers.0 covers.1) text reply described covers.2 covers.3 answers
+cover_accepted : (texts : Texts) (task : LiftedTask) (game : Task) (read : Cert) (text : List ℕ) (reply : Reply) → DescribeGround texts task game → IsCoverText game read text → CheckReply texts text reply → reply.ending ≡ Done
+cover_accepted texts task game (Policy layers pairs rules reach) text reply described covers answers = accepted texts task game (Covered layers pairs rules covers.0 covers.1) text reply described covers.2 covers.3 answers
 cover_accepted texts task game (Refusal layers) text reply described covers answers = absurd covers
 cover_accepted texts task game (Covered layers pairs rules items start) text reply described covers answers = absurd covers
 
-migrated_by : (texts : TaskTexts) (task : LiftedTask) (game : Task) (cert : List ℕ) (written reply : Reply) → DescribeGround texts task game → AnswersMigrate game cert written → written.status ≡ Done → CheckReply texts written.text reply
-    → reply.status ≡ Done
-migrated_by texts task game cert written reply described (AnswersMigrate.bad_cert code byte fault) status answers = absurd (rejected_done status)
-migrated_by texts task game cert written reply described (AnswersMigrate.rejected read verdict spelled found fault) status answers = absurd (fault_done verdict fault status)
-migrated_by texts task game cert written reply described (AnswersMigrate.covered read text spelled right to_cover covers) status answers = cover_accepted texts task game read text reply described covers answers
-migrated_by texts task game cert written reply described (AnswersMigrate.kept read spelled right other) status answers = correct texts task game read cert reply described spelled right answers
+migrated_by : (texts : Texts) (task : LiftedTask) (game : Task) (cert : List ℕ) (written reply : Reply) → DescribeGround texts task game → AnswersMigrate game cert written → written.ending ≡ Done → CheckReply texts written.text reply
+    → reply.ending ≡ Done
+migrated_by texts task game cert written reply described (AnswersMigrate.bad_cert code byte fault) ends answers = absurd (rejected_done ends)
+migrated_by texts task game cert written reply described (AnswersMigrate.rejected read verdict spelled found fault) ends answers = absurd (fault_done verdict fault ends)
+migrated_by texts task game cert written reply described (AnswersMigrate.covered read text spelled right to_cover covers) ends answers = cover_accepted texts task game read text reply described covers answers
+migrated_by texts task game cert written reply described (AnswersMigrate.kept read spelled right other) ends answers = accepted texts task game read cert reply described spelled right answers
 
-migrated_of : (texts : TaskTexts) (cert : List ℕ) (written reply : Reply) → MigrateReply texts cert written → written.status ≡ Done → CheckReply texts written.text reply → reply.status ≡ Done
-migrated_of texts cert written reply (TaskReply.refused fault refusal) status answers = absurd (refused_done status)
-migrated_of texts cert written reply (TaskReply.answered task game same described answered) status answers = migrated_by texts task game cert written reply described answered status answers
+migrated_of : (texts : Texts) (cert : List ℕ) (written reply : Reply) → MigrateReply texts cert written → written.ending ≡ Done → CheckReply texts written.text reply → reply.ending ≡ Done
+migrated_of texts cert written reply (TaskReply.refused fault refusal) ends answers = absurd (refused_done ends)
+migrated_of texts cert written reply (TaskReply.answered task game same described answered) ends answers = migrated_by texts task game cert written reply described answered ends answers
 
 pub migrated : MigratedAreAccepted
-migrated given other domain problem side cert written reply answered status answers = migrated_of (record { domain = domain; problem = problem; side = side }) cert written reply answered status answers
+migrated domain problem side cert written reply answered ends answers = migrated_of (files domain problem side) cert written reply answered ends answers

@@ -2,7 +2,6 @@ mod Accepted
 mod Answered
 mod Checks
 mod Ends
-mod Fitting
 mod Lists
 mod Migrated
 mod Planned

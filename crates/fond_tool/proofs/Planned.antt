@@ -13,13 +13,13 @@ use Rattle.fond_policy.proofs.Covered.{covers_solve}
 use Rattle.fond_game.specs.Policies.{selected}
 use Rattle.fond_ground.specs.Grounds.{IsGroundOf}
 use Rattle.fond_task.specs.declared.task.Task.{Task}
-use Rattle.fond_tool.specs.Decided.{cert_status, decision_reply}
+use Rattle.fond_tool.specs.Decided.{cert_ending, decision_reply}
 use Rattle.fond_tool.specs.Plans.{AnswersPlan}
 use Rattle.fond_tool.specs.Replies.{Reply}
 use Rattle.fond_tool.proofs.Solvable.{solvable}
 
 module _ (task : LiftedTask) (game : Task) (budget : ℕ) (is : IsGroundOf task game) where
-  certified : (cert : Cert) → IsRightCert game cert → AnswersPlan task game budget (record { text = spelling game cert; status = cert_status cert })
+  certified : (cert : Cert) → IsRightCert game cert → AnswersPlan task game budget (record { text = spelling game cert; ending = cert_ending cert })
   certified (Covered layers pairs rules items start) right =
       let solves = covers_solve game layers pairs rules items start right.right in
       AnswersPlan.policy layers pairs rules items start (spelling game (Covered layers pairs rules items start)) (right.belongs, right.small, refl) right.right right.lean

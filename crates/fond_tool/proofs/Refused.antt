@@ -9,13 +9,13 @@ use Rattle.fond_tree.proofs.NoTree.{no_forest_has_a_fault_lem, no_tree_has_a_fau
 use Rattle.fond_tree.proofs.OneTree.{one_forest_lem, one_tree_lem}
 use Rattle.fond_front.specs.Tasks.{AreTreesOf, IsFirstFault, IsTaskOf, OccursInTexts, OccursInTrees}
 use Rattle.fond_front.specs.declared.parse.Trees.{Trees}
-use Rattle.fond_front.specs.declared.texts.TaskTexts.{TaskTexts}
+use Rattle.fond_front.specs.Texts.{Texts}
 use Rattle.fond_same.proofs.OneTaskOfTexts.{one_files, texts_have_one_task_lem}
 use Rattle.fond_same.proofs.SameFiles.{same_form_faults, same_names_faults, same_side_faults}
 use Rattle.fond_same.proofs.SameGroundFaults.{same_ground_fault}
 use Rattle.fond_tool.specs.Tasks.{Describe, IsRefusal}
 
-module _ (texts : TaskTexts) where
+module _ (texts : Texts) where
   -- texts that are read as trees have no fault as texts
   no_text_fault : (trees : Trees) → AreTreesOf texts trees → (file : FileKind) (place : Place) (code : ℕ) → ¬ OccursInTexts texts file place code
   no_text_fault trees read Domain place code = no_tree_has_a_fault_lem texts.domain trees.domain place code read.domain
@@ -36,6 +36,6 @@ module _ (texts : TaskTexts) where
     no_first_fault fault (inr (inr name)) = is.clean fault.file fault.place fault.code (same_names_faults name.0 is.files (one_files texts name.0 is.files name.1 is.read) fault.file fault.place fault.code name.2.there)
 
 -- texts that describe a task are not refused
-pub not_refused : (texts : TaskTexts) (task : LiftedTask) (fault : Fault) → Describe texts task → ¬ IsRefusal texts fault
+pub not_refused : (texts : Texts) (task : LiftedTask) (fault : Fault) → Describe texts task → ¬ IsRefusal texts fault
 not_refused texts task fault described (inl first) = no_first_fault texts task described.0 fault first
 not_refused texts task fault described (inr large) = described.1 fault (same_ground_fault large.0 task fault (texts_have_one_task_lem texts large.0 task large.1 described.0) large.2)

@@ -1,5 +1,5 @@
 -- Rejections of what a command read, by the errors that they come from.
-use Rattle.std.proofs.Common.{◌≡◌, ℕ, Result, Ok, Err, IfErr, IfSome, IsErrAnd, Option, Some, None, sym, subst}
+use Rattle.std.proofs.Common.{◌≡◌, ℕ, Result, Ok, Err, IfOk, IfErr, IfSome, IsErrAnd, Option, Some, None, sym, subst}
 use Rattle.fond_text.specs.declared.fault.Fault.{Fault}
 use Rattle.fond_text.specs.declared.fault.FrontError.{FrontError}
 use Rattle.fond_text.specs.declared.fault.FrontError.TheVariants as front
@@ -10,6 +10,12 @@ use Rattle.fond_cert.specs.declared.error.CertError.TheVariants as cert
 use Rattle.fond_tool.specs.declared.rejection.Rejection.{Rejection}
 use Rattle.fond_tool.specs.Rejections.{Rejects, reply_to, of_files, of_cert}
 use Rattle.fond_tool.specs.Replies.{Reply, fault_reply, cert_reply}
+use Rattle.fond_ast.specs.declared.task.LiftedTask.{LiftedTask}
+use Rattle.fond_front.specs.Texts.{Texts}
+use Rattle.fond_task.specs.declared.task.Task.{Task}
+use Rattle.fond_tool.specs.Certified.{DescribeGround, TaskReply}
+use Rattle.fond_tool.specs.Tasks.{IsRefusal}
+use Rattle.std.proofs.lemmas.Result.{IfErr-weaker, IfOk-weaker}
 
 -- a call that hands an error on is rejected as the error is
 pub rejected_by : {T : Type 0} (result : Result T Rejection) (rejection : Rejection) (holds : Reply → Type 0) → IsErrAnd result (λ r. r ≡ rejection) → Rejects holds rejection → IfErr result (Rejects holds)
@@ -37,3 +43,21 @@ rejects_also strong weak rejection also rejects = by (reply_to rejection) reject
     by : (found : Option Reply) → IfSome found strong → IfSome found weak
     by None has = tt
     by (Some reply) has = also reply has
+
+-- the replies of a command that works on the task that three texts describe
+module _ (texts : Texts) (Answers : LiftedTask → Task → Reply → Type 0) where
+  -- files that are refused are the reason of a rejection
+  pub refused_files : {T : Type 0} (result : Result T Rejection) (error : FrontError) → IsErrAnd result (λ rejection. rejection ≡ of_files error) → Refuses (IsRefusal texts) error
+      → IfErr result (Rejects (TaskReply texts Answers))
+  refused_files result error is refused =
+      rejected_by result (of_files error) (TaskReply texts Answers) is (files_rejected (TaskReply texts Answers) (IsRefusal texts) (λ (fault : Fault) first. TaskReply.refused fault first) error refused)
+
+  module _ (task : LiftedTask) (game : Task) (described : DescribeGround texts task game) where
+    -- an answer in the task is a reply
+    pub task_replied : {E : Type 0} (result : Result Reply E) → IfOk result (Answers task game) → IfOk result (TaskReply texts Answers)
+    task_replied result answers = IfOk-weaker result _ _ (λ (reply : Reply) is. TaskReply.answered task game reply described is) answers
+
+    -- a rejection in the task is one of the command
+    pub task_rejected : {T : Type 0} (result : Result T Rejection) → IfErr result (Rejects (Answers task game)) → IfErr result (Rejects (TaskReply texts Answers))
+    task_rejected result rejects =
+        IfErr-weaker result _ _ (λ rejection. rejects_also (Answers task game) (TaskReply texts Answers) rejection (λ (reply : Reply) is. TaskReply.answered task game reply described is)) rejects

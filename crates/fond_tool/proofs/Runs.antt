@@ -26,7 +26,7 @@ use Rattle.fond_exec.specs.Scripts.{IsScript, IsScriptFault, ScriptRefuses}
 use Rattle.fond_task.specs.declared.task.Task.{Task}
 use Rattle.fond_task.specs.Truth.{is_true}
 use Rattle.fond_task.proofs.Indices.{length-by_index}
-use Rattle.fond_tool.specs.declared.status.Status.TheVariants.{Done, Stopped}
+use Rattle.fond_tool.specs.declared.status.Ending.TheVariants.{Done, Stopped}
 use Rattle.fond_random.specs.Words.{drawn_words}
 use Rattle.fond_tool.specs.GroundRuns.{IsTraceReply, ground_reply}
 use Rattle.fond_tool.specs.Simulations.{AnswersSimulate}
@@ -48,7 +48,7 @@ last_long pick game rules values words lines last state (steps.took at word left
 reply_alike : (task : LiftedTask) (game : Task) (lines : List ℕ) (last : List Bool) → IsGroundOf task game → IsState game last → ground_reply game lines last ≡ trace_reply task lines (stands task last)
 reply_alike task game lines last is state = λ i. record {
   text = lines ++ texts-agree task game last is state i;
-  status = if same i then Done else Stopped;
+  ending = if same i then Done else Stopped;
 }
   where
     same : is_true last game.goal ≡ holds (stands task last) [] task.goal

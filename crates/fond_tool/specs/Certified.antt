@@ -12,12 +12,12 @@ use Rattle.fond_policy.specs.declared.cert.Cert.{Cert}
 use Rattle.fond_policy.specs.declared.cert.Cert.TheVariants.{Policy, Refusal, Covered}
 use Rattle.fond_ground.specs.Grounds.{IsGroundOf}
 use Rattle.fond_bridge.specs.Solutions.{rules_policy}
-use Rattle.fond_front.specs.declared.texts.TaskTexts.{TaskTexts}
+use Rattle.fond_front.specs.Texts.{Texts}
 use Rattle.fond_tool.specs.Tasks.{Describe, IsRefusal}
 use Rattle.fond_tool.specs.Replies.{Reply, fault_reply}
 
 -- three texts describe a task, and this is its ground task, over whose numbered atoms and actions certificates are written
-abbrev pub DescribeGround : TaskTexts → LiftedTask → Task → Type 0
+abbrev pub DescribeGround : Texts → LiftedTask → Task → Type 0
 DescribeGround texts task game = Describe texts task × IsGroundOf task game
 
 -- a text is that of a certificate of a ground task, whose numbers fit their types
@@ -38,6 +38,6 @@ Claim task game (Refusal layers) = ¬ IsSolvable task
 Claim task game (Covered layers pairs rules items start) = IsSolution task (rules_policy task game rules)
 
 -- the reply of a command that works on a task: a refusal of its files, or an answer in the task that they describe
-pub data TaskReply (texts : TaskTexts) (Answers : LiftedTask → Task → Reply → Type 0) : Reply → Type 0 where
+pub data TaskReply (texts : Texts) (Answers : LiftedTask → Task → Reply → Type 0) : Reply → Type 0 where
   refused : (fault : Fault) → IsRefusal texts fault → TaskReply texts Answers (fault_reply fault)
   answered : (task : LiftedTask) (game : Task) (reply : Reply) → DescribeGround texts task game → Answers task game reply → TaskReply texts Answers reply

@@ -8,15 +8,15 @@ use Rattle.fond_policy.specs.declared.cert.Cert.TheVariants.{Refusal}
 use Rattle.fond_decide.specs.declared.decide.Decision.{Decision}
 use Rattle.fond_decide.specs.declared.decide.Decision.TheVariants.{Certified, Undecided as IsUndecided}
 use Rattle.fond_tool.specs.Replies.{Reply, line_reply}
-use Rattle.fond_tool.specs.declared.status.Status.{Status}
-use Rattle.fond_tool.specs.declared.status.Status.TheVariants.{Done, Unsolvable, Undecided}
+use Rattle.fond_tool.specs.declared.status.Ending.{Ending}
+use Rattle.fond_tool.specs.declared.status.Ending.TheVariants.{Done, Unsolvable, Undecided}
 
--- the status to end with after a certificate is printed
-abbrev pub cert_status : Cert → Status
-cert_status (Refusal layers) = Unsolvable
-cert_status policy = Done
+-- the ending after a certificate is printed
+abbrev pub cert_ending : Cert → Ending
+cert_ending (Refusal layers) = Unsolvable
+cert_ending policy = Done
 
 -- the reply to a decision: the text of its certificate, or `undecided` with the budget
 abbrev pub decision_reply : Task → ℕ → Decision → Reply
-decision_reply game budget (Certified cert) = record { text = spelling game cert; status = cert_status cert }
+decision_reply game budget (Certified cert) = record { text = spelling game cert; ending = cert_ending cert }
 decision_reply game budget IsUndecided = line_reply (codes "undecided " ++ decimal budget) Undecided

@@ -5,17 +5,17 @@ use Rattle.fond_task.specs.Texts.{state_text}
 use Rattle.fond_task.specs.Truth.{is_true}
 use Rattle.fond_game.specs.declared.rule.Rule.{Rule}
 use Rattle.fond_exec.specs.Traces.{Pick, Trace}
-use Rattle.fond_tool.specs.declared.status.Status.{Status}
-use Rattle.fond_tool.specs.declared.status.Status.TheVariants.{Done, Stopped}
+use Rattle.fond_tool.specs.declared.status.Ending.{Ending}
+use Rattle.fond_tool.specs.declared.status.Ending.TheVariants.{Done, Stopped}
 use Rattle.fond_tool.specs.Replies.{Reply}
 
--- the status at the end of a trace
-abbrev pub trace_status : Bool → Status
-trace_status is_goal = if is_goal then Done else Stopped
+-- the ending of a trace
+abbrev pub trace_ending : Bool → Ending
+trace_ending is_goal = if is_goal then Done else Stopped
 
 -- the lines of a trace and the state in which it ends, by the ground task
 abbrev pub ground_reply : Task → List ℕ → List Bool → Reply
-ground_reply game lines last = record { text = lines ++ state_text game last; status = trace_status (is_true last game.goal) }
+ground_reply game lines last = record { text = lines ++ state_text game last; ending = trace_ending (is_true last game.goal) }
 
 -- a reply is that of the trace of rules over words
 abbrev pub IsTraceReply : Pick → Task → List Rule → List ℕ → Reply → Type 0

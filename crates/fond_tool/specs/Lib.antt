@@ -2,12 +2,12 @@ pub mod Bodies
 pub mod Budgets
 pub mod Certified
 pub mod Checks
-pub mod Commands
 pub mod Decided
 pub mod Demos
 pub mod Ends
 pub mod Fetches
 pub mod GroundRuns
+pub mod Jobs
 pub mod Laws
 pub mod Migrations
 pub mod Numbers

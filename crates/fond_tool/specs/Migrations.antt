@@ -9,11 +9,11 @@ use Rattle.fond_cover.specs.Items.{firsts_of, AreLeanItems}
 use Rattle.fond_policy.specs.declared.cert.Cert.{Cert}
 use Rattle.fond_policy.specs.declared.cert.Cert.TheVariants.{Policy, Covered}
 use Rattle.fond_policy.specs.Parts.{IsRight, IsRightCover}
-use Rattle.fond_front.specs.declared.texts.TaskTexts.{TaskTexts}
+use Rattle.fond_front.specs.Texts.{Texts}
 use Rattle.fond_tool.specs.Certified.{IsCertText, TaskReply}
 use Rattle.fond_tool.specs.Checks.{IsFault, verdict_reply}
 use Rattle.fond_tool.specs.Replies.{Reply, cert_reply}
-use Rattle.fond_tool.specs.declared.status.Status.TheVariants.{Done}
+use Rattle.fond_tool.specs.declared.status.Ending.TheVariants.{Done}
 
 -- a certificate is given a cover: it is a policy whose reach number is below 2^32
 abbrev pub IsToCover : Cert → Type 0
@@ -31,9 +31,9 @@ IsCoverText game cert text = ⊥
 pub data AnswersMigrate (game : Task) (cert : List ℕ) : Reply → Type 0 where
   bad_cert : (code byte : ℕ) → IsCertFault game cert code byte → AnswersMigrate game cert (cert_reply code byte)
   rejected : (read : Cert) (verdict : Verdict) → IsCertText game read cert → IsVerdict game read verdict → IsFault verdict → AnswersMigrate game cert (verdict_reply game read verdict)
-  covered : (read : Cert) (text : List ℕ) → IsCertText game read cert → IsRight game read → IsToCover read → IsCoverText game read text → AnswersMigrate game cert (record { text = text; status = Done })
-  kept : (read : Cert) → IsCertText game read cert → IsRight game read → ¬ IsToCover read → AnswersMigrate game cert (record { text = cert; status = Done })
+  covered : (read : Cert) (text : List ℕ) → IsCertText game read cert → IsRight game read → IsToCover read → IsCoverText game read text → AnswersMigrate game cert (record { text = text; ending = Done })
+  kept : (read : Cert) → IsCertText game read cert → IsRight game read → ¬ IsToCover read → AnswersMigrate game cert (record { text = cert; ending = Done })
 
 -- what `migrate` replies: a refusal of its files, or the reply in the task that they describe
-abbrev pub MigrateReply : TaskTexts → List ℕ → Reply → Type 0
+abbrev pub MigrateReply : Texts → List ℕ → Reply → Type 0
 MigrateReply texts cert = TaskReply texts (λ task game. AnswersMigrate game cert)

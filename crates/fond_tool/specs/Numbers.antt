@@ -1,7 +1,20 @@
--- The numbers of the statuses.
+-- The statuses of endings, and the numbers of statuses.
 use Rattle.std.specs.Prelude.{ℕ}
+use Rattle.fond_tool.specs.declared.status.Ending.{Ending}
+use Rattle.fond_tool.specs.declared.status.Ending.TheVariants as ends
 use Rattle.fond_tool.specs.declared.status.Status.{Status}
 use Rattle.fond_tool.specs.declared.status.Status.TheVariants.{Done, Unsolvable, Undecided, Refused, BadWords, ReadFault, WriteFault, Rejected, Stopped, NoMemory}
+
+-- the status of an ending
+abbrev pub status_of : Ending → Status
+status_of ends.Done = Done
+status_of ends.Unsolvable = Unsolvable
+status_of ends.Undecided = Undecided
+status_of ends.Refused = Refused
+status_of ends.BadWords = BadWords
+status_of ends.ReadFault = ReadFault
+status_of ends.Rejected = Rejected
+status_of ends.Stopped = Stopped
 
 -- the number with which the program ends
 abbrev pub number_of : Status → ℕ

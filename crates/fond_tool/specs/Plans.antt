@@ -1,4 +1,4 @@
--- What `plan` replies to the texts of its files and to its budget.
+-- What `plan` replies to the texts of its files, for a budget.
 use Rattle.std.specs.Prelude.{ℕ, List, ◌++◌, codes}
 use Rattle.std.specs.Fmt.{decimal}
 use Rattle.fond_ast.specs.declared.task.LiftedTask.{LiftedTask}
@@ -13,11 +13,10 @@ use Rattle.fond_policy.specs.declared.cert.Cert.TheVariants.{Refusal, Covered}
 use Rattle.fond_policy.specs.Parts.{AreAllLean, IsRightCover}
 use Rattle.fond_relax.specs.Stable.{IsHopeless}
 use Rattle.fond_bridge.specs.Solutions.{rules_policy}
-use Rattle.fond_front.specs.declared.texts.TaskTexts.{TaskTexts}
-use Rattle.fond_tool.specs.Budgets.{IsBudget}
+use Rattle.fond_front.specs.Texts.{Texts}
 use Rattle.fond_tool.specs.Certified.{IsCertText, TaskReply}
 use Rattle.fond_tool.specs.Replies.{Reply, line_reply}
-use Rattle.fond_tool.specs.declared.status.Status.TheVariants.{Done, Unsolvable, Undecided}
+use Rattle.fond_tool.specs.declared.status.Ending.TheVariants.{Done, Unsolvable, Undecided}
 
 -- what `plan` replies in a task with this ground task: the text of a correct policy certificate with a cover, whose pairs,
 -- rules and items are lean, and whose rules are a solution of the task, which then is solvable; the text of a correct refusal,
@@ -26,11 +25,11 @@ use Rattle.fond_tool.specs.declared.status.Status.TheVariants.{Done, Unsolvable,
 pub data AnswersPlan (task : LiftedTask) (game : Task) (budget : ℕ) : Reply → Type 0 where
   policy : (layers : List (List CubeView)) (pairs : List Pair) (rules : List Rule) (items : List Item) (start : ℕ) (text : List ℕ) → IsCertText game (Covered layers pairs rules items start) text
       → IsRightCover game layers pairs rules items start → AreAllLean game layers pairs rules items → IsSolution task (rules_policy task game rules) → IsSolvable task
-      → AnswersPlan task game budget (record { text = text; status = Done })
+      → AnswersPlan task game budget (record { text = text; ending = Done })
   unsolvable : (layers : List (List CubeView)) (text : List ℕ) → IsCertText game (Refusal layers) text → IsRightRefusal game layers → ¬ IsSolvable task
-      → AnswersPlan task game budget (record { text = text; status = Unsolvable })
+      → AnswersPlan task game budget (record { text = text; ending = Unsolvable })
   undecided : More task budget → ¬ IsHopeless game game.init → AnswersPlan task game budget (line_reply (codes "undecided " ++ decimal budget) Undecided)
 
--- what `plan` replies: a refusal of its files, or the reply in the task that they describe, for the budget of its word
-abbrev pub PlanReply : TaskTexts → List ℕ → Reply → Type 0
-PlanReply texts word reply = (budget : ℕ) × IsBudget word budget × TaskReply texts (λ task game. AnswersPlan task game budget) reply
+-- what `plan` replies for a budget: a refusal of its files, or the reply in the task that they describe
+abbrev pub PlanReply : Texts → ℕ → Reply → Type 0
+PlanReply texts budget = TaskReply texts (λ task game. AnswersPlan task game budget)

@@ -1,4 +1,4 @@
--- Replies: a text that is to be written, and the status to end with once it is.
+-- Replies: a text that is to be written, and the ending once it is.
 use Rattle.std.specs.Prelude.{ℕ, List, [], ◌++◌, codes, if◌then◌else◌}
 use Rattle.std.specs.Fmt.{decimal}
 use Rattle.fond_text.specs.declared.fault.Fault.{Fault}
@@ -8,17 +8,17 @@ use Rattle.fond_ast.specs.declared.task.LiftedTask.{LiftedTask}
 use Rattle.fond_meaning.specs.States.{State}
 use Rattle.fond_meaning.specs.Truths.{holds}
 use Rattle.fond_ground.specs.Texts.{state_text}
-use Rattle.fond_tool.specs.declared.status.Status.{Status}
-use Rattle.fond_tool.specs.declared.status.Status.TheVariants.{Done, Refused, Rejected, Stopped}
+use Rattle.fond_tool.specs.declared.status.Ending.{Ending}
+use Rattle.fond_tool.specs.declared.status.Ending.TheVariants.{Done, Refused, Rejected, Stopped}
 
--- a text that is to be written, and the status to end with once it is
+-- a text that is to be written, and the ending once it is
 pub record Reply : Type 0 where
   pub text : List ℕ
-  pub status : Status
+  pub ending : Ending
 
 -- the reply of one line
-abbrev pub line_reply : List ℕ → Status → Reply
-line_reply line status = record { text = line ++ codes "\n"; status = status }
+abbrev pub line_reply : List ℕ → Ending → Reply
+line_reply line ending = record { text = line ++ codes "\n"; ending = ending }
 
 -- the word for a file
 abbrev pub file_word : FileKind → List ℕ
@@ -45,10 +45,10 @@ cert_reply code byte = line_reply (codes "rejected C" ++ decimal code ++ codes "
 abbrev pub script_reply : ℕ → Reply
 script_reply byte = line_reply (codes "rejected S1 at " ++ decimal byte) Rejected
 
--- the status at the end of a run: done in a state that is a goal, and otherwise stopped
-abbrev pub end_status : LiftedTask → State → Status
-end_status task last = if holds last [] task.goal then Done else Stopped
+-- the ending of a run: done in a state that is a goal, and otherwise stopped
+abbrev pub run_ending : LiftedTask → State → Ending
+run_ending task last = if holds last [] task.goal then Done else Stopped
 
 -- the lines of a trace and the state in which it ends
 abbrev pub trace_reply : LiftedTask → List ℕ → State → Reply
-trace_reply task lines last = record { text = lines ++ state_text task last; status = end_status task last }
+trace_reply task lines last = record { text = lines ++ state_text task last; ending = run_ending task last }

@@ -9,7 +9,7 @@ use Rattle.fond_policy.specs.declared.cert.Cert.{Cert}
 use Rattle.fond_exec.specs.Traces.{as_recorded}
 use Rattle.fond_exec.specs.Scripts.{IsScript, IsScriptFault}
 use Rattle.fond_bridge.specs.Traces.{Trace}
-use Rattle.fond_front.specs.declared.texts.TaskTexts.{TaskTexts}
+use Rattle.fond_front.specs.Texts.{Texts}
 use Rattle.fond_tool.specs.Certified.{IsCertText, rules_of, TaskReply}
 use Rattle.fond_tool.specs.Replies.{Reply, cert_reply, script_reply, trace_reply}
 
@@ -21,5 +21,5 @@ pub data AnswersRun (task : LiftedTask) (game : Task) (cert script : List ℕ) :
       → Trace as_recorded task game (rules_of read) (initial task) numbers lines last → AnswersRun task game cert script (trace_reply task lines last)
 
 -- what `run` replies: a refusal of its files, or the reply in the task that they describe
-abbrev pub RunReply : TaskTexts → List ℕ → List ℕ → Reply → Type 0
+abbrev pub RunReply : Texts → List ℕ → List ℕ → Reply → Type 0
 RunReply texts cert script = TaskReply texts (λ task game. AnswersRun task game cert script)

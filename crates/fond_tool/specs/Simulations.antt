@@ -1,4 +1,4 @@
--- What `simulate` replies to the texts of its files, to its seed and to its number of steps.
+-- What `simulate` replies to the texts of its files, for a seed and a number of steps.
 use Rattle.std.specs.Prelude.{ℕ, List}
 use Rattle.fond_ast.specs.declared.task.LiftedTask.{LiftedTask}
 use Rattle.fond_meaning.specs.States.{State}
@@ -8,9 +8,8 @@ use Rattle.fond_cert.specs.Faults.{IsCertFault}
 use Rattle.fond_policy.specs.declared.cert.Cert.{Cert}
 use Rattle.fond_exec.specs.Traces.{by_remainder}
 use Rattle.fond_bridge.specs.Traces.{Trace}
-use Rattle.fond_front.specs.declared.texts.TaskTexts.{TaskTexts}
+use Rattle.fond_front.specs.Texts.{Texts}
 use Rattle.fond_random.specs.Words.{drawn_words}
-use Rattle.fond_tool.specs.Budgets.{IsBudget, IsSeed}
 use Rattle.fond_tool.specs.Certified.{IsCertText, rules_of, TaskReply}
 use Rattle.fond_tool.specs.Replies.{Reply, cert_reply, trace_reply}
 
@@ -21,7 +20,6 @@ pub data AnswersSimulate (task : LiftedTask) (game : Task) (cert : List ℕ) (se
   ran : (read : Cert) (lines : List ℕ) (last : State) → IsCertText game read cert → Trace by_remainder task game (rules_of read) (initial task) (drawn_words seed steps) lines last
       → AnswersSimulate task game cert seed steps (trace_reply task lines last)
 
--- what `simulate` replies: a refusal of its files, or the reply in the task that they describe, for the numbers of its words
-abbrev pub SimulateReply : TaskTexts → List ℕ → List ℕ → List ℕ → Reply → Type 0
-SimulateReply texts cert seed_word steps_word reply =
-    (seed : ℕ) × (steps : ℕ) × IsSeed seed_word seed × IsBudget steps_word steps × TaskReply texts (λ task game. AnswersSimulate task game cert seed steps) reply
+-- what `simulate` replies for a seed and a number of steps: a refusal of its files, or the reply in the task that they describe
+abbrev pub SimulateReply : Texts → List ℕ → ℕ → ℕ → Reply → Type 0
+SimulateReply texts cert seed steps = TaskReply texts (λ task game. AnswersSimulate task game cert seed steps)

@@ -1,4 +1,4 @@
-//! Answers: a text that is to be written, and the status to end with once it is.
+//! Answers: a text that is to be written, and the ending once it is.
 
 ghost use Rattle.fond_edge.specs.Faults.{Rose};
 ghost use Rattle.fond_edge.specs.Written.{Appended, AppendedPart};
@@ -6,7 +6,7 @@ ghost use Rattle.fond_tool.specs.Replies.{line_reply};
 ghost use Rattle.std.specs.Prelude.{◌≡◌, ◌≤◌, IfOk, OnOk, OnErr};
 
 use crate::body::Body;
-use crate::status::Status;
+use crate::status::Ending;
 use fond_cert::text::CertText;
 use fond_edge::send::WriteFault;
 use fond_edge::sink::Sink;
@@ -14,11 +14,11 @@ use fond_text::fault::NoMemory;
 use std::alloc::Global;
 use std::marker::Model;
 
-/// A text that is to be written, and the status to end with once it is. The text of a certificate is not held.
+/// A text that is to be written, and the ending once it is. The text of a certificate is not held.
 #[derive(Drop)]
 pub struct Answer {
     body: Body,
-    status: Status,
+    ending: Ending,
 }
 
 impl Model for Answer {
@@ -27,27 +27,27 @@ impl Model for Answer {
 
     ghost Value = { Reply };
 
-    ghost view = { λ a. record { text = body_text a.body; status = a.status } };
+    ghost view = { λ a. record { text = body_text a.body; ending = a.ending } };
 }
 
 impl Answer {
-    /// The answer of a text and a status.
-    pub fn new(text: Vec<u8>, status: Status) -> Answer
-        ensures { result ≡ record { text = text.items; status = status } }
+    /// The answer of a text and an ending.
+    pub fn new(text: Vec<u8>, ending: Ending) -> Answer
+        ensures { result ≡ record { text = text.items; ending = ending } }
     {
         Answer {
             body: Body::Held(text),
-            status,
+            ending,
         }
     }
 
-    /// The answer of a certificate and a status.
-    pub fn of_cert(text: CertText, status: Status) -> Answer
-        ensures { result ≡ record { text = text; status = status } }
+    /// The answer of a certificate and an ending.
+    pub fn of_cert(text: CertText, ending: Ending) -> Answer
+        ensures { result ≡ record { text = text; ending = ending } }
     {
         Answer {
             body: Body::Printed(text),
-            status,
+            ending,
         }
     }
 
@@ -68,19 +68,19 @@ impl Answer {
         self.body.into_text(alloc)
     }
 
-    /// The status.
-    pub fn status(&self) -> Status
-        ensures { result ≡ self.now.status }
+    /// The ending.
+    pub fn ending(&self) -> Ending
+        ensures { result ≡ self.now.ending }
     {
-        self.status
+        self.ending
     }
 }
 
 /// The answer of one line.
-pub fn line(alloc: Global, words: &[u8], status: Status) -> Result<Answer, NoMemory>
-    ensures { IfOk result (λ answer. answer ≡ line_reply words.now status) }
+pub fn line(alloc: Global, words: &[u8], ending: Ending) -> Result<Answer, NoMemory>
+    ensures { IfOk result (λ answer. answer ≡ line_reply words.now ending) }
 {
     let mut text = Vec::from_slice(alloc, words)?;
     text.push(b'\n')?;
-    Ok(Answer::new(text, status))
+    Ok(Answer::new(text, ending))
 }

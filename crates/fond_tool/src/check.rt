@@ -4,13 +4,13 @@ ghost use Rattle.fond_policy.specs.Belongs.{Belongs};
 ghost use Rattle.fond_check.specs.Verdicts.{IsVerdict};
 ghost use Rattle.fond_check.specs.declared.verdict.Verdict.{Verdict};
 ghost use Rattle.fond_ground.specs.Grounds.{IsGroundOf};
-ghost use Rattle.fond_tool.specs.Checks.{AnswersCheck, CheckReply, verdict_reply, verdict_status};
+ghost use Rattle.fond_tool.specs.Checks.{AnswersCheck, CheckReply, verdict_reply, verdict_ending};
 ghost use Rattle.fond_tool.specs.Rejections.{Rejects};
 ghost use Rattle.std.specs.Prelude.{◌≡◌, IfOk, IfErr};
 
 use crate::answer::Answer;
 use crate::rejection::Rejection;
-use crate::status::Status;
+use crate::status::Ending;
 use crate::task_files::{TaskFiles, read_files};
 use fond_cert::read::read_cert;
 use fond_check::check::check;
@@ -22,13 +22,13 @@ use fond_task::task::Task;
 use fond_text::fault::NoMemory;
 use std::alloc::Global;
 
-/// The status to end with after a verdict.
-fn status_of(verdict: &Verdict) -> Status
-    ensures { result ≡ verdict_status verdict.now }
+/// The ending after a verdict.
+fn ending_of(verdict: &Verdict) -> Ending
+    ensures { result ≡ verdict_ending verdict.now }
 {
     match verdict {
-        Verdict::Accepted { .. } => Status::Done,
-        _ => Status::Rejected,
+        Verdict::Accepted { .. } => Ending::Done,
+        _ => Ending::Rejected,
     }
 }
 
@@ -42,7 +42,7 @@ pub fn answer_of(
     ensures { IfOk result (λ answer. answer ≡ verdict_reply game.now cert.now verdict.now) }
 {
     let text = verdict_text(alloc, game, cert, verdict)?;
-    Ok(Answer::new(text, status_of(verdict)))
+    Ok(Answer::new(text, ending_of(verdict)))
 }
 
 /// The answer to a certificate: the verdict on it.

@@ -6,9 +6,9 @@
 mod answer;
 mod body;
 mod check;
-mod commands;
 mod demo;
 mod fetch;
+mod jobs;
 pub mod laws;
 mod migrate;
 mod plan;

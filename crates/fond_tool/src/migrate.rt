@@ -11,7 +11,7 @@ ghost use Rattle.std.specs.Prelude.{Decides, IfOk, IfErr};
 use crate::answer::Answer;
 use crate::check::answer_of;
 use crate::rejection::Rejection;
-use crate::status::Status;
+use crate::status::Ending;
 use crate::task_files::{TaskFiles, read_files};
 use fond_cert::print::print_cert;
 use fond_cert::read::read_cert;
@@ -61,9 +61,9 @@ fn correct_answer(alloc: Global, game: &Task, cert: Cert, text: &[u8]) -> Result
 {
     if is_to_cover(&cert) {
         let covered = cover_text(alloc, game, cert)?;
-        return Ok(Answer::new(covered, Status::Done));
+        return Ok(Answer::new(covered, Ending::Done));
     }
-    Ok(Answer::new(Vec::from_slice(alloc, text)?, Status::Done))
+    Ok(Answer::new(Vec::from_slice(alloc, text)?, Ending::Done))
 }
 
 /// The answer to a certificate, which has this text.

@@ -3,21 +3,19 @@
 ghost use Rattle.fond_decide.specs.Decisions.{IsDecision, IsRightCert};
 ghost use Rattle.fond_decide.specs.declared.decide.Decision.{Decision};
 ghost use Rattle.fond_ground.specs.Grounds.{IsGroundOf};
-ghost use Rattle.fond_tool.specs.Budgets.{IsBudget};
-ghost use Rattle.fond_tool.specs.Decided.{cert_status, decision_reply};
+ghost use Rattle.fond_tool.specs.Decided.{cert_ending, decision_reply};
 ghost use Rattle.fond_tool.specs.Plans.{AnswersPlan, PlanReply};
 ghost use Rattle.fond_tool.specs.Rejections.{Rejects};
 ghost use Rattle.fond_tool.specs.Replies.{line_reply};
-ghost use Rattle.fond_tool.specs.declared.status.Status.TheVariants.{Undecided as IsUndecided};
+ghost use Rattle.fond_tool.specs.declared.status.Ending.TheVariants.{Undecided as IsUndecided};
 ghost use Rattle.fond_cert.specs.Spellings.{spelling};
 ghost use Rattle.std.specs.Fmt.{decimal};
-ghost use Rattle.std.specs.Prelude.{◌≡◌, ◌≤◌, ◌++◌, ℕ, codes, IfOk, IfErr};
+ghost use Rattle.std.specs.Prelude.{◌≡◌, ◌≤◌, ◌++◌, codes, IfOk, IfErr};
 
 use crate::answer::{Answer, line};
 use crate::rejection::Rejection;
-use crate::status::Status;
+use crate::status::Ending;
 use crate::task_files::{TaskFiles, read_files};
-use crate::words::read_budget;
 use fond_cert::text::CertText;
 use fond_decide::decide::{Decision, decide};
 use fond_front::texts::TaskTexts;
@@ -25,27 +23,26 @@ use fond_policy::cert::Cert;
 use fond_task::task::Task;
 use fond_text::fault::NoMemory;
 use fond_text::number::put_number;
-use fond_text::word::Word;
 use std::alloc::Global;
 
-/// The status to end with after a certificate is printed.
-fn status_of(cert: &Cert) -> Status
-    ensures { result ≡ cert_status cert.now }
+/// The ending after a certificate is printed.
+fn ending_of(cert: &Cert) -> Ending
+    ensures { result ≡ cert_ending cert.now }
 {
     match cert {
-        Cert::Policy { .. } => Status::Done,
-        Cert::Refusal { .. } => Status::Unsolvable,
-        Cert::Covered { .. } => Status::Done,
+        Cert::Policy { .. } => Ending::Done,
+        Cert::Refusal { .. } => Ending::Unsolvable,
+        Cert::Covered { .. } => Ending::Done,
     }
 }
 
 /// The answer of a certificate: its text.
 fn cert_answer(game: Box<Task>, cert: Cert) -> Answer
     requires { IsRightCert game.value cert }
-    ensures { result ≡ record { text = spelling game.value cert; status = cert_status cert } }
+    ensures { result ≡ record { text = spelling game.value cert; ending = cert_ending cert } }
 {
-    let status = status_of(&cert);
-    Answer::of_cert(CertText::new(game, cert), status)
+    let ending = ending_of(&cert);
+    Answer::of_cert(CertText::new(game, cert), ending)
 }
 
 /// The answer that nothing is decided within a budget.
@@ -54,7 +51,7 @@ fn undecided(alloc: Global, budget: u32) -> Result<Answer, NoMemory>
 {
     let mut words = Vec::from_slice(alloc, b"undecided ")?;
     put_number(&mut words, u64::from(budget))?;
-    line(alloc, &words, Status::Undecided)
+    line(alloc, &words, Ending::Undecided)
 }
 
 /// The answer to a task and a budget: what is decided about it.
@@ -79,14 +76,11 @@ pub(crate) fn planned(alloc: Global, files: TaskFiles, budget: u32) -> Result<An
 
 /// The answer to `plan`: a policy, that there is none, or that more states are reachable than the budget and the initial state
 /// is not hopeless.
-pub fn plan(alloc: Global, texts: &TaskTexts, budget: &Word) -> Result<Answer, Rejection>
-    requires { (n : ℕ) × IsBudget budget.now n }
-    ensures replied { IfOk result (PlanReply texts.now budget.now) }
-    ensures rejected { IfErr result (Rejects (PlanReply texts.now budget.now)) }
+pub fn plan(alloc: Global, texts: &TaskTexts, budget: u32) -> Result<Answer, Rejection>
+    requires { budget ≤ 1000000 }
+    ensures replied { IfOk result (PlanReply texts.now budget) }
+    ensures rejected { IfErr result (Rejects (PlanReply texts.now budget)) }
 {
-    let Some(number) = read_budget(budget) else {
-        unreachable!()
-    };
     let files = read_files(alloc, texts)?;
-    Ok(planned(alloc, files, number)?)
+    Ok(planned(alloc, files, budget)?)
 }

@@ -5,7 +5,7 @@ ghost use Rattle.fond_tool.specs.Replies.{file_word, fault_reply, cert_reply, sc
 ghost use Rattle.std.specs.Prelude.{◌≡◌, Some, IfOk};
 
 use crate::answer::{Answer, line};
-use crate::status::Status;
+use crate::status::Ending;
 use fond_cert::error::CertError;
 use fond_exec::script::ScriptError;
 use fond_text::fault::{Fault, FrontError, NoMemory};
@@ -100,7 +100,7 @@ fn fault_answer(alloc: Global, fault: Fault) -> Result<Answer, NoMemory>
     put_number(&mut words, u64::from(fault.place.column))?;
     words.extend_from_slice(b" F")?;
     put_number(&mut words, u64::from(fault.code))?;
-    line(alloc, &words, Status::Refused)
+    line(alloc, &words, Ending::Refused)
 }
 
 /// The rejection of a certificate.
@@ -111,7 +111,7 @@ fn cert_answer(alloc: Global, code: u8, byte: u64) -> Result<Answer, NoMemory>
     put_number(&mut words, u64::from(code))?;
     words.extend_from_slice(b" at ")?;
     put_number(&mut words, byte)?;
-    line(alloc, &words, Status::Rejected)
+    line(alloc, &words, Ending::Rejected)
 }
 
 /// The rejection of a script.
@@ -120,7 +120,7 @@ fn script_answer(alloc: Global, byte: u64) -> Result<Answer, NoMemory>
 {
     let mut words = Vec::from_slice(alloc, b"rejected S1 at ")?;
     put_number(&mut words, byte)?;
-    line(alloc, &words, Status::Rejected)
+    line(alloc, &words, Ending::Rejected)
 }
 
 /// The answer to a rejection, which has one unless memory ran out.
@@ -129,7 +129,7 @@ pub fn answer_to(alloc: Global, rejection: Rejection) -> Result<Answer, NoMemory
 {
     match rejection {
         Rejection::Fault(fault) => fault_answer(alloc, fault),
-        Rejection::UnknownAction => line(alloc, b"rejected C3 at 0", Status::Rejected),
+        Rejection::UnknownAction => line(alloc, b"rejected C3 at 0", Ending::Rejected),
         Rejection::Cert { code, byte } => cert_answer(alloc, code, byte),
         Rejection::Script { byte } => script_answer(alloc, byte),
         Rejection::NoMemory => Err(NoMemory),

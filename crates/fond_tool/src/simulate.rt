@@ -4,17 +4,15 @@ ghost use Rattle.fond_exec.specs.Traces.{by_remainder};
 ghost use Rattle.fond_ground.specs.Grounds.{IsGroundOf};
 ghost use Rattle.fond_random.specs.Words.{drawn_words};
 ghost use Rattle.fond_rules.specs.Belongs.{BelongTo};
-ghost use Rattle.fond_tool.specs.Budgets.{IsBudget, IsSeed};
 ghost use Rattle.fond_tool.specs.GroundRuns.{IsTraceReply};
 ghost use Rattle.fond_tool.specs.Rejections.{Rejects};
 ghost use Rattle.fond_tool.specs.Simulations.{AnswersSimulate, SimulateReply};
-ghost use Rattle.std.specs.Prelude.{ℕ, IfOk, IfErr};
+ghost use Rattle.std.specs.Prelude.{IfOk, IfErr};
 
 use crate::answer::Answer;
 use crate::rejection::Rejection;
 use crate::task_files::{TaskFiles, read_files};
 use crate::traced::{rules_of, trace_answer};
-use crate::words::{read_budget, read_seed};
 use fond_cert::read::read_cert;
 use fond_exec::simulate::simulate as put_simulation;
 use fond_front::texts::TaskTexts;
@@ -22,7 +20,6 @@ use fond_random::words::draw_words;
 use fond_rules::rules::Rules;
 use fond_task::task::Task;
 use fond_text::fault::NoMemory;
-use fond_text::word::Word;
 use std::alloc::Global;
 
 /// The trace of rules over drawn words, with the last state.
@@ -60,44 +57,18 @@ fn certified_simulation(
     Ok(drawn_answer(alloc, game, &rules, seed, steps)?)
 }
 
-/// What `simulate` draws.
-#[derive(Clone, Copy)]
-struct Draws {
-    seed: u64,
-    steps: u32,
-}
-
-/// The numbers that the words write.
-fn read_draws(seed: &Word, steps: &Word) -> Draws
-    requires seed { (n : ℕ) × IsSeed seed.now n }
-    requires steps { (n : ℕ) × IsBudget steps.now n }
-    ensures seed { IsSeed seed.now result.seed }
-    ensures steps { IsBudget steps.now result.steps }
-{
-    let Some(seed) = read_seed(seed) else {
-        unreachable!()
-    };
-    let Some(steps) = read_budget(steps) else {
-        unreachable!()
-    };
-    Draws { seed, steps }
-}
-
 /// The answer to `simulate`: the trace of the certificate's rules over as many drawn words as there are steps, or why there is
 /// none.
 pub fn simulate(
     alloc: Global,
     texts: &TaskTexts,
     cert: &[u8],
-    seed: &Word,
-    steps: &Word,
+    seed: u64,
+    steps: u32,
 ) -> Result<Answer, Rejection>
-    requires seed { (n : ℕ) × IsSeed seed.now n }
-    requires steps { (n : ℕ) × IsBudget steps.now n }
-    ensures replied { IfOk result (SimulateReply texts.now cert.now seed.now steps.now) }
-    ensures rejected { IfErr result (Rejects (SimulateReply texts.now cert.now seed.now steps.now)) }
+    ensures replied { IfOk result (SimulateReply texts.now cert.now seed steps) }
+    ensures rejected { IfErr result (Rejects (SimulateReply texts.now cert.now seed steps)) }
 {
-    let draws = read_draws(seed, steps);
     let files = read_files(alloc, texts)?;
-    certified_simulation(alloc, &files, cert, draws.seed, draws.steps)
+    certified_simulation(alloc, &files, cert, seed, steps)
 }

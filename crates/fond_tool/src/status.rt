@@ -1,6 +1,6 @@
 //! How the tool ends.
 
-ghost use Rattle.fond_tool.specs.Numbers.{number_of};
+ghost use Rattle.fond_tool.specs.Numbers.{number_of, status_of};
 ghost use Rattle.std.specs.Prelude.{◌≡◌};
 
 /// How the tool ended, in the order of the numbers.
@@ -26,6 +26,37 @@ pub enum Status {
     Stopped,
     /// Memory ran out, and nothing was written.
     NoMemory,
+}
+
+/// How a reply ends once its text is written: as the tool does, but for a write fault and for want of memory.
+#[derive(Clone, Copy, Debug, PartialEq, Eq)]
+pub enum Ending {
+    Done,
+    Unsolvable,
+    Undecided,
+    Refused,
+    BadWords,
+    ReadFault,
+    Rejected,
+    Stopped,
+}
+
+impl Ending {
+    /// The status of the ending.
+    pub(crate) fn status(self) -> Status
+        ensures { result ≡ status_of self }
+    {
+        match self {
+            Ending::Done => Status::Done,
+            Ending::Unsolvable => Status::Unsolvable,
+            Ending::Undecided => Status::Undecided,
+            Ending::Refused => Status::Refused,
+            Ending::BadWords => Status::BadWords,
+            Ending::ReadFault => Status::ReadFault,
+            Ending::Rejected => Status::Rejected,
+            Ending::Stopped => Status::Stopped,
+        }
+    }
 }
 
 impl Status {

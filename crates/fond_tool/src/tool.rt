@@ -1,35 +1,29 @@
 //! The one call of the program.
 
-ghost use Rattle.fond_tool.specs.Commands.{CommandReply};
-ghost use Rattle.fond_tool.specs.Ends.{ToolReply, FitsNone, Ends};
-ghost use Rattle.fond_tool.specs.Words.{kinds_of, file_count, IsOfKind};
-ghost use Rattle.std.specs.List.{AllZip};
-ghost use Rattle.std.specs.Prelude.{◌≡◌, ◌≤◌, length, IfOk};
+ghost use Rattle.fond_tool.specs.Jobs.{JobReply};
+ghost use Rattle.fond_tool.specs.Ends.{ToolReply, Ends};
+ghost use Rattle.fond_tool.specs.Words.{AskForNone, Say, command_of, file_count};
+ghost use Rattle.std.specs.Prelude.{◌≡◌, ◌≤◌, ℕ, List, length, IfOk};
 
 use crate::answer::{Answer, line};
-use crate::commands::do_command;
 use crate::fetch::{Content, fetch_all};
+use crate::jobs::do_job;
 use crate::rejection::answer_to;
-use crate::status::Status;
-use crate::words::{Command, given_words};
+use crate::status::{Ending, Status};
+use crate::words::{Job, read_words};
 use fond_edge::shelf::{FetchFault, Shelf};
 use fond_edge::sink::Sink;
 use fond_text::fault::NoMemory;
 use fond_text::word::Word;
 use std::alloc::Global;
 
-/// The answer of a command, or the answer to its rejection.
-fn command_answer(
-    alloc: Global,
-    command: Command,
-    words: &[Word],
-    contents: &[Content],
-) -> Result<Answer, NoMemory>
-    requires kinds { AllZip IsOfKind (kinds_of command) words.now }
-    requires count { length contents.now ≡ file_count command }
-    ensures { IfOk result (CommandReply command words.now contents.now) }
+/// The answer of a job, or the answer to its rejection.
+fn job_answer(alloc: Global, job: Job, contents: &[Content]) -> Result<Answer, NoMemory>
+    requires said { (rest : List (List ℕ)) × Say rest job }
+    requires count { length contents.now ≡ file_count (command_of job) }
+    ensures { IfOk result (JobReply job contents.now) }
 {
-    match do_command(alloc, command, words, contents) {
+    match do_job(alloc, job, contents) {
         Ok(answer) => Ok(answer),
         Err(rejection) => answer_to(alloc, rejection),
     }
@@ -38,17 +32,16 @@ fn command_answer(
 /// The answer to the words of a command line.
 fn answer<S: Shelf>(alloc: Global, words: &[Word], shelf: &mut S) -> Result<Answer, NoMemory>
     ensures answered { IfOk result (ToolReply words.now (record { held = S.held shelf.old; before = S.faults shelf.old; after = S.faults shelf.new })) }
-    ensures unfetched { FitsNone words.now → shelf.new ≡ shelf.old }
+    ensures unfetched { AskForNone words.now → shelf.new ≡ shelf.old }
     ensures kept { S.held shelf.new ≡ S.held shelf.old }
     ensures counted { S.faults shelf.old ≤ S.faults shelf.new }
 {
-    let Some(given) = given_words(alloc, words)? else {
-        return line(alloc, b"bad words", Status::BadWords);
+    let Some(asked) = read_words(alloc, words)? else {
+        return line(alloc, b"bad words", Ending::BadWords);
     };
-    let names = &given.words[..given.command.file_count()];
-    match fetch_all(alloc, shelf, names) {
-        Ok(contents) => command_answer(alloc, given.command, given.words, contents.as_slice()),
-        Err(FetchFault::Failed) => line(alloc, b"read fault", Status::ReadFault),
+    match fetch_all(alloc, shelf, asked.names) {
+        Ok(contents) => job_answer(alloc, asked.job, contents.as_slice()),
+        Err(FetchFault::Failed) => line(alloc, b"read fault", Ending::ReadFault),
         Err(FetchFault::NoMemory) => Err(NoMemory),
     }
 }
@@ -71,8 +64,8 @@ pub fn run_tool<S: Shelf, K: Sink>(
         (record { old = K.written sink.old; new = K.written sink.new; before = K.faults sink.old; after = K.faults sink.new })
         result }
 
-    // The shelf stays as it is if the words fit no command, and the sink if memory ran out.
-    ensures unfetched { FitsNone words.now → shelf.new ≡ shelf.old }
+    // The shelf stays as it is if the words ask for no job, and the sink if memory ran out.
+    ensures unfetched { AskForNone words.now → shelf.new ≡ shelf.old }
     ensures unwritten { result ≡ Status.NoMemory → sink.new ≡ sink.old }
 
     ensures kept { S.held shelf.new ≡ S.held shelf.old }
@@ -81,7 +74,7 @@ pub fn run_tool<S: Shelf, K: Sink>(
 {
     match answer(alloc, words, shelf) {
         Ok(answer) => match answer.send(sink) {
-            Ok(()) => answer.status(),
+            Ok(()) => answer.ending().status(),
             Err(_) => Status::WriteFault,
         },
         Err(NoMemory) => Status::NoMemory,

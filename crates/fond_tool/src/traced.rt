@@ -1,11 +1,11 @@
 //! What the commands that follow rules have in common.
 
 ghost use Rattle.fond_tool.specs.Certified.{rules_of as all_rules_of};
-ghost use Rattle.fond_tool.specs.GroundRuns.{trace_status};
+ghost use Rattle.fond_tool.specs.GroundRuns.{trace_ending};
 ghost use Rattle.std.specs.Prelude.{◌≡◌};
 
 use crate::answer::Answer;
-use crate::status::Status;
+use crate::status::Ending;
 use fond_policy::cert::Cert;
 use fond_rules::rules::Rules;
 use std::alloc::Global;
@@ -23,12 +23,12 @@ pub fn rules_of(alloc: Global, cert: Cert) -> Rules
 
 /// The answer of the text of a trace, which ends at a goal or not.
 pub fn trace_answer(text: Vec<u8>, is_goal: bool) -> Answer
-    ensures { result ≡ record { text = text.items; status = trace_status is_goal } }
+    ensures { result ≡ record { text = text.items; ending = trace_ending is_goal } }
 {
-    let status = if is_goal {
-        Status::Done
+    let ending = if is_goal {
+        Ending::Done
     } else {
-        Status::Stopped
+        Ending::Stopped
     };
-    Answer::new(text, status)
+    Answer::new(text, ending)
 }

@@ -27,9 +27,9 @@ returns-in_err-side-clause-refused c =
     (refuses_also _ (IsFirstAmong occurs) (λ (fault : Fault). side_first occurs fault c.in_ok-domain.ensures.clean c.in_ok-problem.ensures.clean) error (rw c.as_slice.ensures.value at c.in_err-side.ensures.refused))
 
 pub returns-clause-read : goal.returns-clause-read
-returns-clause-read c = record {
+returns-clause-read c = λ texts read. record {
   trees = c.args.trees.now;
-  read = c.requires;
+  read = read;
   clean = forms_clean c.args.trees.now c.in_ok-domain.ensures.clean c.in_ok-problem.ensures.clean (rw c.as_slice.ensures.value at c.in_ok-side.ensures.clean);
   domain = c.in_ok-domain.ensures.read;
   problem = c.in_ok-problem.ensures.read;
@@ -37,7 +37,7 @@ returns-clause-read c = record {
 }
 
 pub read_domain-requires : goal.read_domain-requires
-read_domain-requires c = short_if_read c.args.texts.now.domain c.args.trees.now.domain c.requires.domain
+read_domain-requires c = short_if_read c.requires.0.domain c.args.trees.now.domain c.requires.1.domain
 
 pub read_problem-requires : goal.read_problem-requires
-read_problem-requires c = short_if_read c.args.texts.now.problem c.args.trees.now.problem c.requires.problem
+read_problem-requires c = short_if_read c.requires.0.problem c.args.trees.now.problem c.requires.1.problem

@@ -17,8 +17,11 @@ returns-in_err-files-clause-refused c =
 
 pub returns-clause-read : goal.returns-clause-read
 returns-clause-read c =
-    task_read c.args.texts.now (declarations_of c.in_ok-files.files) c.in_ok-files.ensures.read c.resolve.result c.resolve.ensures.clean c.resolve.ensures.resolved
+    task_read c.args.texts.now (declarations_of c.in_ok-files.files) (c.in_ok-files.ensures.read c.args.texts.now c.in_ok-trees.ensures.read) c.resolve.result c.resolve.ensures.clean c.resolve.ensures.resolved
 
 pub returns-clause-refused : goal.returns-clause-refused
 returns-clause-refused c =
-    IfErr-weaker c.resolve.result _ _ (λ error refused. names_fault c.args.texts.now (declarations_of c.in_ok-files.files) c.in_ok-files.ensures.read error refused) c.resolve.ensures.refused
+    IfErr-weaker c.resolve.result _ _ (λ error refused. names_fault c.args.texts.now (declarations_of c.in_ok-files.files) (c.in_ok-files.ensures.read c.args.texts.now c.in_ok-trees.ensures.read) error refused) c.resolve.ensures.refused
+
+pub declare-requires : goal.declare-requires
+declare-requires c = (c.args.texts.now, c.in_ok-trees.ensures.read)

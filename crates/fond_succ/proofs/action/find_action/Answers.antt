@@ -1,9 +1,13 @@
 use Rattle.std.proofs.Common.{sym}
-use Rattle.fond_succ.proofs.Names.{leaves_of_node, by_word}
+use Rattle.fond_succ.proofs.Names.{leaves_of_node}
 use Rattle.fond_succ.proofs.action.find_action.Goals as goal
+
+pub find_named-requires : goal.find_named-requires
+find_named-requires c =
+    let members = rw c.in-Some.is at c.members.ensures in
+    leaves_of_node c.args.action.now c.in-Some.members.now c.requires (sym members)
 
 pub returns : goal.returns
 returns c =
-    let read = rw c.in-Some.is at c.in_ok-action.ensures in
-    let members = rw c.in-Some-members.is at c.members.ensures in
-    by_word c.args.task.now c.args.word.now c.in-Some.action c.in-Some-members.members.now read.0 (sym members) (leaves_of_node c.in-Some.action c.in-Some-members.members.now read.1 (sym members)) c.find_named.result c.find_named.ensures
+    let members = rw c.in-Some.is at c.members.ensures in
+    rw (sym members) c.find_named.ensures

@@ -1,28 +1,17 @@
-use Rattle.std.proofs.lemmas.Result.{IfErr-weaker, IfOk-weaker}
-use Rattle.fond_text.specs.declared.fault.Fault.{Fault}
-use Rattle.fond_tool.specs.Rejections.{of_files}
-use Rattle.fond_tool.specs.Replies.{Reply}
-use Rattle.fond_tool.specs.Certified.{TaskReply}
-use Rattle.fond_tool.specs.Checks.{CheckReply}
-use Rattle.fond_tool.specs.Tasks.{IsRefusal}
-use Rattle.fond_tool.proofs.Rejections.{files_rejected, rejected_by, rejects_also}
+use Rattle.fond_tool.specs.Checks.{AnswersCheck}
+use Rattle.fond_tool.proofs.Rejections.{refused_files, task_rejected, task_replied}
 use Rattle.fond_tool.proofs.check.check_cert.Goals as goal
 
 pub returns-in_err-files-clause-rejected : goal.returns-in_err-files-clause-rejected
-returns-in_err-files-clause-rejected c =
-    let holds = CheckReply c.args.texts.now c.args.cert.now in
-    let error = c.in_err-files.field-0.0 in
-    rejected_by _ (of_files error) holds c.from_residual.ensures.1
-    (files_rejected holds (IsRefusal c.args.texts.now) (λ (fault : Fault) first. TaskReply.refused fault first) error c.in_err-files.ensures.refused)
+returns-in_err-files-clause-rejected c = refused_files c.args.texts.now (λ task game. AnswersCheck task game c.args.cert.now) _ c.in_err-files.field-0.0 c.from_residual.ensures.1 c.in_err-files.ensures.refused
 
 pub certified_verdict-requires : goal.certified_verdict-requires
 certified_verdict-requires c = c.in_ok-files.ensures.read.1
 
 pub returns-clause-replied : goal.returns-clause-replied
 returns-clause-replied c =
-    IfOk-weaker c.certified_verdict.result _ _ (λ (reply : Reply) answers. TaskReply.answered c.in_ok-files.files.task.value c.in_ok-files.files.game.value reply c.in_ok-files.ensures.read answers) c.certified_verdict.ensures.replied
+    task_replied c.args.texts.now (λ task game. AnswersCheck task game c.args.cert.now) c.in_ok-files.files.task.value c.in_ok-files.files.game.value c.in_ok-files.ensures.read c.certified_verdict.result c.certified_verdict.ensures.replied
 
 pub returns-clause-rejected : goal.returns-clause-rejected
 returns-clause-rejected c =
-    IfErr-weaker c.certified_verdict.result _ _
-    (λ rejection. rejects_also _ _ rejection (λ (reply : Reply) answers. TaskReply.answered c.in_ok-files.files.task.value c.in_ok-files.files.game.value reply c.in_ok-files.ensures.read answers)) c.certified_verdict.ensures.rejected
+    task_rejected c.args.texts.now (λ task game. AnswersCheck task game c.args.cert.now) c.in_ok-files.files.task.value c.in_ok-files.files.game.value c.in_ok-files.ensures.read c.certified_verdict.result c.certified_verdict.ensures.rejected

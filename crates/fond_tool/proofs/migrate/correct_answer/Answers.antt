@@ -2,7 +2,7 @@ use Rattle.std.proofs.Common.{◌∙◌, ℕ, List, sym, ap, subst}
 use Rattle.std.proofs.lemmas.Bool.{false≢true}
 use Rattle.fond_tool.specs.Migrations.{AnswersMigrate}
 use Rattle.fond_tool.specs.Replies.{Reply}
-use Rattle.fond_tool.specs.declared.status.Status.TheVariants.{Done}
+use Rattle.fond_tool.specs.declared.status.Ending.TheVariants.{Done}
 use Rattle.fond_tool.proofs.migrate.correct_answer.Goals as goal
 
 pub returns-then-is_to_cover : goal.returns-then-is_to_cover
@@ -12,6 +12,6 @@ returns-then-is_to_cover c =
 
 pub returns : goal.returns
 returns c =
-    let reply : List ℕ → Reply = λ text. record { text = text; status = Done } in
+    let reply : List ℕ → Reply = λ text. record { text = text; ending = Done } in
     subst (AnswersMigrate c.args.game.now c.args.text.now) (sym (c.new-2.ensures ∙ ap reply c.in_ok-from_slice.ensures.items))
     (AnswersMigrate.kept c.args.cert c.requires.spelled c.requires.right (λ to_cover. false≢true (sym c.if-is_to_cover.false ∙ c.is_to_cover.ensures.1 to_cover)))

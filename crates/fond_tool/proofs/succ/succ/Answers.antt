@@ -1,27 +1,20 @@
-use Rattle.std.proofs.lemmas.Result.{IfErr-weaker, IfOk-weaker}
-use Rattle.fond_text.specs.declared.fault.Fault.{Fault}
-use Rattle.fond_tool.specs.Rejections.{of_files}
-use Rattle.fond_tool.specs.Replies.{Reply}
-use Rattle.fond_tool.specs.Successors.{SuccReply}
-use Rattle.fond_tool.specs.Tasks.{IsRefusal}
-use Rattle.fond_tool.proofs.Rejections.{files_rejected, rejected_by, rejects_also}
+use Rattle.fond_succ.specs.Actions.{names_of}
+use Rattle.fond_tool.specs.Successors.{AnswersNames}
+use Rattle.fond_tool.proofs.Rejections.{refused_files, task_rejected, task_replied}
 use Rattle.fond_tool.proofs.succ.succ.Goals as goal
 
 pub returns-in_err-files-clause-rejected : goal.returns-in_err-files-clause-rejected
-returns-in_err-files-clause-rejected c =
-    let holds = SuccReply c.args.texts.now c.args.action.now in
-    let error = c.in_err-files.field-0.0 in
-    rejected_by _ (of_files error) holds c.from_residual.ensures.1
-    (files_rejected holds (IsRefusal c.args.texts.now) (λ (fault : Fault) first. SuccReply.refused fault first) error c.in_err-files.ensures.refused)
+returns-in_err-files-clause-rejected c = refused_files c.args.texts.now (λ task game. AnswersNames task (names_of c.args.action.now)) _ c.in_err-files.field-0.0 c.from_residual.ensures.1 c.in_err-files.ensures.refused
 
 pub named_successors-requires-clause-ground : goal.named_successors-requires-clause-ground
 named_successors-requires-clause-ground c = rw (c.deref-task.ensures, c.deref-game.ensures) c.in_ok-files.ensures.read.1
 
 pub returns-clause-replied : goal.returns-clause-replied
 returns-clause-replied c =
-    IfOk-weaker c.named_successors.result _ _ (λ (reply : Reply) answers. SuccReply.answered c.in_ok-files.files.task.value reply c.in_ok-files.ensures.read.0 answers) (rw c.deref-task.ensures at c.named_successors.ensures.replied)
+    task_replied c.args.texts.now (λ task game. AnswersNames task (names_of c.args.action.now)) c.in_ok-files.files.task.value c.in_ok-files.files.game.value c.in_ok-files.ensures.read c.named_successors.result
+    (rw c.deref-task.ensures at c.named_successors.ensures.replied)
 
 pub returns-clause-rejected : goal.returns-clause-rejected
 returns-clause-rejected c =
-    IfErr-weaker c.named_successors.result _ _
-    (λ rejection. rejects_also _ _ rejection (λ (reply : Reply) answers. SuccReply.answered c.in_ok-files.files.task.value reply c.in_ok-files.ensures.read.0 answers)) (rw c.deref-task.ensures at c.named_successors.ensures.rejected)
+    task_rejected c.args.texts.now (λ task game. AnswersNames task (names_of c.args.action.now)) c.in_ok-files.files.task.value c.in_ok-files.files.game.value c.in_ok-files.ensures.read c.named_successors.result
+    (rw c.deref-task.ensures at c.named_successors.ensures.rejected)

@@ -1,0 +1,29 @@
+-- What each job replies.
+use Rattle.std.specs.Prelude.{ℕ, List, [], ◌∷◌}
+use Rattle.fond_front.specs.Texts.{Texts}
+use Rattle.fond_succ.specs.Actions.{names_of}
+use Rattle.fond_tool.specs.declared.words.Job.{Job}
+use Rattle.fond_tool.specs.declared.words.Job.TheVariants.{Succ, Run, Check, Plan, Migrate, Simulate, Demo}
+use Rattle.fond_tool.specs.Checks.{CheckReply}
+use Rattle.fond_tool.specs.Demos.{DemoReply}
+use Rattle.fond_tool.specs.Migrations.{MigrateReply}
+use Rattle.fond_tool.specs.Plans.{PlanReply}
+use Rattle.fond_tool.specs.Replies.{Reply}
+use Rattle.fond_tool.specs.Runs.{RunReply}
+use Rattle.fond_tool.specs.Simulations.{SimulateReply}
+use Rattle.fond_tool.specs.Successors.{SuccReply}
+
+-- the texts of a domain, a problem and a side list
+abbrev pub texts : List ℕ → List ℕ → List ℕ → Texts
+texts domain problem side = record { domain = domain; problem = problem; side = side }
+
+-- what a job replies to the contents of its files, in order; the side list of `succ` is empty
+abbrev pub JobReply : Job → List (List ℕ) → Reply → Type 0
+JobReply (Succ action) (domain ∷ problem ∷ []) = SuccReply (texts domain problem []) (names_of action)
+JobReply Run (domain ∷ problem ∷ side ∷ cert ∷ script ∷ []) = RunReply (texts domain problem side) cert script
+JobReply Check (domain ∷ problem ∷ side ∷ cert ∷ []) = CheckReply (texts domain problem side) cert
+JobReply (Plan budget) (domain ∷ problem ∷ side ∷ []) = PlanReply (texts domain problem side) budget
+JobReply Migrate (domain ∷ problem ∷ side ∷ cert ∷ []) = MigrateReply (texts domain problem side) cert
+JobReply (Simulate seed steps) (domain ∷ problem ∷ side ∷ cert ∷ []) = SimulateReply (texts domain problem side) cert seed steps
+JobReply (Demo size) [] = DemoReply size
+JobReply job contents = λ reply. ⊥

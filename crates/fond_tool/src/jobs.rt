@@ -1,0 +1,65 @@
+//! The jobs, each over the contents of its files.
+
+ghost use Rattle.fond_tool.specs.Jobs.{JobReply, texts as texts_by};
+ghost use Rattle.fond_tool.specs.Rejections.{Rejects};
+ghost use Rattle.fond_tool.specs.Words.{command_of, file_count, Say};
+ghost use Rattle.std.specs.Prelude.{◌≡◌, ◌≤◌, [], ℕ, List, get_or, length, IfOk, IfErr};
+
+use crate::answer::Answer;
+use crate::check::check_cert;
+use crate::demo::demo;
+use crate::fetch::Content;
+use crate::migrate::migrate;
+use crate::plan::plan;
+use crate::rejection::Rejection;
+use crate::run::run;
+use crate::simulate::simulate;
+use crate::succ::succ;
+use crate::words::Job;
+use fond_front::texts::TaskTexts;
+use std::alloc::Global;
+
+/// The texts of the task that the first three files describe.
+fn texts(contents: &[Content]) -> TaskTexts<'_>
+    requires { 3 ≤ length contents.now }
+    ensures { result ≡ texts_by (get_or contents.now 0 []) (get_or contents.now 1 []) (get_or contents.now 2 []) }
+{
+    TaskTexts::new(
+        contents[0].bytes(),
+        contents[1].bytes(),
+        contents[2].bytes(),
+    )
+}
+
+/// The texts of the task that two files describe, with an empty side list.
+fn texts_without_side(contents: &[Content]) -> TaskTexts<'_>
+    requires { 2 ≤ length contents.now }
+    ensures { result ≡ texts_by (get_or contents.now 0 []) (get_or contents.now 1 []) [] }
+{
+    TaskTexts::new(contents[0].bytes(), contents[1].bytes(), &[])
+}
+
+/// The answer of a job to the contents of its files.
+pub fn do_job(alloc: Global, job: Job, contents: &[Content]) -> Result<Answer, Rejection>
+    requires said { (rest : List (List ℕ)) × Say rest job }
+    requires count { length contents.now ≡ file_count (command_of job) }
+    ensures replied { IfOk result (JobReply job contents.now) }
+    ensures rejected { IfErr result (Rejects (JobReply job contents.now)) }
+{
+    match job {
+        Job::Succ { action } => succ(alloc, &texts_without_side(contents), &action),
+        Job::Run => run(
+            alloc,
+            &texts(contents),
+            contents[3].bytes(),
+            contents[4].bytes(),
+        ),
+        Job::Check => check_cert(alloc, &texts(contents), contents[3].bytes()),
+        Job::Plan { budget } => plan(alloc, &texts(contents), budget),
+        Job::Migrate => migrate(alloc, &texts(contents), contents[3].bytes()),
+        Job::Simulate { seed, steps } => {
+            simulate(alloc, &texts(contents), contents[3].bytes(), seed, steps)
+        }
+        Job::Demo { size } => demo(alloc, size),
+    }
+}
