@@ -1,10 +1,14 @@
 //! Rules in words: which is the first that holds in a state, and which atoms keep the earlier ones from holding.
 
+use crate::opposed::Opposed;
 use fond_heuristic::condition::{Mask, all_hold};
 use fond_heuristic::index::{Literal, NONE, at, bit_of, has, link_at, put, put_bit, size, word_at};
 use fond_state::cube::Cube;
 use fond_text::fault::NoMemory;
 use std::alloc::Global;
+
+/// Up to this many atoms in conditions, all of them are looked at for 64 rules at once.
+const FEW_ATOMS: usize = 128;
 
 /// Rules in order, each filed under one of its literals, so that only few are looked at in a state.
 #[derive(Drop)]
@@ -20,6 +24,8 @@ pub(crate) struct Choices {
     filed_false: Vec<u64>,
     /// The first rule without literals.
     whole: u32,
+    /// Which rules a literal keeps from holding.
+    opposed: Opposed,
     /// The earlier rules that are to be kept from holding.
     rivals: Vec<u32>,
     /// By atom: how many of these it keeps from holding.
@@ -159,6 +165,7 @@ impl Choices {
         let filed_true = vec![in alloc; 0; width as usize]?;
         let filed_false = vec![in alloc; 0; width as usize]?;
         let counts = vec![in alloc; 0; atoms as usize]?;
+        let opposed = Opposed::new(alloc, atoms, width)?;
         Ok(Choices {
             masks: Vec::new(alloc),
             ends: Vec::new(alloc),
@@ -167,6 +174,7 @@ impl Choices {
             filed_true,
             filed_false,
             whole: NONE,
+            opposed,
             rivals: Vec::new(alloc),
             counts,
             work: 0,
@@ -239,6 +247,14 @@ impl Choices {
         Ok(())
     }
 
+    /// Notes by which literals the rule is kept from holding.
+    fn oppose(&mut self, rule: u32) -> Result<(), NoMemory> {
+        for mask in condition_of(&self.masks, &self.ends, rule) {
+            self.opposed.add(*mask, rule)?;
+        }
+        Ok(())
+    }
+
     /// Adds a rule after the others. Takes time in the number of atoms.
     pub(crate) fn add(&mut self, cond: &Cube, act: u32) -> Result<(), NoMemory> {
         let rule = size(self.acts.len());
@@ -249,6 +265,7 @@ impl Choices {
         for mask in self.condition(rule) {
             best = self.better(*mask, best);
         }
+        self.oppose(rule)?;
         match best {
             Some(literal) => self.file(literal, rule),
             None => {
@@ -288,8 +305,11 @@ impl Choices {
     }
 
     /// The first rule that holds in the state, or `NONE`. Takes time in the width of the state and in the number of rules that
-    /// are filed under its literals.
+    /// are filed under its literals, or if conditions are over few atoms, in that of 64 rules at once.
     pub(crate) fn first(&self, state: &[u64]) -> u32 {
+        if self.opposed.atoms() <= FEW_ATOMS {
+            return self.opposed.first(self.len(), state);
+        }
         let mut first = self.whole;
         for (i, word) in state.iter().enumerate() {
             let number = size(i);
@@ -309,26 +329,56 @@ impl Choices {
         }
     }
 
-    /// Lists the earlier rules that no known atom keeps from holding, and counts the atoms that do. If there is only one such
+    /// Lists an earlier rule if no known atom keeps it from holding, and counts the atoms that do. If there is only one such
     /// atom, it is made known at once.
+    fn meet(&mut self, number: u32, state: &[u64], known: &mut [u64]) -> Result<(), NoMemory> {
+        let masks = condition_of(&self.masks, &self.ends, number);
+        if is_kept_out(masks, state, known) {
+            return Ok(());
+        }
+        let sole = sole_reason(masks, state);
+        if sole != NONE {
+            put_bit(known, sole, true);
+            return Ok(());
+        }
+        for mask in masks {
+            count_bits(mask.word, opposed(mask, state), &mut self.counts, false);
+        }
+        self.rivals.push(number)?;
+        let bits = masks.len().saturating_mul(64) as u64;
+        self.work = self.work.saturating_add(bits);
+        Ok(())
+    }
+
+    /// Lists those of 64 earlier rules that no known atom keeps from holding.
+    fn meet_word(
+        &mut self,
+        word: u32,
+        rule: u32,
+        state: &[u64],
+        known: &mut [u64],
+    ) -> Result<(), NoMemory> {
+        let mut bits = self.opposed.left(word);
+        for _ in 0..64 {
+            if bits == 0 {
+                return Ok(());
+            }
+            let number = atom_of(word, bits);
+            bits &= bits.wrapping_sub(1);
+            if number >= rule {
+                return Ok(());
+            }
+            self.meet(number, state, known)?;
+        }
+        Ok(())
+    }
+
+    /// Lists the earlier rules that no known atom keeps from holding.
     fn find_rivals(&mut self, rule: u32, state: &[u64], known: &mut [u64]) -> Result<(), NoMemory> {
         self.rivals.clear();
-        for number in 0..rule {
-            let masks = condition_of(&self.masks, &self.ends, number);
-            if is_kept_out(masks, state, known) {
-                continue;
-            }
-            let sole = sole_reason(masks, state);
-            if sole != NONE {
-                put_bit(known, sole, true);
-                continue;
-            }
-            for mask in masks {
-                count_bits(mask.word, opposed(mask, state), &mut self.counts, false);
-            }
-            self.rivals.push(number)?;
-            let bits = masks.len().saturating_mul(64) as u64;
-            self.work = self.work.saturating_add(bits);
+        self.opposed.find(rule, state, known)?;
+        for word in 0..(rule >> 6).saturating_add(1) {
+            self.meet_word(word, rule, state, known)?;
         }
         Ok(())
     }
@@ -356,7 +406,8 @@ impl Choices {
     }
 
     /// Makes atoms of the state known because of which the rule is the first that holds in it. Takes time in the number of the
-    /// earlier rules and their literals.
+    /// earlier rules times that of known atoms, 64 rules at once, and in the literals of those that no known atom keeps from
+    /// holding.
     pub(crate) fn know_first(
         &mut self,
         rule: u32,

@@ -15,6 +15,7 @@ pub mod covering;
 mod edges;
 mod full;
 mod nodes;
+mod opposed;
 mod propose;
 mod reason;
 mod regress;

@@ -17,14 +17,8 @@ fn sketch_of(alloc: Global, t: &Task, rules: &Rules) -> Result<Sketch, NoMemory>
     Ok(sketch)
 }
 
-/// Proposes items that cover what the rules reach, the first of which has the initial state, or gives up: if a state without a
-/// rule is met that is no goal, or if there is too much to do. Takes time and memory in the number of items times that of
-/// rules.
-pub(crate) fn propose(alloc: Global, t: &Task, rules: &Rules) -> Result<Option<Items>, NoMemory> {
-    let mut sketch = sketch_of(alloc, t, rules)?;
-    if !sketch.begin(t)? {
-        return Ok(None);
-    }
+/// Follows a sketch that has begun until no edge is left, and gives its items.
+fn follow(alloc: Global, t: &Task, sketch: &mut Sketch) -> Result<Option<Items>, NoMemory> {
     for _ in 0..u64::MAX {
         let Some(edge) = sketch.next() else {
             return sketch.items(alloc);
@@ -34,4 +28,15 @@ pub(crate) fn propose(alloc: Global, t: &Task, rules: &Rules) -> Result<Option<I
         }
     }
     Ok(None)
+}
+
+/// Proposes items that cover what the rules reach, the first of which has the initial state, or gives up: if a state without a
+/// rule is met that is no goal, or if there is too much to do. Takes time and memory in the number of items times that of
+/// rules.
+pub(crate) fn propose(alloc: Global, t: &Task, rules: &Rules) -> Result<Option<Items>, NoMemory> {
+    let mut sketch = sketch_of(alloc, t, rules)?;
+    if !sketch.begin(t)? {
+        return Ok(None);
+    }
+    follow(alloc, t, &mut sketch)
 }

@@ -1,7 +1,7 @@
 //! The engine: what others call.
 
 use crate::aim::Aim;
-use crate::known::Known;
+use crate::known::{Known, boxed};
 use crate::search::{Ended, Limits, Search};
 use fond_deadends::cubes::{Masks, masks_of};
 use fond_deadends::dead::Prover;
@@ -55,11 +55,11 @@ pub enum LayerHint {
 /// A searching engine.
 #[derive(Drop)]
 pub struct Engine {
-    known: Known,
-    search: Search,
-    prover: Prover,
-    layers: LayerSearch,
-    aim: Aim,
+    known: Box<Known>,
+    search: Box<Search>,
+    prover: Box<Prover>,
+    layers: Box<LayerSearch>,
+    aim: Box<Aim>,
     /// The state and the cube that were read last.
     start: Vec<u64>,
     cube: Part,
@@ -98,16 +98,42 @@ fn cube_of(alloc: Global, part: &Part, atoms: u32) -> Result<Cube, NoMemory> {
     Ok(cube)
 }
 
+/// What is known of a task at first.
+fn known_of(alloc: Global, t: &Task) -> Result<Box<Known>, NoMemory> {
+    boxed(alloc, Known::new(alloc, t)?)
+}
+
+/// A search that has not begun.
+fn search_over(alloc: Global, known: &Known) -> Result<Box<Search>, NoMemory> {
+    boxed(alloc, Search::new(alloc, known)?)
+}
+
+/// A search for single dead cubes over states of this many words.
+fn prover_of(alloc: Global, width: u32) -> Result<Box<Prover>, NoMemory> {
+    boxed(alloc, Prover::new(alloc, width)?)
+}
+
+/// A search for layers that has not begun.
+fn layers_over(alloc: Global, known: &Known) -> Result<Box<LayerSearch>, NoMemory> {
+    boxed(alloc, LayerSearch::new(alloc, &known.facts())?)
+}
+
+/// No aim, over states of this many words.
+fn aim_of(alloc: Global, width: u32) -> Result<Box<Aim>, NoMemory> {
+    boxed(alloc, Aim::new(alloc, width)?)
+}
+
 impl Engine {
     /// An engine for a task. Takes time and memory in the size of the task.
     pub fn new(alloc: Global, t: &Task) -> Result<Engine, NoMemory> {
-        let known = Known::new(alloc, t)?;
-        let search = Search::new(alloc, &known)?;
-        let start = vec![in alloc; 0; known.moves.width as usize]?;
-        let cube = Part::new(alloc, known.moves.width)?;
-        let prover = Prover::new(alloc, known.moves.width)?;
-        let layers = LayerSearch::new(alloc, &known.facts())?;
-        let aim = Aim::new(alloc, known.moves.width)?;
+        let known = known_of(alloc, t)?;
+        let width = known.moves.width;
+        let search = search_over(alloc, &known)?;
+        let prover = prover_of(alloc, width)?;
+        let layers = layers_over(alloc, &known)?;
+        let aim = aim_of(alloc, width)?;
+        let start = vec![in alloc; 0; width as usize]?;
+        let cube = Part::new(alloc, width)?;
         Ok(Engine {
             known,
             search,

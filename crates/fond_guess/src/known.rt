@@ -42,24 +42,72 @@ struct Responses {
     key: Vec<u64>,
 }
 
-/// What a search knows.
+/// What a search knows. The large parts are in boxes, since the time that the proof of a body takes grows with the fields
+/// of the values that it owns.
 #[derive(Drop)]
 pub(crate) struct Known {
-    pub(crate) moves: Moves,
-    pub(crate) index: ActIndex,
-    pub(crate) net: Net,
-    pub(crate) weights: Weights,
-    together: Together,
-    givers: Givers,
-    pub(crate) rules: CubeSet,
+    pub(crate) moves: Box<Moves>,
+    pub(crate) index: Box<ActIndex>,
+    pub(crate) net: Box<Net>,
+    pub(crate) weights: Box<Weights>,
+    together: Box<Together>,
+    givers: Box<Givers>,
+    pub(crate) rules: Box<CubeSet>,
     /// The rules that are targets of each rule.
     targets: Vec<Vec<u32>>,
-    pub(crate) dead: CubeSet,
-    bars: Bars,
-    responses: Responses,
+    pub(crate) dead: Box<CubeSet>,
+    bars: Box<Bars>,
+    responses: Box<Responses>,
+}
+
+/// A value in a box.
+pub(crate) fn boxed<T: Drop>(alloc: Global, value: T) -> Result<Box<T>, NoMemory> {
+    Ok(Box::new(alloc, value)?)
+}
+
+/// The moves of a task.
+fn moves_of(alloc: Global, task: &Task) -> Result<Box<Moves>, NoMemory> {
+    boxed(alloc, Moves::new(alloc, task)?)
+}
+
+/// An index of moves by the literals of their preconditions.
+fn index_of(alloc: Global, moves: &Moves) -> Result<Box<ActIndex>, NoMemory> {
+    boxed(alloc, ActIndex::new(alloc, moves)?)
+}
+
+/// The relaxed task.
+fn net_of(alloc: Global, task: &Task, moves: &Moves) -> Result<Box<Net>, NoMemory> {
+    boxed(alloc, Net::new(alloc, task, moves)?)
+}
+
+/// The weights of a task's atoms.
+fn weights_of(alloc: Global, task: &Task, atoms: u32) -> Result<Box<Weights>, NoMemory> {
+    boxed(alloc, Weights::new(alloc, task, atoms)?)
+}
+
+/// The pairs of atoms that may hold together.
+fn together_of(alloc: Global, task: &Task, moves: &Moves) -> Result<Box<Together>, NoMemory> {
+    boxed(alloc, Together::new(alloc, task, moves)?)
+}
+
+/// The steps that give each literal.
+fn givers_of(alloc: Global, moves: &Moves) -> Result<Box<Givers>, NoMemory> {
+    boxed(alloc, Givers::new(alloc, moves)?)
+}
+
+/// No cubes over this many atoms, in this many words.
+fn no_cubes(alloc: Global, atoms: u32, width: u32) -> Result<Box<CubeSet>, NoMemory> {
+    boxed(alloc, CubeSet::new(alloc, atoms, width)?)
 }
 
 impl Bars {
+    /// No cubes for this many actions.
+    fn new(alloc: Global, acts: usize) -> Result<Box<Bars>, NoMemory> {
+        let firsts = vec![in alloc; NONE; acts]?;
+        let bars = Vec::new(alloc);
+        boxed(alloc, Bars { firsts, bars })
+    }
+
     /// Drops all.
     fn clear(&mut self) {
         self.bars.clear();
@@ -92,6 +140,22 @@ impl Bars {
 }
 
 impl Responses {
+    /// No responses, in states of this many words.
+    fn new(alloc: Global, width: u32) -> Result<Box<Responses>, NoMemory> {
+        let width = width.saturating_add(1);
+        let places = StateSet::new(alloc, width)?;
+        let key = vec![in alloc; 0; width as usize]?;
+        let outcomes = Vec::new(alloc);
+        boxed(
+            alloc,
+            Responses {
+                places,
+                outcomes,
+                key,
+            },
+        )
+    }
+
     /// Makes the key of a state and an action.
     fn set_key(&mut self, act: u32, state: &[u64]) {
         copy_words(&mut self.key, state);
@@ -124,24 +188,16 @@ impl Responses {
 impl Known {
     /// What is known of a task at first.
     pub(crate) fn new(alloc: Global, task: &Task) -> Result<Known, NoMemory> {
-        let moves = Moves::new(alloc, task)?;
-        let index = ActIndex::new(alloc, &moves)?;
-        let net = Net::new(alloc, task, &moves)?;
-        let weights = Weights::new(alloc, task, moves.atoms)?;
-        let together = Together::new(alloc, task, &moves)?;
-        let givers = Givers::new(alloc, &moves)?;
-        let rules = CubeSet::new(alloc, moves.atoms, moves.width)?;
-        let dead = CubeSet::new(alloc, moves.atoms, moves.width)?;
-        let bars = Bars {
-            firsts: vec![in alloc; NONE; moves.acts.len()]?,
-            bars: Vec::new(alloc),
-        };
-        let key_width = moves.width.saturating_add(1);
-        let responses = Responses {
-            places: StateSet::new(alloc, key_width)?,
-            outcomes: Vec::new(alloc),
-            key: vec![in alloc; 0; key_width as usize]?,
-        };
+        let moves = moves_of(alloc, task)?;
+        let index = index_of(alloc, &moves)?;
+        let net = net_of(alloc, task, &moves)?;
+        let weights = weights_of(alloc, task, moves.atoms)?;
+        let together = together_of(alloc, task, &moves)?;
+        let givers = givers_of(alloc, &moves)?;
+        let rules = no_cubes(alloc, moves.atoms, moves.width)?;
+        let dead = no_cubes(alloc, moves.atoms, moves.width)?;
+        let bars = Bars::new(alloc, moves.acts.len())?;
+        let responses = Responses::new(alloc, moves.width)?;
         Ok(Known {
             moves,
             index,
