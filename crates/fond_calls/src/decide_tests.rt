@@ -1,6 +1,7 @@
 use crate::coin::ground_coin;
 use fond_cert::print::print_cert;
-use fond_decide::decide::{Decision, decide};
+use fond_decide::decide::decide;
+use fond_planner::decide::Decision;
 use fond_policy::reach::reach_count;
 use fond_policy::walk::walk_states;
 use fond_rules::pairs::Pairs;

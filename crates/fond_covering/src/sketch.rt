@@ -18,7 +18,7 @@ use fond_cover::item::{Item, ItemNumbers, Way};
 use fond_cover::items::Items;
 use fond_heuristic::index::{NONE, copy_words, has, link_at, put, put_bit, size};
 use fond_heuristic::moves::Moves;
-use fond_heuristic::step::PlanStep;
+use fond_hint::step::PlanStep;
 use fond_state::cube::Cube;
 use fond_state::state::State;
 use fond_task::task::{Outcome, Task};

@@ -1,23 +1,16 @@
-//! The searching engine beside a draft. What it says is a hint and nothing else, so nothing is claimed of it.
+//! The searching engine as a source of hints: it is told what is new in a draft before it is asked.
 
-use crate::draft::Draft;
 use fond_game::rule::{Target, Targets};
-use fond_guess::engine::{Engine, Hint, LayerHint};
+use fond_guess::engine::Engine;
+use fond_hint::hint::{Hint, LayerHint};
 use fond_layers::layers::{Layer, Layers};
+use fond_planner::draft::Draft;
+use fond_planner::source::{Effort, Source};
 use fond_state::cube::Cube;
 use fond_state::state::State;
 use fond_task::task::Task;
 use fond_text::fault::NoMemory;
 use std::alloc::Global;
-
-/// How much searches may do: how many states each may expand, or visit for layers, how many updates of the relaxed task all may make,
-/// and how much work all may do for layers.
-#[derive(Clone, Copy)]
-pub(crate) struct Effort {
-    pub(crate) states: u32,
-    pub(crate) work: u64,
-    pub(crate) layers: u64,
-}
 
 /// How many of a draft's rules, pairs and layers the engine was told.
 #[derive(Clone, Copy)]
@@ -29,7 +22,7 @@ struct Told {
 
 /// The engine, once it is needed, what it was told, and what its searches may still do.
 #[derive(Drop)]
-pub(crate) struct Guide {
+pub struct Guide {
     engine: Option<Engine>,
     told: Told,
     effort: Effort,
@@ -111,9 +104,9 @@ fn add_lost(engine: &mut Engine, layer: &Layer) -> Result<(), NoMemory> {
     Ok(())
 }
 
-impl Guide {
+impl Source for Guide {
     /// A guide without an engine. It takes no memory.
-    pub(crate) fn new() -> Guide {
+    fn new() -> Guide {
         Guide {
             engine: None,
             told: Told {
@@ -130,7 +123,7 @@ impl Guide {
     }
 
     /// Makes the engine, if there is none, and lets the next searches do this much.
-    pub(crate) fn allow(
+    fn allow(
         &mut self,
         alloc: Global,
         t: &Task,
@@ -144,7 +137,7 @@ impl Guide {
     }
 
     /// Forgets the rules and the pairs.
-    pub(crate) fn forget_rules(&mut self) {
+    fn forget_rules(&mut self) {
         if let Some(engine) = &mut self.engine {
             engine.forget_rules();
         }
@@ -153,7 +146,7 @@ impl Guide {
     }
 
     /// Steps from the state to a goal or to a state in which a rule of the draft holds, if the engine finds some.
-    pub(crate) fn plan(
+    fn plan(
         &mut self,
         alloc: Global,
         draft: &Draft,
@@ -171,14 +164,14 @@ impl Guide {
     }
 
     /// An action leads from the state to the one from which the next search begins.
-    pub(crate) fn leave(&mut self, state: &State) {
+    fn leave(&mut self, state: &State) {
         if let Some(engine) = &mut self.engine {
             engine.leave(state);
         }
     }
 
     /// Searches go on in this outcome of the unfair action from now on.
-    pub(crate) fn respond(
+    fn respond(
         &mut self,
         state: &State,
         act: u32,
@@ -191,7 +184,7 @@ impl Guide {
     }
 
     /// A cube around the state from which no goal may be reachable, if the engine finds one.
-    pub(crate) fn dead_cube(
+    fn dead_cube(
         &mut self,
         alloc: Global,
         draft: &Draft,
@@ -205,7 +198,7 @@ impl Guide {
     }
 
     /// Begins to look for layers around a state.
-    pub(crate) fn begin_layers(&mut self, draft: &Draft, state: &State) -> Result<(), NoMemory> {
+    fn begin_layers(&mut self, draft: &Draft, state: &State) -> Result<(), NoMemory> {
         let Some(engine) = &mut self.engine else {
             return Ok(());
         };
@@ -214,7 +207,7 @@ impl Guide {
     }
 
     /// Begins to look for layers around the state of a full cube.
-    pub(crate) fn begin_layers_in(&mut self, draft: &Draft, cube: &Cube) -> Result<(), NoMemory> {
+    fn begin_layers_in(&mut self, draft: &Draft, cube: &Cube) -> Result<(), NoMemory> {
         let Some(engine) = &mut self.engine else {
             return Ok(());
         };
@@ -223,7 +216,7 @@ impl Guide {
     }
 
     /// The next layer, if the engine finds one. What it takes is no more there for further ones.
-    pub(crate) fn next_layer(
+    fn next_layer(
         &mut self,
         alloc: Global,
         draft: &Draft,
@@ -240,7 +233,7 @@ impl Guide {
     }
 
     /// The states of the full cubes of these layers are known to be lost, and no others.
-    pub(crate) fn know_lost(&mut self, layers: &Layers) -> Result<(), NoMemory> {
+    fn know_lost(&mut self, layers: &Layers) -> Result<(), NoMemory> {
         let Some(engine) = &mut self.engine else {
             return Ok(());
         };
@@ -252,7 +245,7 @@ impl Guide {
     }
 
     /// No state is known to be lost any more.
-    pub(crate) fn forget_lost(&mut self) -> Result<(), NoMemory> {
+    fn forget_lost(&mut self) -> Result<(), NoMemory> {
         match &mut self.engine {
             Some(engine) => engine.forget_lost(),
             None => Ok(()),

@@ -8,7 +8,7 @@ use fond_deadends::dead::Prover;
 use fond_deadends::layers::{LayerSearch, Limits as LayerLimits, Stage};
 use fond_heuristic::index::{copy_words, put_bit, size};
 use fond_heuristic::part::Part;
-use fond_heuristic::step::PlanSteps;
+use fond_hint::hint::{Hint, LayerHint};
 use fond_state::cube::Cube;
 use fond_state::state::State;
 use fond_task::task::Task;
@@ -29,28 +29,6 @@ const NO_LOOK: u32 = u32::MAX;
 const SHORT_LOOK: u32 = 100;
 
 const LARGE_LOOK: u32 = 2;
-
-/// What a search came to.
-#[derive(Drop)]
-pub enum Hint {
-    /// Steps from the state to a goal, or to a state in which a rule holds.
-    Steps(PlanSteps),
-    /// Nothing is left to search.
-    DeadEnd,
-    /// The search reached its limit.
-    Spent,
-}
-
-/// What a search for layers came to.
-#[derive(Drop)]
-pub enum LayerHint {
-    /// A layer that may be sure above the dead cubes so far.
-    Layer(List<Cube>),
-    /// The state is dead.
-    Found,
-    /// There is none, or it takes too long.
-    Nothing,
-}
 
 /// A searching engine.
 #[derive(Drop)]

@@ -10,7 +10,7 @@ use fond_heuristic::condition::all_hold;
 use fond_heuristic::index::{NONE, copy_words, fill, link_at, put, size};
 use fond_heuristic::moves::Moves;
 use fond_heuristic::net::Net;
-use fond_heuristic::step::PlanStep;
+use fond_hint::step::PlanStep;
 use fond_heuristic::together::Together;
 use fond_heuristic::weight::Weights;
 use fond_task::task::Task;

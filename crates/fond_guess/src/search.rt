@@ -10,7 +10,7 @@ use fond_deadends::states::StateSet;
 use fond_heuristic::cost::FAR;
 use fond_heuristic::index::{NONE, copy_words, size};
 use fond_heuristic::relaxed::{Chosen, Estimate};
-use fond_heuristic::step::PlanStep;
+use fond_hint::step::PlanStep;
 use fond_text::fault::NoMemory;
 use std::alloc::Global;
 

@@ -7,7 +7,7 @@ use crate::effect::Effect;
 use crate::index::{Literal, bit_of, size};
 use crate::moves::{Move, Moves};
 use crate::net::Net;
-use crate::step::PlanStep;
+use fond_hint::step::PlanStep;
 use crate::together::Together;
 use fond_text::fault::NoMemory;
 use std::alloc::Global;

@@ -18,6 +18,5 @@ pub mod moves;
 pub mod net;
 pub mod part;
 pub mod relaxed;
-pub mod step;
 pub mod together;
 pub mod weight;

@@ -1,3 +1,4 @@
 pub mod Taken
 pub mod Shorter
 pub mod Named
+pub mod Barred

@@ -3,6 +3,7 @@
 //! rule or pair is lean. Which rules and pairs are tried, and for which states, is left to the crates above.
 #![tactic(auto)]
 
+pub mod barred;
 pub mod condition;
 mod explain;
 pub mod pair;

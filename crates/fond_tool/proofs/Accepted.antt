@@ -29,7 +29,7 @@ use Rattle.fond_meaning.specs.Solutions.{IsSolvable, More}
 use Rattle.fond_game.specs.Solutions as games
 use Rattle.fond_game.proofs.Forced.{refusals_exclude}
 use Rattle.fond_relax.specs.Stable.{IsHopeless}
-use Rattle.fond_decide.proofs.Right.{right_hopeless}
+use Rattle.fond_planner.proofs.Right.{right_hopeless}
 use Rattle.fond_tool.specs.Jobs.{texts as files}
 use Rattle.fond_tool.specs.Demos.{AnswersDemo, demo_text, demo_texts}
 use Rattle.fond_tool.specs.Migrations.{AnswersMigrate, IsCoverText, MigrateReply}

@@ -5,9 +5,9 @@ use Rattle.fond_bridge.proofs.Between.{ground-tasks-agree}
 use Rattle.fond_cert.specs.Spellings.{spelling}
 use Rattle.fond_policy.specs.declared.cert.Cert.{Cert}
 use Rattle.fond_policy.specs.declared.cert.Cert.TheVariants.{Policy, Refusal, Covered}
-use Rattle.fond_decide.specs.Decisions.{IsDecision, IsRightCert}
-use Rattle.fond_decide.specs.declared.decide.Decision.{Decision}
-use Rattle.fond_decide.specs.declared.decide.Decision.TheVariants.{Certified, Undecided}
+use Rattle.fond_planner.specs.Decisions.{IsDecision, IsRightCert}
+use Rattle.fond_planner.specs.declared.decide.Decision.{Decision}
+use Rattle.fond_planner.specs.declared.decide.Decision.TheVariants.{Certified, Undecided}
 use Rattle.fond_game.proofs.Forced.{refusals_exclude}
 use Rattle.fond_policy.proofs.Covered.{covers_solve}
 use Rattle.fond_game.specs.Policies.{selected}

@@ -5,8 +5,8 @@ use Rattle.fond_task.specs.declared.task.Task.{Task}
 use Rattle.fond_cert.specs.Spellings.{spelling}
 use Rattle.fond_policy.specs.declared.cert.Cert.{Cert}
 use Rattle.fond_policy.specs.declared.cert.Cert.TheVariants.{Refusal}
-use Rattle.fond_decide.specs.declared.decide.Decision.{Decision}
-use Rattle.fond_decide.specs.declared.decide.Decision.TheVariants.{Certified, Undecided as IsUndecided}
+use Rattle.fond_planner.specs.declared.decide.Decision.{Decision}
+use Rattle.fond_planner.specs.declared.decide.Decision.TheVariants.{Certified, Undecided as IsUndecided}
 use Rattle.fond_tool.specs.Replies.{Reply, line_reply}
 use Rattle.fond_tool.specs.declared.status.Ending.{Ending}
 use Rattle.fond_tool.specs.declared.status.Ending.TheVariants.{Done, Unsolvable, Undecided}

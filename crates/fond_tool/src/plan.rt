@@ -1,7 +1,7 @@
 //! The command `plan`: a policy, or that there is none.
 
-ghost use Rattle.fond_decide.specs.Decisions.{IsDecision, IsRightCert};
-ghost use Rattle.fond_decide.specs.declared.decide.Decision.{Decision};
+ghost use Rattle.fond_planner.specs.Decisions.{IsDecision, IsRightCert};
+ghost use Rattle.fond_planner.specs.declared.decide.Decision.{Decision};
 ghost use Rattle.fond_ground.specs.Grounds.{IsGroundOf};
 ghost use Rattle.fond_tool.specs.Decided.{cert_ending, decision_reply};
 ghost use Rattle.fond_tool.specs.Plans.{AnswersPlan, PlanReply};
@@ -17,7 +17,8 @@ use crate::rejection::Rejection;
 use crate::status::Ending;
 use crate::task_files::{TaskFiles, read_files};
 use fond_cert::text::CertText;
-use fond_decide::decide::{Decision, decide};
+use fond_decide::decide::decide;
+use fond_planner::decide::Decision;
 use fond_front::texts::TaskTexts;
 use fond_policy::cert::Cert;
 use fond_task::task::Task;

@@ -26,7 +26,7 @@ use Rattle.fond_game.proofs.Reached.{length-next_state}
 use Rattle.fond_layers.specs.Over.{IsOver, AreOver}
 use Rattle.fond_regress.proofs.Images.{image_more}
 use Rattle.fond_rules.specs.Belongs.{ArePairsOver}
-use Rattle.fond_weak.specs.Barred.{IsBarred}
+use Rattle.fond_regress.specs.Barred.{IsBarred}
 use Rattle.fond_weak.specs.Trees.{IsOpened, IsTried, MayLose, StaysAmong}
 use Rattle.fond_weak.specs.Weak.{ShowsLost}
 use Rattle.fond_weak.proofs.Full.{full_lies, lies_own}

@@ -19,7 +19,7 @@ use Rattle.fond_game.proofs.Lists.{Contains_numbered, number_of}
 use Rattle.fond_game.proofs.Reached.{length-next_state}
 use Rattle.fond_explicit.specs.Answers.{IsReachable, IsPast}
 use Rattle.fond_explicit.proofs.Grown.{front_stays, front_was}
-use Rattle.fond_heuristic.specs.declared.step.PlanStep.{PlanStep}
+use Rattle.fond_hint.specs.declared.step.PlanStep.{PlanStep}
 use Rattle.fond_weak.specs.Trees.{LeadsTo, IsLinked, IsTree, IsMore, IsTried, IsOpened, AreOpened}
 use Rattle.fond_weak.specs.Weak.{MayTake, IsWeakPlan}
 use Rattle.fond_weak.specs.declared.tree.Link.{Link}

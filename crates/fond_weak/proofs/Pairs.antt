@@ -8,7 +8,7 @@ use Rattle.fond_game.specs.declared.rule.Pair.{Pair}
 use Rattle.fond_game.proofs.Lists.{Contains-here, Contains-later, Contains-cases}
 use Rattle.fond_rules.specs.Targets.{AllContradict}
 use Rattle.fond_explicit.proofs.Distinct.{nothing_in}
-use Rattle.fond_weak.specs.Barred.{IsBarred}
+use Rattle.fond_regress.specs.Barred.{IsBarred}
 use Rattle.fond_weak.proofs.Full.{lies_not, apart_or_lies}
 
 contradicts_more : (pair : Pair) (pairs : List Pair) (act : ℕ) (cube : CubeView) → (pair.act ≡ act → Contradicts cube pair.cond) → AllContradict pairs act cube → AllContradict (pair ∷ pairs) act cube

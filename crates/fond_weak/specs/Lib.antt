@@ -1,4 +1,3 @@
-pub mod Barred
 pub mod Settings
 pub mod Trees
 pub mod Weak

@@ -2,7 +2,7 @@
 use Rattle.std.specs.Prelude.{ℕ, List, Bool, Contains}
 use Rattle.fond_game.specs.declared.rule.Pair.{Pair}
 use Rattle.fond_game.specs.Layers.{IsSurePair}
-use Rattle.fond_heuristic.specs.declared.step.PlanStep.{PlanStep}
+use Rattle.fond_hint.specs.declared.step.PlanStep.{PlanStep}
 use Rattle.fond_weak.specs.Trees.{IsTree, AreTried, IsOpened}
 use Rattle.fond_weak.specs.Weak.{IsWeakPlan, IsFound}
 use Rattle.fond_weak.specs.declared.setting.Setting.{Setting}

@@ -10,7 +10,7 @@ use Rattle.fond_game.specs.Certificates.{LiesInLayers}
 use Rattle.fond_game.specs.Layers.{CubeView}
 use Rattle.fond_game.specs.Policies.{IsGoal}
 use Rattle.fond_explicit.specs.Answers.{IsReachable}
-use Rattle.fond_weak.specs.Barred.{IsBarred}
+use Rattle.fond_regress.specs.Barred.{IsBarred}
 use Rattle.fond_weak.specs.Weak.{MayTake}
 use Rattle.fond_weak.specs.declared.tree.Link.{Link}
 

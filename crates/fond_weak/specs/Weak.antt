@@ -11,8 +11,8 @@ use Rattle.fond_game.specs.Layers.{CubeView, IsSureLayer}
 use Rattle.fond_game.specs.Policies.{IsGoal}
 use Rattle.fond_layers.specs.Over.{IsOver}
 use Rattle.fond_explicit.specs.Answers.{IsPast}
-use Rattle.fond_heuristic.specs.declared.step.PlanStep.{PlanStep}
-use Rattle.fond_weak.specs.Barred.{IsBarred}
+use Rattle.fond_hint.specs.declared.step.PlanStep.{PlanStep}
+use Rattle.fond_regress.specs.Barred.{IsBarred}
 use Rattle.fond_weak.specs.declared.weak.Weak.{Weak}
 use Rattle.fond_weak.specs.declared.weak.Weak.TheVariants.{Plan, Unreachable, Spent}
 

@@ -13,7 +13,7 @@ use crate::tree::{Scratch, Tree};
 use crate::weak::Weak;
 use fond_explicit::act_index::ActIndex;
 use fond_explicit::filing::index_of;
-use fond_heuristic::step::PlanSteps;
+use fond_hint::step::PlanSteps;
 use fond_layers::layers::Layer;
 use fond_state::cube::Cube;
 use fond_store::store::Store;

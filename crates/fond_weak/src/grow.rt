@@ -3,14 +3,14 @@
 ghost use Rattle.fond_game.specs.Policies.{IsGoal};
 ghost use Rattle.fond_task.specs.Truth.{is_true};
 ghost use Rattle.fond_task.specs.declared.task.Act.{Act};
-ghost use Rattle.fond_weak.specs.Barred.{IsBarred};
+ghost use Rattle.fond_regress.specs.Barred.{IsBarred};
 ghost use Rattle.fond_weak.specs.Settings.{IsTreeIn};
 ghost use Rattle.fond_weak.specs.Trees.{IsMore, LeadsTo, StaysAmong};
 ghost use Rattle.std.specs.Prelude.{◌≡◌, ◌<◌, [], ◌∷◌, true, length, slice_get, Some, Contains, IfOk, OnOk};
 
 use crate::setting::Setting;
 use crate::tree::{Link, Node, Tree};
-use fond_heuristic::step::PlanStep;
+use fond_hint::step::PlanStep;
 use fond_state::cube::Cube;
 use fond_state::state::State;
 use fond_store::store::Store;

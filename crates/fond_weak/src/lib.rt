@@ -4,7 +4,6 @@
 //! states that are closed without a goal are a layer. Making rules of a plan is left to the crates above.
 #![tactic(auto)]
 
-pub mod barred;
 mod breadth;
 mod grow;
 mod hint;

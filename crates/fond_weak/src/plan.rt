@@ -6,7 +6,7 @@ ghost use Rattle.fond_weak.specs.Weak.{IsWeakPlan, MayTake};
 ghost use Rattle.std.specs.Prelude.{◌≡◌, ◌<◌, true, length, slice_get, Some, IfOk};
 
 use crate::setting::Setting;
-use fond_heuristic::step::PlanStep;
+use fond_hint::step::PlanStep;
 use fond_state::cube::Cube;
 use fond_state::state::State;
 use fond_task::step::apply_into;

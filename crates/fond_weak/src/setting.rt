@@ -3,7 +3,7 @@
 ghost use Rattle.fond_layers.specs.Over.{AreOver};
 ghost use Rattle.fond_rules.specs.Belongs.{ArePairsOver};
 ghost use Rattle.fond_state.specs.Cubes.{full_cube};
-ghost use Rattle.fond_weak.specs.Barred.{IsBarred};
+ghost use Rattle.fond_regress.specs.Barred.{IsBarred};
 ghost use Rattle.std.specs.Prelude.{◌≡◌, List, Bool, length, Decides};
 
 use fond_layers::layers::Layers;

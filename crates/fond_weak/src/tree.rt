@@ -3,7 +3,7 @@
 ghost use Rattle.fond_state.specs.Cubes.{full_cube};
 ghost use Rattle.std.specs.Prelude.{◌≡◌};
 
-use fond_heuristic::step::PlanStep;
+use fond_hint::step::PlanStep;
 use fond_state::cube::Cube;
 use fond_state::state::State;
 use fond_store::store::Store;

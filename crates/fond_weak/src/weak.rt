@@ -10,7 +10,7 @@ ghost use Rattle.std.specs.Prelude.{◌≡◌, length, Contains, IfOk, IfSome};
 use crate::breadth::open_from;
 use crate::hint::planned;
 use crate::setting::Setting;
-use fond_heuristic::step::PlanSteps;
+use fond_hint::step::PlanSteps;
 use fond_layers::layers::{Layer, Layers};
 use fond_rules::pairs::Pairs;
 use fond_state::state::State;

@@ -1,6 +1,0 @@
-use Rattle.fond_decide.specs.Drafts.{IsDraft}
-use Rattle.fond_decide.proofs.find.make_found.Given as goal
-
--- the draft stays one
-abbrev pub invariant-loop-plan : goal.invariant-loop-plan
-invariant-loop-plan l = IsDraft l.t l.draft

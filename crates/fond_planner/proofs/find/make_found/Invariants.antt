@@ -1,0 +1,6 @@
+use Rattle.fond_planner.specs.Drafts.{IsDraft}
+use Rattle.fond_planner.proofs.find.make_found.Given as goal
+
+-- the draft stays one
+abbrev pub invariant-loop-plan : goal.invariant-loop-plan
+invariant-loop-plan l = IsDraft l.t l.draft

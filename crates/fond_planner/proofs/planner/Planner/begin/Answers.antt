@@ -1,0 +1,5 @@
+use Rattle.fond_play.specs.Games.{start}
+use Rattle.fond_planner.proofs.planner.Planner.begin.Goals as goal
+
+pub find-requires-clause-reachable : goal.find-requires-clause-reachable
+find-requires-clause-reachable g c = start

@@ -1,0 +1,7 @@
+use Rattle.fond_planner.specs.Planners.{IsPlanner}
+use Rattle.fond_planner.specs.Walks.{IsTrail}
+use Rattle.fond_planner.proofs.planner.Planner.follow_all.Given as goal
+
+-- the planner and the trail stay those of the task
+abbrev pub invariant-loop-edge : goal.invariant-loop-edge
+invariant-loop-edge g l = IsPlanner l.t l.self × IsTrail l.t l.trail

@@ -1,0 +1,6 @@
+use Rattle.fond_planner.specs.Planners.{IsPlanner}
+use Rattle.fond_planner.proofs.planner.Planner.learn_around.Given as goal
+
+-- the planner stays one of the task
+abbrev pub invariant-loop-cube : goal.invariant-loop-cube
+invariant-loop-cube g l = IsPlanner l.t l.self

@@ -1,0 +1,6 @@
+use Rattle.fond_planner.specs.Planners.{IsPlanner}
+use Rattle.fond_planner.proofs.planner.Planner.learn_around_all.Given as goal
+
+-- the planner stays one of the task
+abbrev pub invariant-loop-number : goal.invariant-loop-number
+invariant-loop-number g l = IsPlanner l.t l.self

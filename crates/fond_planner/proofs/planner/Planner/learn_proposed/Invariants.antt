@@ -1,0 +1,6 @@
+use Rattle.fond_planner.specs.Planners.{IsPlanner}
+use Rattle.fond_planner.proofs.planner.Planner.learn_proposed.Given as goal
+
+-- the planner stays one of the task
+abbrev pub invariant-loop-layer : goal.invariant-loop-layer
+invariant-loop-layer g l = IsPlanner l.t l.self

@@ -1,0 +1,10 @@
+use Rattle.fond_planner.specs.Planners.{IsPlanner}
+use Rattle.fond_planner.specs.Walks.{AreReachable}
+use Rattle.fond_planner.proofs.planner.Planner.seek_all.Given as goal
+
+-- the planner stays one of the task, and the waiting states reachable
+abbrev pub invariant-loop-seek : goal.invariant-loop-seek
+invariant-loop-seek g l = record {
+  planner : IsPlanner l.t l.self;
+  reached : AreReachable l.t l.waiting.items;
+}

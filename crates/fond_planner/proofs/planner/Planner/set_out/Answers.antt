@@ -1,0 +1,38 @@
+use Rattle.std.proofs.Common.{◌∙◌, ◌<◌, [], length, get_or, slice_get, Some, ◌≡◌, ap, subst, sym, arith}
+use Rattle.std.proofs.lemmas.Option.{same_Some, slice_get-get_or, slice_get_within}
+use Rattle.fond_task.specs.declared.task.Act.{Act}
+use Rattle.fond_planner.proofs.Ready.{reachable_long}
+use Rattle.fond_planner.proofs.planner.Planner.set_out.Goals as goal
+
+pub apply_into-requires-clause-long : goal.apply_into-requires-clause-long
+apply_into-requires-clause-long g c =
+    let outset = c.set_act.ensures.outset c.if-not-set_act.false in
+    reachable_long c.args.t.now c.args.t.now.init c.args.t.now.init_long c.set_act.new.step.state outset.reachable
+
+pub apply_into-requires-clause-there : goal.apply_into-requires-clause-there
+apply_into-requires-clause-there g c =
+    let outset = c.set_act.ensures.outset c.if-not-set_act.false in
+    slice_get_within c.args.t.now.acts c.set_act.new.step.act outset.act outset.has_act
+
+pub returns-clause-step : goal.returns-clause-step
+returns-clause-step g c = λ yes.
+    let outset = c.set_act.ensures.outset c.if-not-set_act.false in
+    let own = c.get.result.now in
+    let k = c.args.outcome in
+    let same : own ≡ outset.act = same_Some own outset.act (sym c.get.ensures ∙ outset.has_act) in
+    let lt : k < length own.outcomes = omega (arith, c.if-outcome-len.false, c.len.ensures) in
+    let mine = get_or own.outcomes k [] in
+    let there : slice_get own.outcomes k ≡ Some mine = slice_get-get_or own.outcomes k [] lt in
+    record {
+      outset = record {
+        reachable = outset.reachable;
+        open_ = outset.open_;
+        act = outset.act;
+        has_act = outset.has_act;
+        applicable = outset.applicable;
+        long = c.apply_into.ensures.same_length ∙ outset.long;
+      };
+      entries = mine;
+      has_outcome = subst (λ (a : Act). slice_get a.outcomes k ≡ Some mine) same there;
+      led = c.apply_into.ensures.next own mine c.get.ensures there;
+    }

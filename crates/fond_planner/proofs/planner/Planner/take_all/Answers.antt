@@ -1,0 +1,47 @@
+use Rattle.std.proofs.Common.{◌≡◌, ◌∙◌, ◌<◌, ℕ, List, Bool, Some, [], true, length, get_or, slice_get, sym, ap, subst, arith}
+use Rattle.std.proofs.lemmas.Option.{same_Some, slice_get-get_or, slice_get_within}
+use Rattle.fond_task.specs.Truth.{is_true}
+use Rattle.fond_task.specs.declared.task.Act.{Act}
+use Rattle.fond_policy.proofs.Walking.{few_outcomes}
+use Rattle.fond_game.specs.Policies.{IsGoal}
+use Rattle.fond_explicit.specs.Answers.{IsReachable}
+use Rattle.fond_planner.proofs.Ready.{reachable_long}
+use Rattle.fond_planner.proofs.planner.Planner.take_all.Goals as goal
+
+pub overflow_cast-step-in-loop-outcome : goal.overflow_cast-step-in-loop-outcome
+overflow_cast-step-in-loop-outcome g c =
+    let few = few_outcomes c.args.t.now c.args.step.now.act c.get.result.now c.get.ensures in
+    omega (arith, few, c.loop-outcome-test.true, c.len-outcome-end.ensures)
+
+pub apply_into-requires-clause-long : goal.apply_into-requires-clause-long
+apply_into-requires-clause-long g c = ap length c.loop-outcome.invariant.state ∙ reachable_long c.args.t.now c.args.t.now.init c.args.t.now.init_long c.args.step.now.state c.requires.outset.reachable
+
+pub apply_into-requires-clause-there : goal.apply_into-requires-clause-there
+apply_into-requires-clause-there g c =
+    subst (λ (n : ℕ). n < length c.args.t.now.acts) (sym c.loop-outcome.invariant.act) (slice_get_within c.args.t.now.acts c.args.step.now.act c.requires.outset.act c.requires.outset.has_act)
+
+pub take-requires-clause-step : goal.take-requires-clause-step
+take-requires-clause-step g c =
+    let task = c.args.t.now in
+    let outset = c.requires.outset in
+    let inv = c.loop-outcome.invariant in
+    let own = c.get.result.now in
+    let k = c.loop-outcome.outcome in
+    let same : own ≡ outset.act = same_Some own outset.act (sym c.get.ensures ∙ outset.has_act) in
+    let lt : k < length own.outcomes = omega (arith, c.loop-outcome-test.true, c.len-outcome-end.ensures) in
+    let mine = get_or own.outcomes k [] in
+    let there : slice_get own.outcomes k ≡ Some mine = slice_get-get_or own.outcomes k [] lt in
+    let here : slice_get task.acts c.loop-outcome.step.act ≡ Some own = ap (slice_get task.acts) inv.act ∙ c.get.ensures in
+    record {
+      outset = record {
+        reachable = subst (IsReachable task task.init) (sym inv.state) outset.reachable;
+        open_ = subst (λ (s : List Bool). ¬ IsGoal task s) (sym inv.state) outset.open_;
+        act = outset.act;
+        has_act = ap (slice_get task.acts) inv.act ∙ outset.has_act;
+        applicable = subst (λ (s : List Bool). is_true s outset.act.pre ≡ true) (sym inv.state) outset.applicable;
+        long = c.apply_into.ensures.same_length ∙ inv.long ∙ outset.long;
+      };
+      entries = mine;
+      has_outcome = subst (λ (a : Act). slice_get a.outcomes k ≡ Some mine) same there;
+      led = c.apply_into.ensures.next own mine here there;
+    }

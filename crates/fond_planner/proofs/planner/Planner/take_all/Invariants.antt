@@ -1,0 +1,14 @@
+use Rattle.std.proofs.Common.{◌≡◌, length}
+use Rattle.fond_planner.specs.Planners.{IsPlanner}
+use Rattle.fond_planner.specs.Walks.{AreReachable}
+use Rattle.fond_planner.proofs.planner.Planner.take_all.Given as goal
+
+-- the planner stays one of the task, and the states reachable ones
+abbrev pub invariant-loop-outcome : goal.invariant-loop-outcome
+invariant-loop-outcome g l = record {
+  planner : IsPlanner l.t l.self;
+  reachable : AreReachable l.t l.states;
+  state : l.step.state ≡ l.initial.step.state;
+  act : l.step.act ≡ l.initial.step.act;
+  long : length l.step.next ≡ length l.initial.step.next;
+}

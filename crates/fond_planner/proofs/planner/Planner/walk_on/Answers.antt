@@ -1,0 +1,29 @@
+use Rattle.std.proofs.Common.{◌∙◌, length, sym, ap, subst}
+use Rattle.fond_game.proofs.Lists.{Contains_numbered}
+use Rattle.fond_explicit.specs.Answers.{IsReachable}
+use Rattle.fond_planner.proofs.Ready.{reachable_long}
+use Rattle.fond_planner.proofs.planner.Planner.walk_on.Goals as goal
+
+pub copy_from-requires : goal.copy_from-requires
+copy_from-requires g c =
+    let task = c.args.t.now in
+    let here = c.loop-at.invariant.reachable c.get.result.now (Contains_numbered c.loop-at.states c.loop-at.at c.get.result.now c.get.ensures) in
+    c.loop-at.invariant.state_long ∙ sym (reachable_long task task.init task.init_long c.get.result.now here)
+
+pub visit-requires-clause-here : goal.visit-requires-clause-here
+visit-requires-clause-here g c =
+    let task = c.args.t.now in
+    let here = c.loop-at.invariant.reachable c.get.result.now (Contains_numbered c.loop-at.states c.loop-at.at c.get.result.now c.get.ensures) in
+    subst (IsReachable task task.init) (sym c.copy_from.ensures) here
+
+pub loop-at-preserved : goal.loop-at-preserved
+loop-at-preserved g c =
+    let task = c.args.t.now in
+    let told = c.in_ok-visit.ensures in
+    let here = c.loop-at.invariant.reachable c.get.result.now (Contains_numbered c.loop-at.states c.loop-at.at c.get.result.now c.get.ensures) in
+    record {
+      planner = told.planner;
+      reachable = told.reachable;
+      state_long = ap length told.same ∙ ap length c.copy_from.ensures ∙ reachable_long task task.init task.init_long c.get.result.now here;
+      next_long = told.long ∙ c.loop-at.invariant.next_long;
+    }

@@ -1,0 +1,10 @@
+-- Planners: a policy in the making, and the plans from which its rules are made.
+use Rattle.fond_task.specs.declared.task.Task.{Task}
+use Rattle.fond_planner.specs.Drafts.{IsDraft}
+use Rattle.fond_planner.specs.Plans.{ArePlans}
+use Rattle.fond_planner.specs.declared.planner.Planner.{Planner}
+
+-- a planner is one of a task: its draft is, and so are its plans
+pub record IsPlanner {S : Type 0} (task : Task) (planner : Planner S) : Type 0 where
+  pub draft : IsDraft task planner.draft
+  pub plans : ArePlans task planner.plans.items

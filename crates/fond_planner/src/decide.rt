@@ -1,0 +1,220 @@
+//! Deciding a task.
+
+ghost use Rattle.fond_covering.specs.Coverings.{IsCovering};
+ghost use Rattle.fond_planner.specs.Decisions.{IsDecision, IsPast, IsRightCert};
+ghost use Rattle.fond_planner.specs.Drafts.{IsDraft};
+ghost use Rattle.fond_planner.specs.Ends.{IsEnd};
+ghost use Rattle.fond_planner.specs.Planners.{IsPlanner};
+ghost use Rattle.fond_game.specs.Certificates.{LiesInLayers};
+ghost use Rattle.fond_relax.specs.Stable.{IsHopeless, IsHopelessBy};
+ghost use Rattle.std.specs.Prelude.{◌≡◌, ◌<◌, ◌≤◌, ◌^◌, None, All, length, IfOk, IfSome, OnOk};
+
+use crate::draft::Draft;
+use crate::planner::Planner;
+use crate::source::Source;
+use crate::walk::Round;
+use fond_cover::items::Items;
+use fond_covering::cover::{cover_by_states, take_items};
+use fond_covering::covering::Covering;
+use fond_layers::layers::{Layer, Layers};
+use fond_policy::cert::Cert;
+use fond_policy::reach::reach_count;
+use fond_relax::estimate::{Guess, estimate};
+use fond_rules::rules::Rules;
+use fond_state::cube::Cube;
+use fond_task::task::Task;
+use fond_text::fault::NoMemory;
+use std::alloc::Global;
+
+/// What is decided about a task: a certificate, or nothing within the budget.
+#[derive(Drop)]
+pub enum Decision {
+    Certified(Cert),
+    Undecided,
+}
+
+/// Reads the layers, whose type keeps that each has fewer than 2^32 cubes.
+fn read_sizes(layers: &Layers)
+    ensures few { length layers.now < 2 ^ 32 }
+    ensures few_cubes { All (λ layer. length layer < 2 ^ 32) layers.now }
+{
+    for at in 0..layers.len() {
+        let _layer = layers.get(at);
+    }
+}
+
+/// Reads the number of rules, whose type keeps that it is below 2^32.
+fn read_count(rules: &Rules)
+    ensures { length rules.now < 2 ^ 32 }
+{
+    let _count = rules.len();
+}
+
+/// The refusal of a draft, in one of whose layers the initial state lies.
+fn refusal_of(t: &Task, draft: Draft) -> Cert
+    requires draft { IsDraft t.now draft }
+    requires lies { LiesInLayers t.now.init draft.layers }
+    ensures { IsRightCert t.now result }
+{
+    read_sizes(&draft.layers);
+    Cert::Refusal {
+        layers: draft.layers,
+    }
+}
+
+/// The certificate of a draft with items that cover what its rules reach.
+fn policy_of(t: &Task, draft: Draft, covering: Covering) -> Cert
+    requires draft { IsDraft t.now draft }
+    requires covering { IsCovering t.now draft.rules covering.items covering.start }
+    ensures { IsRightCert t.now result }
+{
+    read_sizes(&draft.layers);
+    read_count(&draft.rules);
+    Cert::Covered {
+        layers: draft.layers,
+        pairs: draft.pairs,
+        rules: draft.rules,
+        items: covering.items,
+        start: covering.start,
+    }
+}
+
+/// A cover by all states that the rules of a draft reach, if a rule holds in each of them that is no goal.
+fn cover_by_walk(alloc: Global, t: &Task, draft: &Draft) -> Result<Option<Covering>, NoMemory>
+    requires { IsDraft t.now draft.now }
+    ensures { IfOk result (λ found. IfSome found (λ covering. IsCovering t.now draft.now.rules covering.items covering.start)) }
+{
+    read_count(&draft.rules);
+    let (_, ruled) = reach_count(alloc, t, &draft.pairs, &draft.rules)?;
+    if !ruled {
+        return Ok(None);
+    }
+    Ok(Some(cover_by_states(alloc, t, &draft.pairs, &draft.rules)?))
+}
+
+/// A cover of what the rules of a draft reach: these items, if they pass their test, or else one by all these states.
+fn cover_of(
+    alloc: Global,
+    t: &Task,
+    draft: &Draft,
+    sketched: Option<Items>,
+) -> Result<Option<Covering>, NoMemory>
+    requires { IsDraft t.now draft.now }
+    ensures { IfOk result (λ found. IfSome found (λ covering. IsCovering t.now draft.now.rules covering.items covering.start)) }
+{
+    let Some(items) = sketched else {
+        return cover_by_walk(alloc, t, draft);
+    };
+    read_count(&draft.rules);
+    if let Some(covering) = take_items(alloc, t, &draft.rules, items)? {
+        return Ok(Some(covering));
+    }
+    cover_by_walk(alloc, t, draft)
+}
+
+/// A cover of what the rules of a draft reach, if there are no fresh pairs, and a rule holds in each of these states that is no
+/// goal.
+fn finished(
+    alloc: Global,
+    t: &Task,
+    draft: &mut Draft,
+    sketched: Option<Items>,
+) -> Result<Option<Covering>, NoMemory>
+    requires { IsDraft t.now draft.old }
+    ensures draft { OnOk result (IsDraft t.now draft.new) }
+    ensures covered { IfOk result (λ found. IfSome found (λ covering. IsCovering t.now draft.new.rules covering.items covering.start)) }
+{
+    if !draft.fresh.is_empty() {
+        return Ok(None);
+    }
+    draft.rules.index()?;
+    cover_of(alloc, t, draft, sketched)
+}
+
+/// How the making of a policy ends.
+#[derive(Drop)]
+enum End {
+    /// The rules are a policy, and these items cover the states that it reaches.
+    Policy(Covering),
+    /// The initial state lies in a layer.
+    Refusal,
+    /// More states are reachable than the budget.
+    Past,
+}
+
+impl<S: Source> Planner<S> {
+    /// Makes rules in rounds, and begins again without rules whenever a round barred an action, until a rule holds in each reached
+    /// state that is no goal. Memory is said to have run out after 2^32 - 1 rounds.
+    fn finish(&mut self, alloc: Global, t: &Task, budget: u32) -> Result<End, NoMemory>
+        requires few { budget ≤ 1000000 }
+        requires planner { IsPlanner t.now self.old }
+        ensures draft { OnOk result (IsDraft t.now self.new.draft) }
+        ensures end { IfOk result (IsEnd t.now budget self.new.draft) }
+    {
+        for _round in 0..u32::MAX {
+            let sketched = match self.round(alloc, t, budget)? {
+                Round::Walked(items) => items,
+                Round::Lost => return Ok(End::Refusal),
+                Round::Past => return Ok(End::Past),
+            };
+            if let Some(covering) = finished(alloc, t, &mut self.draft, sketched)? {
+                return Ok(End::Policy(covering));
+            }
+            self.begin_again(alloc, t)?;
+        }
+        Err(NoMemory)
+    }
+}
+
+/// How many states are opened before the source is asked: a task with no more is decided without it. An opponent makes
+/// plans worth less, so then more are opened.
+fn quick_budget(t: &Task, budget: u32) -> u32 {
+    for act in &t.acts {
+        if act.unfair {
+            return budget.min(50000);
+        }
+    }
+    budget.min(100)
+}
+
+/// The refusal of a task whose initial state is hopeless by this cube. Its one layer is the cube.
+fn hopeless_refusal(alloc: Global, t: &Task, cube: Cube) -> Result<Cert, NoMemory>
+    requires { IsHopelessBy t.now t.now.init cube }
+    ensures { IfOk result (IsRightCert t.now) }
+{
+    let mut layer = Layer::new(alloc);
+    layer.push(cube)?;
+    let mut layers = Layers::new(alloc);
+    layers.add_raw(layer)?;
+    Ok(Cert::Refusal { layers })
+}
+
+/// Decides a task whose initial state is not hopeless.
+fn decide_by_rounds<S: Source>(alloc: Global, t: &Task, budget: u32) -> Result<Decision, NoMemory>
+    requires few { budget ≤ 1000000 }
+    requires hope { ¬ IsHopeless t.now t.now.init }
+    ensures { IfOk result (IsDecision t.now budget) }
+{
+    let mut planner = Planner::<S>::new(alloc, t, quick_budget(t, budget));
+    match planner.finish(alloc, t, budget)? {
+        End::Policy(covering) => Ok(Decision::Certified(policy_of(t, planner.draft, covering))),
+        End::Refusal => Ok(Decision::Certified(refusal_of(t, planner.draft))),
+        End::Past => Ok(Decision::Undecided),
+    }
+}
+
+/// Decides a task within a budget of opened states: a correct and lean certificate of a policy, or a correct one of
+/// unsolvability, or that more states are reachable than the budget. A hopeless initial state is refused without opening any.
+/// Takes the time of `estimate`; then, for the initial state and for each reached state without a rule that no earlier choices list
+/// and that lies in no layer that was kept, that of `solve` with few states, of searches whose work is counted, and of `solve` with
+/// the budget only if these settle nothing; and that of a walk through the states that the policy reaches, once more after each
+/// walk that bars actions.
+pub fn decide_with<S: Source>(alloc: Global, t: &Task, budget: u32) -> Result<Decision, NoMemory>
+    requires { budget ≤ 1000000 }
+    ensures { IfOk result (IsDecision t.now budget) }
+{
+    match estimate(alloc, t, &t.init)? {
+        Guess::Never(cube) => Ok(Decision::Certified(hopeless_refusal(alloc, t, cube)?)),
+        Guess::Reach(_) => decide_by_rounds::<S>(alloc, t, budget),
+    }
+}

@@ -1,0 +1,120 @@
+//! Layers that the source proposes. Each is kept only if it is sure.
+
+ghost use Rattle.fond_planner.specs.Planners.{IsPlanner};
+ghost use Rattle.fond_game.specs.Certificates.{LiesInLayers};
+ghost use Rattle.std.specs.Prelude.{◌≡◌, true, length, IfOk, OnOk};
+
+use crate::planner::Planner;
+use crate::source::{Effort, Source};
+use fond_hint::hint::LayerHint;
+use fond_layers::layers::{Layer, Layers};
+use fond_state::state::State;
+use fond_task::task::Task;
+use fond_text::fault::NoMemory;
+use std::alloc::Global;
+
+/// How many layers are proposed at most for the sake of one state.
+const LAYERS: u32 = 100000;
+
+/// What may be done to find layers for states that are known to be lost, if their layers have so many cubes.
+fn lost_effort(cubes: usize) -> Effort {
+    Effort {
+        states: u32::MAX,
+        work: 0,
+        layers: 2000000u64.saturating_add((cubes as u64).saturating_mul(2000)),
+    }
+}
+
+/// The number of cubes in some layers.
+fn count_cubes(layers: &Layers) -> usize {
+    let mut count: usize = 0;
+    for number in 0..layers.len() {
+        count = count.saturating_add(layers.get(number).len());
+    }
+    count
+}
+
+impl<S: Source> Planner<S> {
+    /// Appends the layers that the source proposes, as long as they are sure. Returns whether the state around which they were to
+    /// be lies in one, as far as the source tells.
+    fn learn_proposed(&mut self, alloc: Global, t: &Task) -> Result<bool, NoMemory>
+        requires { IsPlanner t.now self.old }
+        ensures { OnOk result (IsPlanner t.now self.new) }
+    {
+        for _layer in 0..LAYERS {
+            match self.source.next_layer(alloc, &self.draft)? {
+                LayerHint::Layer(layer) => {
+                    if !self.draft.learn_layer(alloc, t, layer)? {
+                        return Ok(false);
+                    }
+                }
+                LayerHint::Found => return Ok(true),
+                LayerHint::Nothing => return Ok(false),
+            }
+        }
+        Ok(false)
+    }
+
+    /// Appends sure layers that the source finds around the state. Returns whether it lies in a layer then.
+    pub(crate) fn learn_layers(
+        &mut self,
+        alloc: Global,
+        t: &Task,
+        state: &State,
+    ) -> Result<bool, NoMemory>
+        requires planner { IsPlanner t.now self.old }
+        requires long { length state.now ≡ length t.now.atoms }
+        ensures planner { OnOk result (IsPlanner t.now self.new) }
+        ensures lies { IfOk result (λ learnt. learnt ≡ true → LiesInLayers state.now self.new.draft.layers) }
+    {
+        self.source.begin_layers(&self.draft, state)?;
+        self.learn_proposed(alloc, t)?;
+        Ok(self.draft.layers.dead(state).is_some())
+    }
+
+    /// Appends sure layers that the source finds around the states of the full cubes of a layer. Returns false once it finds none
+    /// for one of them.
+    fn learn_around(&mut self, alloc: Global, t: &Task, layer: &Layer) -> Result<bool, NoMemory>
+        requires { IsPlanner t.now self.old }
+        ensures { OnOk result (IsPlanner t.now self.new) }
+    {
+        for cube in layer {
+            self.source.begin_layers_in(&self.draft, cube)?;
+            if !self.learn_proposed(alloc, t)? {
+                return Ok(false);
+            }
+        }
+        Ok(true)
+    }
+
+    /// Appends sure layers that the source finds around the states of the full cubes of these layers, one after the other, as long
+    /// as it finds some for each of them.
+    fn learn_around_all(&mut self, alloc: Global, t: &Task, layers: &Layers) -> Result<(), NoMemory>
+        requires { IsPlanner t.now self.old }
+        ensures { OnOk result (IsPlanner t.now self.new) }
+    {
+        for number in 0..layers.len() {
+            if !self.learn_around(alloc, t, layers.get(number))? {
+                return Ok(());
+            }
+        }
+        Ok(())
+    }
+
+    /// Appends sure layers of few cubes in place of layers of full cubes, whose states are lost: a cube may stand for many of these
+    /// states. There may be none for some of them.
+    pub(crate) fn learn_lost(
+        &mut self,
+        alloc: Global,
+        t: &Task,
+        layers: &Layers,
+    ) -> Result<(), NoMemory>
+        requires { IsPlanner t.now self.old }
+        ensures { OnOk result (IsPlanner t.now self.new) }
+    {
+        self.allow(alloc, t, lost_effort(count_cubes(layers)))?;
+        self.source.know_lost(layers)?;
+        self.learn_around_all(alloc, t, layers)?;
+        self.source.forget_lost()
+    }
+}

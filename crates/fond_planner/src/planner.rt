@@ -1,0 +1,148 @@
+//! The planner: a policy in the making, and where its rules come from.
+
+ghost use Rattle.fond_planner.specs.Drafts.{IsDraft};
+ghost use Rattle.fond_planner.specs.Planners.{IsPlanner};
+ghost use Rattle.fond_planner.specs.Plans.{ArePlans};
+ghost use Rattle.fond_game.specs.Certificates.{LiesInLayers};
+ghost use Rattle.std.specs.Prelude.{◌≡◌, true, length, IfOk, OnOk};
+
+use crate::draft::Draft;
+use crate::plan::Plan;
+use crate::source::{Effort, Source};
+use fond_hint::hint::Hint;
+use fond_state::cube::Cube;
+use fond_state::state::State;
+use fond_task::task::Task;
+use fond_text::fault::NoMemory;
+use std::alloc::Global;
+
+/// A draft, the plans from which its rules are made, and a source of hints. `quick` states are opened before
+/// the source is asked, and `too_few` is the largest number of opened states that settled nothing for some state. `sketches` tells
+/// whether covers are still sketched.
+#[derive(Drop)]
+pub(crate) struct Planner<S> {
+    pub(crate) draft: Draft,
+    pub(crate) plans: Vec<Plan>,
+    pub(crate) source: S,
+    pub(crate) quick: u32,
+    pub(crate) too_few: u32,
+    pub(crate) sketches: bool,
+}
+
+impl<S: Source> Planner<S> {
+    /// A planner without rules and plans.
+    pub(crate) fn new(alloc: Global, t: &Task, quick: u32) -> Planner<S>
+        ensures { IsPlanner t.now result }
+    {
+        Planner {
+            draft: Draft::new(alloc, t),
+            plans: Vec::new(alloc),
+            source: S::new(),
+            quick,
+            too_few: 0,
+            sketches: true,
+        }
+    }
+
+    /// Lets the next searches do this much.
+    pub(crate) fn allow(&mut self, alloc: Global, t: &Task, effort: Effort) -> Result<(), NoMemory>
+        requires { IsPlanner t.now self.old }
+        ensures { OnOk result (IsPlanner t.now self.new) }
+    {
+        self.source.allow(alloc, t, effort)
+    }
+
+    /// What the source says about plans from the state.
+    pub(crate) fn hint(&mut self, alloc: Global, t: &Task, from: &State) -> Result<Hint, NoMemory>
+        requires { IsPlanner t.now self.old }
+        ensures { OnOk result (IsPlanner t.now self.new) }
+    {
+        self.source.plan(alloc, &self.draft, from)
+    }
+
+    /// Searches go on in this outcome of the unfair action from now on.
+    pub(crate) fn respond(
+        &mut self,
+        t: &Task,
+        state: &State,
+        act: u32,
+        outcome: u32,
+    ) -> Result<(), NoMemory>
+        requires { IsPlanner t.now self.old }
+        ensures { OnOk result (IsPlanner t.now self.new) }
+    {
+        self.source.respond(state, act, outcome)
+    }
+
+    /// An action leads from the state to the one from which the next search begins: rules near to the state are aimed at.
+    pub(crate) fn leave(&mut self, t: &Task, state: &State)
+        requires { IsPlanner t.now self.old }
+        ensures { IsPlanner t.now self.new }
+    {
+        self.source.leave(state);
+    }
+
+    /// What the source says about a cube around the state from which no goal is reachable.
+    fn dead_cube(
+        &mut self,
+        alloc: Global,
+        t: &Task,
+        state: &State,
+    ) -> Result<Option<Cube>, NoMemory>
+        requires { IsPlanner t.now self.old }
+        ensures { OnOk result (IsPlanner t.now self.new) }
+    {
+        self.source.dead_cube(alloc, &self.draft, state)
+    }
+
+    /// Appends a layer of one cube with the state, if one is found: the source's, or that of a hopeless state. Returns whether one
+    /// is.
+    pub(crate) fn learn_cube(
+        &mut self,
+        alloc: Global,
+        t: &Task,
+        state: &State,
+    ) -> Result<bool, NoMemory>
+        requires planner { IsPlanner t.now self.old }
+        requires long { length state.now ≡ length t.now.atoms }
+        ensures planner { OnOk result (IsPlanner t.now self.new) }
+        ensures lies { IfOk result (λ learnt. learnt ≡ true → LiesInLayers state.now self.new.draft.layers) }
+    {
+        if let Some(cube) = self.dead_cube(alloc, t, state)? {
+            if self.draft.learn_cube(alloc, t, state, cube)? {
+                return Ok(true);
+            }
+        }
+        self.draft.learn_hopeless(alloc, t, state)
+    }
+
+    /// Appends layers of which one has the state, if some are found: one of a single cube, or else several. Returns whether one has.
+    pub(crate) fn learn_dead(
+        &mut self,
+        alloc: Global,
+        t: &Task,
+        state: &State,
+    ) -> Result<bool, NoMemory>
+        requires planner { IsPlanner t.now self.old }
+        requires long { length state.now ≡ length t.now.atoms }
+        ensures planner { OnOk result (IsPlanner t.now self.new) }
+        ensures lies { IfOk result (λ learnt. learnt ≡ true → LiesInLayers state.now self.new.draft.layers) }
+    {
+        if self.learn_cube(alloc, t, state)? {
+            return Ok(true);
+        }
+        self.learn_layers(alloc, t, state)
+    }
+
+    /// Heeds the fresh pairs of the draft, and drops all rules. If there are none, a sketch missed a state without a rule, and no
+    /// more are made.
+    pub(crate) fn begin_again(&mut self, alloc: Global, t: &Task) -> Result<(), NoMemory>
+        requires { IsPlanner t.now self.old }
+        ensures { OnOk result (IsPlanner t.now self.new) }
+    {
+        self.sketches = !self.draft.fresh.is_empty();
+        self.draft.heed_fresh(alloc, t)?;
+        self.source.forget_rules();
+        Ok(())
+    }
+}
