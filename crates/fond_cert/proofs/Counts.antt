@@ -3,6 +3,7 @@ use Rattle.std.proofs.Common.{◌≡◌, ℕ, ◌≤◌, ◌<◌, ◌^◌, IsTru
 use Rattle.std.specs.Fmt.{decimal}
 use Rattle.std.specs.Str.Parse.{digits_value}
 use Rattle.fond_task.specs.declared.task.Task.{Task}
+use Rattle.fond_cert.specs.declared.code.TheConstants.{TOO_LARGE}
 use Rattle.fond_cert.specs.declared.error.LineError.{LineError}
 use Rattle.fond_cert.specs.declared.error.LineError.TheVariants.{Refused as RefusedLine, NoMemory}
 use Rattle.fond_form.specs.declared.line.Line.TheVariants.{Cube as CubeParts, Reach as ReachParts, Start as StartParts}
@@ -71,7 +72,7 @@ module _ (count : Part) (h : IsRightCut (ReachParts count)) where
         written = ReachLine count.text.now;
         proper = reach_proper;
         cut = (refl, h.2.1);
-        wrong = rw (below_wrong task (2 ^ 64) count.text.now large) (ap (λ p. Some (record { code = 4; at = p })) (sym h.2.1));
+        wrong = rw (below_wrong task (2 ^ 64) count.text.now large) (ap (λ p. Some (record { code = TOO_LARGE; at = p })) (sym h.2.1));
       })
 
 module _ (item : Part) (h : IsRightCut (StartParts item)) where
@@ -97,5 +98,5 @@ module _ (item : Part) (h : IsRightCut (StartParts item)) where
         written = StartLine item.text.now;
         proper = start_proper;
         cut = (refl, h.2.1);
-        wrong = rw (below_wrong task (2 ^ 32) item.text.now large.0) (ap (λ p. Some (record { code = 4; at = p })) (sym h.2.1));
+        wrong = rw (below_wrong task (2 ^ 32) item.text.now large.0) (ap (λ p. Some (record { code = TOO_LARGE; at = p })) (sym h.2.1));
       })

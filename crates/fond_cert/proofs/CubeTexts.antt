@@ -16,6 +16,7 @@ use Rattle.fond_task.specs.Texts.{atom_text, name_at}
 use Rattle.fond_task.specs.Numbers.{atom_number}
 use Rattle.fond_state.specs.Cubes.{literal_at}
 use Rattle.fond_form.specs.Lines.{group_text, spaced, WrittenLiteral, sign_text, literal_pieces}
+use Rattle.fond_cert.specs.declared.code.TheConstants.{OUT_OF_FORM}
 use Rattle.fond_cert.specs.Words.{Refused, unknown, refused_or, first_refused, atom_numbers, is_increasing}
 use Rattle.fond_cert.specs.Spellings.{atom_leaves, written_literal, written_cube}
 use Rattle.fond_form.specs.Cutting.{literals_text}
@@ -182,7 +183,7 @@ module _ (task : Task) (at : ℕ) (text : List ℕ) (cube : List (Option Bool)) 
             ∙ ap (λ c. literals_text (zipped task.labels task.atoms c)) (sym h.cube_is) ∙ ap literals_text (sym (cube_zipped task cube));
       }
 
-  pub order_refused : is_ordered ≡ false → IsCubeRefused task at text (record { code = 1; at = 0 })
+  pub order_refused : is_ordered ≡ false → IsCubeRefused task at text (record { code = OUT_OF_FORM; at = 0 })
   order_refused e =
       let down : is_increasing (atom_numbers task h.literals) ≡ false = sym h.order_is ∙ e in record {
         literals = h.literals;

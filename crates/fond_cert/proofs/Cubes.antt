@@ -10,6 +10,7 @@ use Rattle.fond_task.specs.Texts.{atom_text}
 use Rattle.fond_task.specs.Numbers.{atom_number}
 use Rattle.fond_form.specs.Lines.{IsGroup, group_text, WrittenLiteral, sign_text, literal_pieces}
 use Rattle.fond_form.specs.Parts.{IsGroupText, HasNoLiteral, AreLiterals, literal_text}
+use Rattle.fond_cert.specs.declared.code.TheConstants.{UNKNOWN_ATOM}
 use Rattle.fond_cert.specs.Words.{unknown, refused_or, first_refused, atom_numbers, is_increasing}
 use Rattle.fond_cert.specs.Checked.{with_literal, cube_of, IsCubeAt, IsLiteralRefused, rises}
 use Rattle.fond_form.proofs.Literals.{spelled}
@@ -90,7 +91,7 @@ module _ (task : Task) (at : ℕ) (text rest : List ℕ) (cube : List (Option Bo
       ∙ ap (λ c. refused_or (unknown 2 c) (p + 2) (first_refused task (p + 2 + length (group_text next.first.leaves)) (literal_pieces next.more))) same
       ∙ ap (λ t. refused_or (unknown 2 found) (p + 2) (first_refused task (p + 2 + length t) (literal_pieces next.more))) (sym next.atom_is)
 
-  pub one_refused : atom_number task atom ≡ None → IsLiteralRefused task at text (record { code = 2; at = at + (length text - length rest) + 2 })
+  pub one_refused : atom_number task atom ≡ None → IsLiteralRefused task at text (record { code = UNKNOWN_ATOM; at = at + (length text - length rest) + 2 })
   one_refused none = record {
     literals = h.whole;
     proper = h.whole_right;

@@ -4,7 +4,11 @@ use Rattle.fond_form.specs.declared.line.Line.{Line}
 use Rattle.fond_form.specs.declared.line.Line.TheVariants.{PolicyHeader as CutPolicy, RefusalHeader as CutRefusal, CoverHeader as CutCover, Layer, Cube, Pair, FairRule as CutFair, UnfairRule as CutUnfair, Reach, GoalItem as CutGoal, RuleItem as CutItem, Start, End}
 use Rattle.fond_form.specs.Lines.{GoalWord, WrittenLine, PolicyHeader, RefusalHeader, CoverHeader, LayerLine, CubeLine, PairLine, FairRule, UnfairRule, ReachLine, GoalItem, RuleItem, StartLine, EndLine, line_text}
 use Rattle.fond_form.specs.Cutting.{IsLineOf, IsCutOf}
-use Rattle.fond_cert.specs.Faults.{ByReach, ByCover, OfPolicy, OfRefusal, Due, HeaderDue, LayersDue, CubesDue, PairsDue, RulesDue, ItemsDue, EndDue, NothingDue, due_after, HasNoForm}
+use Rattle.fond_cert.specs.declared.due.Evidence.TheVariants.{Reach as ByReach, Cover as ByCover}
+use Rattle.fond_cert.specs.declared.due.Kind.TheVariants.{Policy as OfPolicy, Refusal as OfRefusal}
+use Rattle.fond_cert.specs.declared.due.Due.{Due}
+use Rattle.fond_cert.specs.declared.due.Due.TheVariants.{Header as HeaderDue, Layers as LayersDue, Cubes as CubesDue, Pairs as PairsDue, Rules as RulesDue, Items as ItemsDue, End as EndDue, Nothing as NothingDue}
+use Rattle.fond_cert.specs.Faults.{due_after, HasNoForm}
 use Rattle.fond_form.specs.Kinds.{HasNoLineOf, IsAny}
 use Rattle.fond_cert.specs.Stages.{like}
 

@@ -4,6 +4,7 @@ use Rattle.fond_task.specs.declared.task.Task.{Task}
 use Rattle.fond_task.specs.Numbers.{act_number}
 use Rattle.fond_game.specs.declared.rule.Target.{Target}
 use Rattle.fond_game.specs.declared.rule.Targets.TheVariants.{One}
+use Rattle.fond_cert.specs.declared.code.TheConstants.{TOO_LARGE, UNKNOWN_ACTION}
 use Rattle.fond_cert.specs.declared.error.LineError.{LineError}
 use Rattle.fond_cert.specs.declared.error.LineError.TheVariants.{Refused as RefusedLine, NoMemory}
 use Rattle.fond_form.specs.declared.line.Line.{Line}
@@ -85,17 +86,17 @@ module _ (action outcome target literals : Part) (h : IsRightCut (FairParts acti
     }
 
     pub act_error : (error : LineError) → IsActRefused task action error → LineRefuses (IsRefusedBy task line) error
-    act_error error none = rw none.1 (refused_with h.2.2 proper.3 h.2.6 (record { code = 3; at = action.at }) (rw none.0 refl))
+    act_error error none = rw none.1 (refused_with h.2.2 proper.3 h.2.6 (record { code = UNKNOWN_ACTION; at = action.at }) (rw none.0 refl))
 
     module _ (act : ℕ) (some : ReadsAct task action.text.now act) where
       pub outcome_error : (error : LineError) → IsNumberRefused outcome error → LineRefuses (IsRefusedBy task line) error
-      outcome_error error large = rw large.1 (refused_with h.2.2 proper.3 h.2.6 (record { code = 4; at = outcome.at }) (rw (some, below_wrong task (2 ^ 32) outcome.text.now large.0) refl))
+      outcome_error error large = rw large.1 (refused_with h.2.2 proper.3 h.2.6 (record { code = TOO_LARGE; at = outcome.at }) (rw (some, below_wrong task (2 ^ 32) outcome.text.now large.0) refl))
 
       module _ (picked : ℕ) (one : ReadsNumber outcome.text.now picked) where
         pub target_error : (error : LineError) → IsTargetTooLarge target error → LineRefuses (IsRefusedBy task line) error
         target_error error large =
             rw large.1
-            (refused_with h.2.2 proper.3 h.2.6 (record { code = 4; at = target.at })
+            (refused_with h.2.2 proper.3 h.2.6 (record { code = TOO_LARGE; at = target.at })
             (rw (some, below_right task (2 ^ 32) outcome.text.now one.0, large.0 task) refl))
 
         module _ (named : Target) (two : ReadsTarget target.text.now named) where

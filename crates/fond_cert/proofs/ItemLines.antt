@@ -4,6 +4,7 @@ use Rattle.std.specs.Fmt.{decimal}
 use Rattle.std.specs.List.{flat_map}
 use Rattle.fond_task.specs.declared.task.Task.{Task}
 use Rattle.fond_cover.specs.declared.item.Way.TheVariants.{Goal as ToGoal, Rule as ByRule}
+use Rattle.fond_cert.specs.declared.code.TheConstants.{TOO_LARGE}
 use Rattle.fond_cert.specs.declared.error.LineError.{LineError}
 use Rattle.fond_cert.specs.declared.error.LineError.TheVariants.{Refused as RefusedLine, NoMemory}
 use Rattle.fond_form.specs.declared.line.Line.{Line}
@@ -115,7 +116,7 @@ module _ (rule items literals : Part) (h : IsRightCut (ItemParts rule items lite
 
     pub rule_error : (error : LineError) → IsNumberRefused rule error → LineRefuses (IsRefusedBy task line) error
     rule_error error large =
-        rw large.1 (refused_with h.2.0 proper.2 h.2.3 h.2.1 proper.3 h.2.4 (record { code = 4; at = rule.at }) (rw (below_wrong task (2 ^ 32) rule.text.now large.0) refl))
+        rw large.1 (refused_with h.2.0 proper.2 h.2.3 h.2.1 proper.3 h.2.4 (record { code = TOO_LARGE; at = rule.at }) (rw (below_wrong task (2 ^ 32) rule.text.now large.0) refl))
 
     module _ (picked : ℕ) (one : ReadsNumber rule.text.now picked) where
       numbers_refused : (refused : Refused) → IsOneNumberRefused task items.at items.text.now refused → IsRefusedBy task line refused

@@ -10,6 +10,7 @@ use Rattle.fond_task.specs.declared.task.Task.{Task}
 use Rattle.fond_game.specs.declared.rule.Target.TheVariants.{Rule as ToRule}
 use Rattle.fond_policy.specs.Sizes.{IsSmallTarget}
 use Rattle.fond_form.specs.Parts.{as_target, is_target, AreWords, AreWordsText, HasNoWord, IsCut}
+use Rattle.fond_cert.specs.declared.code.TheConstants.{TOO_LARGE}
 use Rattle.fond_cert.specs.Checked.{AreNumbersAt, IsOneNumberRefused, ReadsNumber}
 use Rattle.fond_form.specs.Cutting.{target_text}
 use Rattle.fond_form.specs.Lines.{is_number, spaced, WrittenTarget, GoalWord, NumberWord, IsProperTarget, Fixed, Below, target_pieces, number_pieces}
@@ -100,7 +101,7 @@ one_number_read at text rest inner word further numbers number h e cut reads =
     }
 
 pub one_number_refused : (at : ℕ) (text rest inner word further : List ℕ) (numbers : List ℕ) → LeftNumbers at text rest numbers → rest ≡ 32 ∷ inner → IsCut inner word further → 2 ^ 32 ≤ digits_value 10 word →
-    (task : Task) → IsOneNumberRefused task at text (record { code = 4; at = at + (length text - length inner) })
+    (task : Task) → IsOneNumberRefused task at text (record { code = TOO_LARGE; at = at + (length text - length inner) })
 one_number_refused at text rest inner word further numbers h e cut large task =
     let is = as_number word (next_number rest inner word further h.left e cut).right in
     let r = one_refused at text rest inner word further (map ToRule numbers) h.targets e cut (λ task. rw is (below_wrong task (2 ^ 32) word large)) task in record {

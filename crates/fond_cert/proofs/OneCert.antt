@@ -22,7 +22,9 @@ use Rattle.fond_cover.specs.declared.item.Way.TheVariants.{Goal as ToGoal, Rule 
 use Rattle.fond_policy.specs.declared.cert.Cert.{Cert}
 use Rattle.fond_policy.specs.declared.cert.Cert.TheVariants.{Policy, Refusal, Covered}
 use Rattle.fond_policy.specs.Belongs.{Belongs, BelongAsPairs, BelongAsRules}
-use Rattle.fond_cert.specs.Faults.{Due, HeaderDue, NothingDue, Lead}
+use Rattle.fond_cert.specs.declared.due.Due.{Due}
+use Rattle.fond_cert.specs.declared.due.Due.TheVariants.{Header as HeaderDue, Nothing as NothingDue}
+use Rattle.fond_cert.specs.Faults.{Lead}
 use Rattle.fond_cert.specs.Items.{IsPairOf, IsRuleOf, IsItemOf}
 use Rattle.fond_form.specs.Lines.{group_text, WrittenLiteral, WrittenLine, CubeLine, ReachLine, StartLine, EndLine, line_text}
 use Rattle.fond_policy.specs.Sizes.{IsSmallPair, IsSmallTarget, AreSmallTargets, IsSmallWay, HasSmallNumbers}

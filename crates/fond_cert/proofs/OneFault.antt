@@ -2,7 +2,9 @@
 use Rattle.std.proofs.Common.{◌≡◌, inl, inr, ℕ, ◌+◌, List, [], ◌∷◌, ◌++◌, Option, Some, None, length, codes, sym, ap, subst, ◌∙◌, arith, append_assoc, length-append}
 use Rattle.std.proofs.lemmas.List.{append-nil}
 use Rattle.fond_task.specs.declared.task.Task.{Task}
-use Rattle.fond_cert.specs.Faults.{Due, HeaderDue, NothingDue, due_after, Lead, IsRefusedLine, IsRefusedRest, IsRefusedAt, IsCertFault}
+use Rattle.fond_cert.specs.declared.due.Due.{Due}
+use Rattle.fond_cert.specs.declared.due.Due.TheVariants.{Header as HeaderDue, Nothing as NothingDue}
+use Rattle.fond_cert.specs.Faults.{due_after, Lead, IsRefusedLine, IsRefusedRest, IsRefusedAt, IsCertFault}
 use Rattle.fond_form.specs.Feeds.{HasNoFeed}
 use Rattle.fond_form.specs.Lines.{WrittenLine, line_text, IsProper}
 use Rattle.fond_cert.specs.Spellings.{lines_text}

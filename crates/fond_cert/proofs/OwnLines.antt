@@ -26,7 +26,13 @@ use Rattle.fond_policy.specs.declared.cert.Cert.{Cert}
 use Rattle.fond_policy.specs.declared.cert.Cert.TheVariants.{Policy, Refusal, Covered}
 use Rattle.fond_policy.specs.Belongs.{Belongs, BelongAsLayers, BelongAsPairs, BelongAsRules, BelongAsItems, HasNumber}
 use Rattle.fond_cert.specs.Checked.{rises}
-use Rattle.fond_cert.specs.Faults.{Evidence, ByReach, ByCover, Kind, OfPolicy, OfRefusal, Due, HeaderDue, LayersDue, CubesDue, PairsDue, RulesDue, ItemsDue, EndDue, NothingDue, if_few, due_after, after_layers, after_rules, Lead}
+use Rattle.fond_cert.specs.declared.due.Evidence.{Evidence}
+use Rattle.fond_cert.specs.declared.due.Evidence.TheVariants.{Reach as ByReach, Cover as ByCover}
+use Rattle.fond_cert.specs.declared.due.Kind.{Kind}
+use Rattle.fond_cert.specs.declared.due.Kind.TheVariants.{Policy as OfPolicy, Refusal as OfRefusal}
+use Rattle.fond_cert.specs.declared.due.Due.{Due}
+use Rattle.fond_cert.specs.declared.due.Due.TheVariants.{Header as HeaderDue, Layers as LayersDue, Cubes as CubesDue, Pairs as PairsDue, Rules as RulesDue, Items as ItemsDue, End as EndDue, Nothing as NothingDue}
+use Rattle.fond_cert.specs.Faults.{if_few, due_after, after_layers, after_rules, Lead}
 use Rattle.fond_cert.specs.Items.{IsPairOf, IsRuleOf}
 use Rattle.fond_form.specs.Lines.{IsGroup, group_text, is_number, GoalWord, IsProperTarget, WrittenLiteral, AreProper, WrittenLine, LayerLine, CubeLine, FairRule, UnfairRule, ReachLine, GoalItem, RuleItem, StartLine, EndLine, Piece, Fixed, Below, piece_text, target_piece, target_pieces, number_pieces, literal_pieces, line_pieces, IsProper}
 use Rattle.fond_policy.specs.Sizes.{IsSmallPair, IsSmallTarget, AreSmallTargets, IsSmallWay, HasSmallNumbers}

@@ -3,6 +3,7 @@ use Rattle.std.proofs.Common.{◌≡◌, ℕ, ◌+◌, ◌^◌, IsTrue, List, �
 use Rattle.fond_task.specs.declared.task.Task.{Task}
 use Rattle.fond_task.specs.Numbers.{act_number}
 use Rattle.fond_game.specs.declared.rule.Pair.{Pair}
+use Rattle.fond_cert.specs.declared.code.TheConstants.{TOO_LARGE, UNKNOWN_ACTION}
 use Rattle.fond_cert.specs.declared.error.LineError.{LineError}
 use Rattle.fond_cert.specs.declared.error.LineError.TheVariants.{Refused as RefusedLine, NoMemory}
 use Rattle.fond_form.specs.declared.line.Line.{Line}
@@ -88,24 +89,24 @@ module _ (action outcome layer cube literals : Part) (h : IsRightCut (PairParts 
     }
 
     pub act_error : (error : LineError) → IsActRefused task action error → LineRefuses (IsRefusedBy task line) error
-    act_error error none = rw none.1 (refused_with h.2.1 proper.4 h.2.4 (record { code = 3; at = action.at }) (rw none.0 refl))
+    act_error error none = rw none.1 (refused_with h.2.1 proper.4 h.2.4 (record { code = UNKNOWN_ACTION; at = action.at }) (rw none.0 refl))
 
     module _ (act : ℕ) (some : ReadsAct task action.text.now act) where
       pub outcome_error : (error : LineError) → IsNumberRefused outcome error → LineRefuses (IsRefusedBy task line) error
-      outcome_error error large = rw large.1 (refused_with h.2.1 proper.4 h.2.4 (record { code = 4; at = outcome.at }) (rw (some, below_wrong task (2 ^ 32) outcome.text.now large.0) refl))
+      outcome_error error large = rw large.1 (refused_with h.2.1 proper.4 h.2.4 (record { code = TOO_LARGE; at = outcome.at }) (rw (some, below_wrong task (2 ^ 32) outcome.text.now large.0) refl))
 
       module _ (picked : ℕ) (one : ReadsNumber outcome.text.now picked) where
         pub layer_error : (error : LineError) → IsNumberRefused layer error → LineRefuses (IsRefusedBy task line) error
         layer_error error large =
             rw large.1
-            (refused_with h.2.1 proper.4 h.2.4 (record { code = 4; at = layer.at })
+            (refused_with h.2.1 proper.4 h.2.4 (record { code = TOO_LARGE; at = layer.at })
             (rw (some, below_right task (2 ^ 32) outcome.text.now one.0, below_wrong task (2 ^ 32) layer.text.now large.0) refl))
 
         module _ (layer_is : ℕ) (two : ReadsNumber layer.text.now layer_is) where
           pub cube_error : (error : LineError) → IsNumberRefused cube error → LineRefuses (IsRefusedBy task line) error
           cube_error error large =
               rw large.1
-              (refused_with h.2.1 proper.4 h.2.4 (record { code = 4; at = cube.at })
+              (refused_with h.2.1 proper.4 h.2.4 (record { code = TOO_LARGE; at = cube.at })
               (rw (some, below_right task (2 ^ 32) outcome.text.now one.0, below_right task (2 ^ 32) layer.text.now two.0, below_wrong task (2 ^ 32) cube.text.now large.0) refl))
 
           module _ (cube_is : ℕ) (three : ReadsNumber cube.text.now cube_is) where

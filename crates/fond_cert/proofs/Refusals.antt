@@ -5,6 +5,7 @@ use Rattle.std.specs.Str.Parse.{digits_value}
 use Rattle.std.proofs.lemmas.Bool.Decides.{nat_tests}
 use Rattle.fond_task.specs.declared.task.Task.{Task}
 use Rattle.fond_form.specs.Lines.{WrittenLine, Piece, Below, piece_text, line_pieces, line_text}
+use Rattle.fond_cert.specs.declared.code.TheConstants.{TOO_LARGE}
 use Rattle.fond_cert.specs.Words.{Refused, piece_code, refused_or, first_refused, refusal_or_order, is_ordered, line_refusal}
 
 is_below : (value bound : ℕ) → value < bound → nat_lt value bound ≡ true
@@ -14,10 +15,10 @@ is_above : (value bound : ℕ) → bound ≤ value → nat_lt value bound ≡ fa
 is_above value bound h = grind (arith, nat_tests)
 
 pub below_right : (task : Task) (bound : ℕ) (digits : List ℕ) → digits_value 10 digits < bound → piece_code task (Below bound digits) ≡ None
-below_right task bound digits h = ap (λ v. if v then None else Some 4) (is_below (digits_value 10 digits) bound h)
+below_right task bound digits h = ap (λ v. if v then None else Some TOO_LARGE) (is_below (digits_value 10 digits) bound h)
 
-pub below_wrong : (task : Task) (bound : ℕ) (digits : List ℕ) → bound ≤ digits_value 10 digits → piece_code task (Below bound digits) ≡ Some 4
-below_wrong task bound digits h = ap (λ v. if v then None else Some 4) (is_above (digits_value 10 digits) bound h)
+pub below_wrong : (task : Task) (bound : ℕ) (digits : List ℕ) → bound ≤ digits_value 10 digits → piece_code task (Below bound digits) ≡ Some TOO_LARGE
+below_wrong task bound digits h = ap (λ v. if v then None else Some TOO_LARGE) (is_above (digits_value 10 digits) bound h)
 
 over_right : (task : Task) (at : ℕ) (piece : Piece) (pieces more : List Piece) (code : Option ℕ) → piece_code task piece ≡ code →
     (first_refused task (at + length (piece_text piece)) pieces ≡ None →

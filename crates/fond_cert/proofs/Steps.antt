@@ -19,7 +19,11 @@ use Rattle.fond_policy.specs.Belongs.{BelongAsLayers}
 use Rattle.fond_form.specs.Cutting.{IsLineOf}
 use Rattle.fond_cert.specs.Made.{IsMade}
 use Rattle.fond_cert.specs.Drafts.{opened, all_layers, last_lines, draft_lines, IsDraftOf, with_open, closed, with_pair, with_rule, with_item, with_reach, with_start, IsGrown, IsEmpty, header, HasNoLast, HasNoEvidence, HasLayersAlone, IsWholeOf, FitsDue, HasRoom}
-use Rattle.fond_cert.specs.Faults.{ByReach, ByCover, Kind, OfPolicy, OfRefusal, Due, due_after}
+use Rattle.fond_cert.specs.declared.due.Evidence.TheVariants.{Reach as ByReach, Cover as ByCover}
+use Rattle.fond_cert.specs.declared.due.Kind.{Kind}
+use Rattle.fond_cert.specs.declared.due.Kind.TheVariants.{Policy as OfPolicy, Refusal as OfRefusal}
+use Rattle.fond_cert.specs.declared.due.Due.{Due}
+use Rattle.fond_cert.specs.Faults.{due_after}
 use Rattle.fond_cert.specs.Items.{IsReadPair, IsReadRule, IsReadItem}
 use Rattle.fond_form.specs.Lines.{WrittenLine, PolicyHeader, RefusalHeader, CoverHeader, LayerLine, CubeLine, PairLine, ReachLine, StartLine, EndLine, IsProper}
 use Rattle.fond_cert.specs.Spellings.{written_cube, layer_lines, pair_line, rule_line, item_line}

@@ -5,6 +5,7 @@ use Rattle.fond_task.specs.declared.task.Task.{Task}
 use Rattle.fond_game.specs.declared.rule.Target.{Target}
 use Rattle.fond_form.specs.Lines.{spaced, WrittenTarget, target_piece, target_pieces}
 use Rattle.fond_form.specs.Parts.{is_target, AreWords, AreWordsText, IsCut, as_target}
+use Rattle.fond_cert.specs.declared.code.TheConstants.{TOO_LARGE}
 use Rattle.fond_cert.specs.Words.{piece_code, refused_or, first_refused}
 use Rattle.fond_policy.specs.Sizes.{IsSmallTarget}
 use Rattle.fond_cert.specs.Spellings.{written_target}
@@ -82,7 +83,7 @@ one_read at text rest inner word further targets target h e cut right named smal
     }
 
 pub one_refused : (at : ℕ) (text rest inner word further : List ℕ) (targets : List Target) → LeftTargets at text rest targets → rest ≡ 32 ∷ inner → IsCut inner word further →
-    ((task : Task) → piece_code task (target_piece (as_target word)) ≡ Some 4) → (task : Task) → IsTargetRefused task at text (record { code = 4; at = at + (length text - length inner) })
+    ((task : Task) → piece_code task (target_piece (as_target word)) ≡ Some TOO_LARGE) → (task : Task) → IsTargetRefused task at text (record { code = TOO_LARGE; at = at + (length text - length inner) })
 one_refused at text rest inner word further targets h e cut wrong task =
     let next = next_is at text rest inner word further targets h e cut in
     let p = at + (length text - length rest) in
@@ -95,7 +96,7 @@ one_refused at text rest inner word further targets h e cut wrong task =
           ∙ ap (λ l. first_refused task p (target_pieces (map as_target l))) next.left_is
           ∙ over_word task p word (map as_target next.more) next.right
           ∙ ap (λ c. refused_or c (p + 1) (first_refused task (p + 1 + length word) (target_pieces (map as_target next.more)))) (wrong task)
-          ∙ ap (λ q. Some (record { code = 4; at = q })) there;
+          ∙ ap (λ q. Some (record { code = TOO_LARGE; at = q })) there;
     }
 
 append_nil : (targets : List WrittenTarget) → targets ++ [] ≡ targets

@@ -4,6 +4,7 @@ use Rattle.fond_task.specs.declared.task.Task.{Task}
 use Rattle.fond_task.specs.Numbers.{act_number}
 use Rattle.fond_game.specs.declared.rule.Target.{Target}
 use Rattle.fond_game.specs.declared.rule.Targets.TheVariants.{All as Each}
+use Rattle.fond_cert.specs.declared.code.TheConstants.{UNKNOWN_ACTION}
 use Rattle.fond_cert.specs.declared.error.LineError.{LineError}
 use Rattle.fond_cert.specs.declared.error.LineError.TheVariants.{Refused as RefusedLine, NoMemory}
 use Rattle.fond_form.specs.declared.line.Line.{Line}
@@ -93,7 +94,7 @@ module _ (action targets literals : Part) (h : IsRightCut (UnfairParts action ta
     }
 
     pub act_error : (error : LineError) → IsActRefused task action error → LineRefuses (IsRefusedBy task line) error
-    act_error error none = rw none.1 (refused_with h.2.1 proper.2 h.2.5 h.2.2 proper.3 h.2.6 (record { code = 3; at = action.at }) (rw none.0 refl))
+    act_error error none = rw none.1 (refused_with h.2.1 proper.2 h.2.5 h.2.2 proper.3 h.2.6 (record { code = UNKNOWN_ACTION; at = action.at }) (rw none.0 refl))
 
     module _ (act : ℕ) (some : ReadsAct task action.text.now act) where
       targets_refused : (refused : Refused) → IsTargetRefused task targets.at targets.text.now refused → IsRefusedBy task line refused

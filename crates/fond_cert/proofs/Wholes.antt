@@ -11,8 +11,8 @@ use Rattle.fond_task.specs.declared.task.Task.{Task}
 use Rattle.fond_game.specs.Layers.{CubeView}
 use Rattle.fond_cover.specs.declared.item.Item.{Item}
 use Rattle.fond_cert.specs.declared.draft.Draft.{Draft}
-use Rattle.fond_cert.specs.declared.due.Due.{Due as KeptDue}
-use Rattle.fond_cert.specs.declared.due.Due.TheVariants.{Header, Nothing}
+use Rattle.fond_cert.specs.declared.code.TheConstants.{OUT_OF_FORM}
+use Rattle.fond_cert.specs.declared.due.Due.{Due}
 use Rattle.fond_cert.specs.declared.error.CertError.{CertError}
 use Rattle.fond_cert.specs.declared.error.LineError.{LineError}
 use Rattle.fond_cert.specs.declared.error.LineError.TheVariants.{Refused as RefusedLine, NoMemory}
@@ -24,7 +24,11 @@ use Rattle.fond_policy.specs.Belongs.{Belongs, BelongAsLayers, BelongAsPairs, Be
 use Rattle.fond_form.specs.Cutting.{IsLineOf, IsCutOf}
 use Rattle.fond_cert.specs.Made.{IsRefusedBy}
 use Rattle.fond_cert.specs.Drafts.{all_layers, draft_lines, opened, last_lines, IsDraftOf, header, HasLayersAlone, IsWholeOf, FitsDue}
-use Rattle.fond_cert.specs.Faults.{ByReach, ByCover, Kind, OfPolicy, OfRefusal, Due, HeaderDue, NothingDue, due_after, Lead, IsRefusedLine, IsRefusedAt, IsCertFault}
+use Rattle.fond_cert.specs.declared.due.Evidence.TheVariants.{Reach as ByReach, Cover as ByCover}
+use Rattle.fond_cert.specs.declared.due.Kind.{Kind}
+use Rattle.fond_cert.specs.declared.due.Kind.TheVariants.{Policy as OfPolicy, Refusal as OfRefusal}
+use Rattle.fond_cert.specs.declared.due.Due.TheVariants.{Header as HeaderDue, Nothing as NothingDue}
+use Rattle.fond_cert.specs.Faults.{due_after, Lead, IsRefusedLine, IsRefusedAt, IsCertFault}
 use Rattle.fond_form.specs.Feeds.{HasNoFeed}
 use Rattle.fond_cert.specs.Items.{IsReadPair, IsReadRule, IsReadItem}
 use Rattle.fond_form.specs.Lines.{WrittenLine, PolicyHeader, RefusalHeader, CoverHeader, ReachLine, EndLine, line_text}
@@ -32,7 +36,7 @@ use Rattle.fond_cert.specs.Progress.{IsReady, IsTaken, IsWhole, cert_by, cert_of
 use Rattle.fond_cert.specs.Refusals.{LineRefuses, CertRefuses}
 use Rattle.fond_cert.specs.Spellings.{layer_lines, pair_line, rule_line, item_line, lines_text, spelling}
 use Rattle.fond_policy.specs.Sizes.{HasSmallNumbers}
-use Rattle.fond_cert.specs.Stages.{due_of, like}
+use Rattle.fond_cert.specs.Stages.{like}
 use Rattle.fond_cert.specs.Words.{Refused}
 use Rattle.fond_cert.proofs.Dues.{like_due}
 use Rattle.fond_cert.proofs.FairRules.{fair_text}
@@ -76,16 +80,16 @@ text_more lines line further =
     ∙ ap (λ t. t ++ further) (sym (lines_append lines (line ∷ [])))
 
 -- the lines before a rest, and the draft that they make
-pub record IsReadTo (task : Task) (text rest : List ℕ) (due : KeptDue) (draft : Draft) : Type 0 where
+pub record IsReadTo (task : Task) (text rest : List ℕ) (due : Due) (draft : Draft) : Type 0 where
   pub lines : List WrittenLine
   pub own : List WrittenLine
-  pub lead : Lead task HeaderDue lines (due_of due)
+  pub lead : Lead task HeaderDue lines due
   pub split : text ≡ lines_text lines ++ rest
   pub same : lines_text lines ≡ lines_text own
-  pub fits : FitsDue task (due_of due) draft own
+  pub fits : FitsDue task due draft own
   pub belongs : IsDraftOf task draft
 
-pub nothing_read : (task : Task) (text : List ℕ) (draft : Draft) → draft ≡ record { layers = []; current = None; pairs = []; rules = []; items = []; reach = None; start = None } → IsReadTo task text text Header draft
+pub nothing_read : (task : Task) (text : List ℕ) (draft : Draft) → draft ≡ record { layers = []; current = None; pairs = []; rules = []; items = []; reach = None; start = None } → IsReadTo task text text HeaderDue draft
 nothing_read task text draft e = record {
   lines = [];
   own = [];
@@ -111,25 +115,25 @@ nothing_read task text draft e = record {
       });
 }
 
-pub is_ready : (task : Task) (text rest : List ℕ) (due : KeptDue) (draft : Draft) → IsReadTo task text rest due draft → IsReady task due draft
+pub is_ready : (task : Task) (text rest : List ℕ) (due : Due) (draft : Draft) → IsReadTo task text rest due draft → IsReady task due draft
 is_ready task text rest due draft h = (h.belongs, (h.own, h.fits))
 
-pub rest_short : (task : Task) (text rest : List ℕ) (due : KeptDue) (draft : Draft) → IsReadTo task text rest due draft → length rest ≤ length text
+pub rest_short : (task : Task) (text rest : List ℕ) (due : Due) (draft : Draft) → IsReadTo task text rest due draft → length rest ≤ length text
 rest_short task text rest due draft h = omega (arith, ap length h.split, length-append (lines_text h.lines) rest)
 
-pub one_more_line : (task : Task) (text rest piece further : List ℕ) (due next : KeptDue) (before after : Draft) → IsReadTo task text rest due before → rest ≡ piece ++ (codes "\n" ++ further) →
+pub one_more_line : (task : Task) (text rest piece further : List ℕ) (due next : Due) (before after : Draft) → IsReadTo task text rest due before → rest ≡ piece ++ (codes "\n" ++ further) →
     IsTaken task due before piece next after → IsReadTo task text further next after
 one_more_line task text rest piece further due next before after h e taken =
     let line = taken.0 in
     let cut = taken.1 in
-    let s = step task (due_of due) (due_of next) before after h.own h.fits h.belongs line taken.2 taken.3 in
+    let s = step task due next before after h.own h.fits h.belongs line taken.2 taken.3 in
     let w = s.made.written in
     let piece_is : piece ≡ line_text w = cut.3 ∙ same_text line cut.0 w cut.2 s.made.cut in record {
       lines = h.lines ++ (w ∷ []);
       own = h.own ++ (s.own ∷ []);
       lead =
-          lead_more task h.lines (w ∷ []) HeaderDue (due_of due) (due_of next) h.lead
-          (s.made.proper, s.made.right, (due_of next, like_due (due_of due) line w s.made.cut ∙ taken.2, refl));
+          lead_more task h.lines (w ∷ []) HeaderDue due next h.lead
+          (s.made.proper, s.made.right, (next, like_due due line w s.made.cut ∙ taken.2, refl));
       split = h.split ∙ ap (λ t. lines_text h.lines ++ t) (e ∙ ap (λ t. t ++ (codes "\n" ++ further)) piece_is) ∙ text_more h.lines w further;
       same =
           lines_append h.lines (w ∷ []) ∙ ap (λ t. t ++ lines_text (w ∷ [])) h.same
@@ -141,11 +145,11 @@ one_more_line task text rest piece further due next before after h e taken =
 at_byte : (text front rest : List ℕ) (at : ℕ) → text ≡ front ++ rest → length text - length rest + at ≡ length front + at
 at_byte text front rest at e = omega (arith, ap length e, length-append front rest)
 
-fault_at : (task : Task) (text rest : List ℕ) (due : KeptDue) (draft : Draft) (code at : ℕ) → IsReadTo task text rest due draft → IsRefusedAt task (due_of due) rest code at →
+fault_at : (task : Task) (text rest : List ℕ) (due : Due) (draft : Draft) (code at : ℕ) → IsReadTo task text rest due draft → IsRefusedAt task due rest code at →
     IsCertFault task text code (length text - length rest + at)
 fault_at task text rest due draft code at h refused = record {
   lines = h.lines;
-  due = due_of due;
+  due = due;
   lead = h.lead;
   rest = rest;
   split = h.split;
@@ -175,26 +179,22 @@ refused_line task NothingDue rest piece further code at whole e (inl h) = (some_
 refused_line task NothingDue rest piece further code at whole e (inr h) = absurd (nothing_allowed h.0 h.1 h.3)
 refused_line task due rest piece further code at whole e h = inr (piece, further, e, whole, h)
 
-pub line_fault : (task : Task) (text rest piece further : List ℕ) (due : KeptDue) (draft : Draft) (error : LineError) (result : CertError) → IsReadTo task text rest due draft → HasNoFeed piece →
-    rest ≡ piece ++ (codes "\n" ++ further) → LineRefuses (λ (refused : Refused). IsRefusedLine task (due_of due) piece refused.code refused.at) error →
+pub line_fault : (task : Task) (text rest piece further : List ℕ) (due : Due) (draft : Draft) (error : LineError) (result : CertError) → IsReadTo task text rest due draft → HasNoFeed piece →
+    rest ≡ piece ++ (codes "\n" ++ further) → LineRefuses (λ (refused : Refused). IsRefusedLine task due piece refused.code refused.at) error →
     IsPlaced (length text - length rest) error result → CertRefuses (IsCertFault task text) result
 line_fault task text rest piece further due draft (RefusedLine code at) result h whole e refused placed =
-    rw placed (fault_at task text rest due draft code at h (refused_line task (due_of due) rest piece further code at whole e refused))
+    rw placed (fault_at task text rest due draft code at h (refused_line task due rest piece further code at whole e refused))
 line_fault task text rest piece further due draft NoMemory result h whole e refused placed = rw placed tt
 
-no_rest : (task : Task) (due : Due) (rest : List ℕ) → HasNoFeed rest → ¬ ((due ≡ NothingDue) × (rest ≡ [])) → IsRefusedAt task due rest 1 0
+no_rest : (task : Task) (due : Due) (rest : List ℕ) → HasNoFeed rest → ¬ ((due ≡ NothingDue) × (rest ≡ [])) → IsRefusedAt task due rest OUT_OF_FORM 0
 no_rest task NothingDue rest none not_over = ((λ e. not_over (refl, e)), refl, refl)
 no_rest task due rest none not_over = inl (none, refl, refl)
 
-kept_nothing : (due : KeptDue) → due_of due ≡ NothingDue → due ≡ Nothing
-kept_nothing Nothing e = refl
-kept_nothing due e = absurd (cc)
+pub end_fault : (task : Task) (text rest : List ℕ) (due : Due) (draft : Draft) → IsReadTo task text rest due draft → HasNoFeed rest → ¬ ((due ≡ NothingDue) × (rest ≡ [])) →
+    IsCertFault task text OUT_OF_FORM (length text - length rest + 0)
+end_fault task text rest due draft h none not_over = fault_at task text rest due draft OUT_OF_FORM 0 h (no_rest task due rest none not_over)
 
-pub end_fault : (task : Task) (text rest : List ℕ) (due : KeptDue) (draft : Draft) → IsReadTo task text rest due draft → HasNoFeed rest → ¬ ((due ≡ Nothing) × (rest ≡ [])) →
-    IsCertFault task text 1 (length text - length rest + 0)
-end_fault task text rest due draft h none not_over = fault_at task text rest due draft 1 0 h (no_rest task (due_of due) rest none (λ k. not_over (kept_nothing due k.0, k.1)))
-
-pub whole_read : (task : Task) (text rest : List ℕ) (due : KeptDue) (draft : Draft) → IsReadTo task text rest due draft → due ≡ Nothing → rest ≡ [] → IsDraftOf task draft × IsWhole task text draft
+pub whole_read : (task : Task) (text rest : List ℕ) (due : Due) (draft : Draft) → IsReadTo task text rest due draft → due ≡ NothingDue → rest ≡ [] → IsDraftOf task draft × IsWhole task text draft
 whole_read task text rest due draft h e f =
     let fits : FitsDue task NothingDue draft h.own = rw e at h.fits in
     let is : text ≡ lines_text h.own = h.split ∙ ap (λ t. lines_text h.lines ++ t) f ∙ append-nil (lines_text h.lines) ∙ h.same in

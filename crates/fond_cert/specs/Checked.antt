@@ -6,6 +6,7 @@ use Rattle.std.specs.Str.Parse.{digits_value}
 use Rattle.fond_task.specs.declared.task.Task.{Task}
 use Rattle.fond_task.specs.Numbers.{act_number, atom_number}
 use Rattle.fond_game.specs.declared.rule.Target.{Target}
+use Rattle.fond_cert.specs.declared.code.TheConstants.{UNKNOWN_ACTION, TOO_LARGE}
 use Rattle.fond_cert.specs.declared.error.LineError.{LineError}
 use Rattle.fond_cert.specs.declared.error.LineError.TheVariants.{Refused as RefusedLine}
 use Rattle.fond_form.specs.declared.part.Part.{Part}
@@ -108,7 +109,7 @@ ReadsAct task text act = act_number task text ≡ Some act
 
 -- an error is the refusal of an action that the task does not have
 abbrev pub IsActRefused : Task → Part → LineError → Type 0
-IsActRefused task action error = (act_number task action.text.now ≡ None) × (error ≡ RefusedLine 3 action.at)
+IsActRefused task action error = (act_number task action.text.now ≡ None) × (error ≡ RefusedLine UNKNOWN_ACTION action.at)
 
 -- a number below 2^32 is read from its digits
 abbrev pub ReadsNumber : List ℕ → ℕ → Type 0
@@ -116,7 +117,7 @@ ReadsNumber digits number = (digits_value 10 digits < 2 ^ 32) × (digits ≡ dec
 
 -- an error is the refusal of a number of 2^32 or more
 abbrev pub IsNumberRefused : Part → LineError → Type 0
-IsNumberRefused digits error = (2 ^ 32 ≤ digits_value 10 digits.text.now) × (error ≡ RefusedLine 4 digits.at)
+IsNumberRefused digits error = (2 ^ 32 ≤ digits_value 10 digits.text.now) × (error ≡ RefusedLine TOO_LARGE digits.at)
 
 -- a target is read from its word
 abbrev pub ReadsTarget : List ℕ → Target → Type 0
@@ -124,4 +125,4 @@ ReadsTarget word target = ((task : Task) → piece_code task (target_piece (as_t
 
 -- an error is the refusal of a target whose number is 2^32 or more
 abbrev pub IsTargetTooLarge : Part → LineError → Type 0
-IsTargetTooLarge word error = ((task : Task) → piece_code task (target_piece (as_target word.text.now)) ≡ Some 4) × (error ≡ RefusedLine 4 word.at)
+IsTargetTooLarge word error = ((task : Task) → piece_code task (target_piece (as_target word.text.now)) ≡ Some TOO_LARGE) × (error ≡ RefusedLine TOO_LARGE word.at)

@@ -12,7 +12,12 @@ use Rattle.fond_form.specs.declared.line.Line.{Line}
 use Rattle.fond_form.specs.declared.line.Line.TheVariants.{Layer, Cube, Pair, FairRule as CutFair, UnfairRule as CutUnfair, Reach, GoalItem as CutGoal, RuleItem as CutItem, Start}
 use Rattle.fond_policy.specs.Belongs.{BelongAsLayers}
 use Rattle.fond_cert.specs.Made.{IsMade}
-use Rattle.fond_cert.specs.Faults.{Evidence, ByReach, ByCover, Kind, OfPolicy, OfRefusal, Due, HeaderDue, LayersDue, CubesDue, PairsDue, RulesDue, ItemsDue, EndDue, NothingDue}
+use Rattle.fond_cert.specs.declared.due.Evidence.{Evidence}
+use Rattle.fond_cert.specs.declared.due.Evidence.TheVariants.{Reach as ByReach, Cover as ByCover}
+use Rattle.fond_cert.specs.declared.due.Kind.{Kind}
+use Rattle.fond_cert.specs.declared.due.Kind.TheVariants.{Policy as OfPolicy, Refusal as OfRefusal}
+use Rattle.fond_cert.specs.declared.due.Due.{Due}
+use Rattle.fond_cert.specs.declared.due.Due.TheVariants.{Header as HeaderDue, Layers as LayersDue, Cubes as CubesDue, Pairs as PairsDue, Rules as RulesDue, Items as ItemsDue, End as EndDue, Nothing as NothingDue}
 use Rattle.fond_cert.specs.Items.{IsReadPair, IsReadRule, IsReadItem}
 use Rattle.fond_form.specs.Lines.{WrittenLine, PolicyHeader, RefusalHeader, CoverHeader, CubeLine, ReachLine, StartLine, EndLine}
 use Rattle.fond_cert.specs.Spellings.{written_cube, layer_lines, pair_line, rule_line, item_line}

@@ -1,33 +1,17 @@
 -- The fault of a text that is no certificate: its code and its byte.
 use Rattle.std.specs.Prelude.{◌≡◌, ◌≢◌, ◌⊎◌, ℕ, ◌+◌, ◌^◌, nat_lt, if◌then◌else◌, List, [], ◌∷◌, ◌++◌, Option, Some, None, length, codes}
+use Rattle.fond_cert.specs.declared.code.TheConstants.{OUT_OF_FORM}
 use Rattle.fond_task.specs.declared.task.Task.{Task}
 use Rattle.fond_form.specs.Lines.{WrittenLine, PolicyHeader, RefusalHeader, CoverHeader, LayerLine, CubeLine, PairLine, FairRule, UnfairRule, ReachLine, GoalItem, RuleItem, StartLine, EndLine, line_text, IsProper}
 use Rattle.fond_form.specs.Feeds.{HasNoFeed}
+use Rattle.fond_cert.specs.declared.due.Evidence.{Evidence}
+use Rattle.fond_cert.specs.declared.due.Evidence.TheVariants.{Reach as ByReach, Cover as ByCover}
+use Rattle.fond_cert.specs.declared.due.Kind.{Kind}
+use Rattle.fond_cert.specs.declared.due.Kind.TheVariants.{Policy as OfPolicy, Refusal as OfRefusal}
+use Rattle.fond_cert.specs.declared.due.Due.{Due}
+use Rattle.fond_cert.specs.declared.due.Due.TheVariants.{Header as HeaderDue, Layers as LayersDue, Cubes as CubesDue, Pairs as PairsDue, Rules as RulesDue, Items as ItemsDue, End as EndDue, Nothing as NothingDue}
 use Rattle.fond_cert.specs.Words.{line_refusal}
 use Rattle.fond_cert.specs.Spellings.{lines_text}
-
--- how a policy shows that it acts wherever it leads: by the number of states that it reaches, or by a cover of them
-pub data Evidence : Type 0 where
-  ByReach : Evidence
-  ByCover : Evidence
-
--- whether a certificate is a policy or a refusal
-pub data Kind : Type 0 where
-  OfPolicy : (evidence : Evidence) → Kind
-  OfRefusal : Kind
-
--- what is due at a place: the header; a layer, or what follows the layers; the same after this many layers, the last with
--- this many cubes; what follows a pair; what follows this many rules; what follows this many items; the end line; or nothing
--- more
-pub data Due : Type 0 where
-  HeaderDue : Due
-  LayersDue : (kind : Kind) → Due
-  CubesDue : (kind : Kind) (layers cubes : ℕ) → Due
-  PairsDue : (evidence : Evidence) → Due
-  RulesDue : (evidence : Evidence) (rules : ℕ) → Due
-  ItemsDue : (items : ℕ) → Due
-  EndDue : Due
-  NothingDue : Due
 
 -- what is due next, if there are still fewer than 2^32 items of a kind
 abbrev pub if_few : ℕ → Due → Option Due
@@ -85,24 +69,24 @@ Lead task due (line ∷ lines) end =
 abbrev pub HasNoForm : Due → List ℕ → Type 0
 HasNoForm due piece = (line : WrittenLine) (next : Due) → IsProper line → due_after due line ≡ Some next → piece ≢ line_text line
 
--- a line is refused with a code at one of its bytes: with code 1 at the first if it has no allowed form, or else by
+-- a line is refused with a code at one of its bytes: as out of form at the first if it has no allowed form, or else by
 -- its words or the order of its atoms
 abbrev pub IsRefusedLine : Task → Due → List ℕ → ℕ → ℕ → Type 0
 IsRefusedLine task due piece code at =
-    (HasNoForm due piece × (code ≡ 1) × (at ≡ 0))
+    (HasNoForm due piece × (code ≡ OUT_OF_FORM) × (at ≡ 0))
     ⊎ ((line : WrittenLine) × (next : Due) × IsProper line × (due_after due line ≡ Some next) × (piece ≡ line_text line)
     × (line_refusal task line ≡ Some (record { code = code; at = at })))
 
--- the rest of a text is refused if a line is due: with code 1 at its beginning if it has no line feed, or else by its
+-- the rest of a text is refused if a line is due: as out of form at its beginning if it has no line feed, or else by its
 -- first line
 abbrev pub IsRefusedRest : Task → Due → List ℕ → ℕ → ℕ → Type 0
 IsRefusedRest task due rest code at =
-    (HasNoFeed rest × (code ≡ 1) × (at ≡ 0))
+    (HasNoFeed rest × (code ≡ OUT_OF_FORM) × (at ≡ 0))
     ⊎ ((piece : List ℕ) × (after : List ℕ) × (rest ≡ piece ++ (codes "\n" ++ after)) × HasNoFeed piece × IsRefusedLine task due piece code at)
 
--- the rest of a text is refused: with code 1 at its first byte if nothing is due, or else by its first line
+-- the rest of a text is refused: as out of form at its first byte if nothing is due, or else by its first line
 abbrev pub IsRefusedAt : Task → Due → List ℕ → ℕ → ℕ → Type 0
-IsRefusedAt task NothingDue rest code at = (rest ≢ []) × (code ≡ 1) × (at ≡ 0)
+IsRefusedAt task NothingDue rest code at = (rest ≢ []) × (code ≡ OUT_OF_FORM) × (at ≡ 0)
 IsRefusedAt task due rest code at = IsRefusedRest task due rest code at
 
 -- a text has a fault at a byte: after lines that are right, the rest is refused there

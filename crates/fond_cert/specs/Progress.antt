@@ -4,7 +4,7 @@ use Rattle.fond_task.specs.declared.task.Task.{Task}
 use Rattle.fond_policy.specs.declared.cert.Cert.{Cert}
 use Rattle.fond_policy.specs.declared.cert.Cert.TheVariants.{Policy, Refusal, Covered}
 use Rattle.fond_cert.specs.declared.draft.Draft.{Draft}
-use Rattle.fond_cert.specs.declared.due.Due.{Due as KeptDue}
+use Rattle.fond_cert.specs.declared.due.Due.{Due}
 use Rattle.fond_cert.specs.declared.error.CertError.{CertError}
 use Rattle.fond_cert.specs.declared.error.CertError.TheVariants.{Refused as RefusedText, NoMemory as WithoutMemory}
 use Rattle.fond_cert.specs.declared.error.LineError.{LineError}
@@ -12,19 +12,20 @@ use Rattle.fond_cert.specs.declared.error.LineError.TheVariants.{Refused as Refu
 use Rattle.fond_form.specs.declared.line.Line.{Line}
 use Rattle.fond_form.specs.Cutting.{IsCutOf}
 use Rattle.fond_cert.specs.Drafts.{draft_lines, IsDraftOf, IsGrown, header, IsWholeOf, FitsDue}
-use Rattle.fond_cert.specs.Faults.{Kind, due_after}
+use Rattle.fond_cert.specs.declared.due.Kind.{Kind}
+use Rattle.fond_cert.specs.Faults.{due_after}
 use Rattle.fond_form.specs.Lines.{WrittenLine, EndLine}
 use Rattle.fond_cert.specs.Spellings.{lines_text}
-use Rattle.fond_cert.specs.Stages.{due_of, like}
+use Rattle.fond_cert.specs.Stages.{like}
 
 -- a draft belongs to a task and fits what is due
-abbrev pub IsReady : Task → KeptDue → Draft → Type 0
-IsReady task due draft = IsDraftOf task draft × ((lines : List WrittenLine) × FitsDue task (due_of due) draft lines)
+abbrev pub IsReady : Task → Due → Draft → Type 0
+IsReady task due draft = IsDraftOf task draft × ((lines : List WrittenLine) × FitsDue task due draft lines)
 
 -- a piece of text is a line that is allowed, and makes one draft of another
-abbrev pub IsTaken : Task → KeptDue → Draft → List ℕ → KeptDue → Draft → Type 0
+abbrev pub IsTaken : Task → Due → Draft → List ℕ → Due → Draft → Type 0
 IsTaken task due before piece next after =
-    (line : Line) × IsCutOf piece line × (due_after (due_of due) (like line) ≡ Some (due_of next)) × IsGrown task line before after
+    (line : Line) × IsCutOf piece line × (due_after due (like line) ≡ Some next) × IsGrown task line before after
 
 -- a text is that of a draft to which nothing is missing
 abbrev pub IsWhole : Task → List ℕ → Draft → Type 0

@@ -4,6 +4,7 @@ use Rattle.std.specs.List.{filter_map}
 use Rattle.std.specs.Str.Parse.{digits_value}
 use Rattle.fond_task.specs.declared.task.Task.{Task}
 use Rattle.fond_task.specs.Numbers.{act_number, atom_number}
+use Rattle.fond_cert.specs.declared.code.TheConstants.{OUT_OF_FORM, UNKNOWN_ATOM, UNKNOWN_ACTION, TOO_LARGE}
 use Rattle.fond_form.specs.Lines.{group_text, WrittenLiteral, WrittenLine, CubeLine, PairLine, FairRule, UnfairRule, GoalItem, RuleItem, Piece, Fixed, ActionWord, AtomWord, Below, piece_text, line_pieces}
 
 -- this code, if a word names nothing
@@ -11,13 +12,13 @@ abbrev pub unknown : ℕ → Option ℕ → Option ℕ
 unknown code None = Some code
 unknown code (Some number) = None
 
--- the code with which a piece is refused, if it is: 2 for an atom and 3 for an action that the task does not have, and 4
--- for a number that is not below its bound
+-- the code with which a piece is refused, if it is: an atom or an action that the task does not have, or a number that is not below
+-- its bound
 abbrev pub piece_code : Task → Piece → Option ℕ
 piece_code task (Fixed text) = None
-piece_code task (ActionWord leaves) = unknown 3 (act_number task (group_text leaves))
-piece_code task (AtomWord leaves) = unknown 2 (atom_number task (group_text leaves))
-piece_code task (Below bound digits) = if nat_lt (digits_value 10 digits) bound then None else Some 4
+piece_code task (ActionWord leaves) = unknown UNKNOWN_ACTION (act_number task (group_text leaves))
+piece_code task (AtomWord leaves) = unknown UNKNOWN_ATOM (atom_number task (group_text leaves))
+piece_code task (Below bound digits) = if nat_lt (digits_value 10 digits) bound then None else Some TOO_LARGE
 
 -- a refusal of a line: its code, and its byte in the line, counted from 0
 pub record Refused : Type 0 where
@@ -54,11 +55,11 @@ is_ordered task (GoalItem literals) = is_increasing (atom_numbers task literals)
 is_ordered task (RuleItem rule items literals) = is_increasing (atom_numbers task literals)
 is_ordered task line = true
 
--- a refusal by a word, or else code 1 at the first byte if the atoms are out of order
+-- a refusal by a word, or else one at the first byte if the atoms are out of order
 abbrev pub refusal_or_order : Option Refused → Bool → Option Refused
 refusal_or_order (Some refused) ordered = Some refused
 refusal_or_order None true = None
-refusal_or_order None false = Some (record { code = 1; at = 0 })
+refusal_or_order None false = Some (record { code = OUT_OF_FORM; at = 0 })
 
 -- the refusal of a line: by its first piece that is refused, or else at its first byte if its atoms are out of order
 abbrev pub line_refusal : Task → WrittenLine → Option Refused

@@ -13,6 +13,7 @@ ghost use Rattle.fond_form.specs.declared.line.Line.TheVariants.{Cube as CubePar
 ghost use Rattle.std.specs.Fmt.{decimal};
 ghost use Rattle.std.specs.Prelude.{◌≡◌, ◌<◌, ◌^◌, length, IfOk, IfErr};
 
+use crate::code::UNKNOWN_ACTION;
 use crate::error::LineError;
 use crate::literal::read_cube;
 use crate::target::{read_item_numbers, read_number, read_target, read_targets, too_large};
@@ -32,7 +33,7 @@ fn read_act(index: &TaskIndex, action: Part) -> Result<u32, LineError>
     match index.act(action.text) {
         Some(act) => Ok(act),
         None => Err(LineError::Refused {
-            code: 3,
+            code: UNKNOWN_ACTION,
             at: action.at,
         }),
     }

@@ -3,6 +3,7 @@
 //! pieces. Whether a certificate is correct is left to others.
 #![tactic(auto)]
 
+pub mod code;
 mod draft;
 mod due;
 pub mod error;

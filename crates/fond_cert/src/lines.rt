@@ -4,10 +4,10 @@ ghost use Rattle.fond_cert.specs.Drafts.{IsDraftOf};
 ghost use Rattle.fond_cert.specs.Faults.{IsCertFault, IsRefusedLine};
 ghost use Rattle.fond_cert.specs.Progress.{IsReady, IsTaken, IsWhole, IsPlaced};
 ghost use Rattle.fond_cert.specs.Refusals.{LineRefuses, CertRefuses};
-ghost use Rattle.fond_cert.specs.Stages.{due_of};
 ghost use Rattle.fond_cert.specs.declared.due.Due.TheVariants.{Nothing};
 ghost use Rattle.std.specs.Prelude.{◌≡◌, ◌+◌, ◌-◌, ◌≤◌, [], None, length, Decides, IfOk, IfErr, OnOk};
 
+use crate::code::OUT_OF_FORM;
 use crate::draft::Draft;
 use crate::due::Due;
 use crate::error::{CertError, LineError};
@@ -18,7 +18,10 @@ use fond_task::task_index::TaskIndex;
 use std::alloc::Global;
 
 /// The refusal of a line that has no form allowed at its place.
-const FORMLESS: LineError = LineError::Refused { code: 1, at: 0 };
+const FORMLESS: LineError = LineError::Refused {
+    code: OUT_OF_FORM,
+    at: 0,
+};
 
 /// Adds the line to the draft, and answers what is due after it.
 fn take(
@@ -30,7 +33,7 @@ fn take(
 ) -> Result<Due, LineError>
     requires { IsReady index.now due draft.old }
     ensures taken { IfOk result (λ next. IsTaken index.now due draft.old piece.now next draft.new) }
-    ensures wrong { IfErr result (LineRefuses (λ refused. IsRefusedLine index.now (due_of due) piece.now refused.code refused.at)) }
+    ensures wrong { IfErr result (LineRefuses (λ refused. IsRefusedLine index.now due piece.now refused.code refused.at)) }
 {
     let Some(line) = cut_line(piece) else {
         return Err(FORMLESS);

@@ -5,6 +5,7 @@ ghost use Rattle.fond_cert.specs.Checked.{rises, IsCubeAt, IsLiteralRefused, Rea
 ghost use Rattle.fond_form.specs.Parts.{AreLiterals};
 ghost use Rattle.std.specs.Prelude.{◌≡◌, ◌+◌, ◌<◌, ◌^◌, ◌&&◌, None, Some, length, replicate, slice_set, IfOk, IfErr};
 
+use crate::code::{OUT_OF_FORM, UNKNOWN_ATOM};
 use crate::error::LineError;
 use fond_form::part::Part;
 use fond_form::scan::literal;
@@ -74,7 +75,7 @@ fn read_literals(
     while let Some((sign, atom, further)) = literal(rest) {
         let Some(number) = index.atom(atom) else {
             return Err(LineError::Refused {
-                code: 2,
+                code: UNKNOWN_ATOM,
                 at: at + (text.len() - rest.len()) + 2,
             });
         };
@@ -95,6 +96,9 @@ pub(crate) fn read_cube(alloc: Global, index: &TaskIndex, literals: Part) -> Res
     if read.is_ordered {
         Ok(read.cube)
     } else {
-        Err(LineError::Refused { code: 1, at: 0 })
+        Err(LineError::Refused {
+            code: OUT_OF_FORM,
+            at: 0,
+        })
     }
 }

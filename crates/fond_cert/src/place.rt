@@ -1,7 +1,8 @@
 //! The lines that are allowed at a place of a certificate. Each call takes constant time, and no memory.
 
-ghost use Rattle.fond_cert.specs.Faults.{due_after, after_layers, after_pairs, after_rules, HeaderDue, LayersDue, CubesDue, RulesDue, ItemsDue, EndDue};
-ghost use Rattle.fond_cert.specs.Stages.{evidence_of, kind_of, due_of, like, IsOneMore};
+ghost use Rattle.fond_cert.specs.declared.due.Due.TheVariants.{Header as HeaderDue, Layers as LayersDue, Cubes as CubesDue, Rules as RulesDue, Items as ItemsDue, End as EndDue};
+ghost use Rattle.fond_cert.specs.Faults.{due_after, after_layers, after_pairs, after_rules};
+ghost use Rattle.fond_cert.specs.Stages.{like, IsOneMore};
 ghost use Rattle.std.specs.Prelude.{◌≡◌, ◌+◌, ◌^◌, nat_lt, false, option_map, MatchOption};
 
 use crate::due::{Due, Evidence, Kind};
@@ -20,7 +21,7 @@ fn one_more(count: u32) -> Option<u32>
 
 /// What is due after a line that may follow the rules.
 fn due_after_rules(evidence: Evidence, line: &Line) -> Option<Due>
-    ensures { option_map due_of result ≡ after_rules (evidence_of evidence) (like line.now) }
+    ensures { result ≡ after_rules evidence (like line.now) }
 {
     match evidence {
         Evidence::Reach => match line {
@@ -37,7 +38,7 @@ fn due_after_rules(evidence: Evidence, line: &Line) -> Option<Due>
 
 /// What is due after a line that may follow the layers or a pair of a policy.
 fn due_after_pairs(evidence: Evidence, line: &Line) -> Option<Due>
-    ensures { option_map due_of result ≡ after_pairs (evidence_of evidence) (like line.now) }
+    ensures { result ≡ after_pairs evidence (like line.now) }
 {
     match line {
         Line::Pair { .. } => Some(Due::Pairs { evidence }),
@@ -48,7 +49,7 @@ fn due_after_pairs(evidence: Evidence, line: &Line) -> Option<Due>
 
 /// What is due after a line that may follow the layers.
 fn due_after_layers(kind: Kind, line: &Line) -> Option<Due>
-    ensures { option_map due_of result ≡ after_layers (kind_of kind) (like line.now) }
+    ensures { result ≡ after_layers kind (like line.now) }
 {
     match kind {
         Kind::Policy { evidence } => due_after_pairs(evidence, line),
@@ -61,7 +62,7 @@ fn due_after_layers(kind: Kind, line: &Line) -> Option<Due>
 
 /// What is due after a line that follows a layer or a cube.
 fn due_in_layers(kind: Kind, layers: u32, cubes: u32, line: &Line) -> Option<Due>
-    ensures { option_map due_of result ≡ due_after (CubesDue (kind_of kind) layers cubes) (like line.now) }
+    ensures { result ≡ due_after (CubesDue kind layers cubes) (like line.now) }
 {
     match line {
         Line::Layer => Some(Due::Cubes {
@@ -80,7 +81,7 @@ fn due_in_layers(kind: Kind, layers: u32, cubes: u32, line: &Line) -> Option<Due
 
 /// What is due after a line that follows a rule.
 fn due_in_rules(evidence: Evidence, rules: u32, line: &Line) -> Option<Due>
-    ensures { option_map due_of result ≡ due_after (RulesDue (evidence_of evidence) rules) (like line.now) }
+    ensures { result ≡ due_after (RulesDue evidence rules) (like line.now) }
 {
     match line {
         Line::FairRule { .. } | Line::UnfairRule { .. } => Some(Due::Rules {
@@ -93,7 +94,7 @@ fn due_in_rules(evidence: Evidence, rules: u32, line: &Line) -> Option<Due>
 
 /// What is due after a line that follows an item.
 fn due_in_items(items: u32, line: &Line) -> Option<Due>
-    ensures { option_map due_of result ≡ due_after (ItemsDue items) (like line.now) }
+    ensures { result ≡ due_after (ItemsDue items) (like line.now) }
 {
     match line {
         Line::GoalItem { .. } | Line::RuleItem { .. } => Some(Due::Items {
@@ -105,7 +106,7 @@ fn due_in_items(items: u32, line: &Line) -> Option<Due>
 
 /// What is due after the header.
 fn due_after_header(line: &Line) -> Option<Due>
-    ensures { option_map due_of result ≡ due_after HeaderDue (like line.now) }
+    ensures { result ≡ due_after HeaderDue (like line.now) }
 {
     match line {
         Line::PolicyHeader => Some(Due::Layers {
@@ -127,7 +128,7 @@ fn due_after_header(line: &Line) -> Option<Due>
 
 /// What is due after a line that follows the header.
 fn due_first(kind: Kind, line: &Line) -> Option<Due>
-    ensures { option_map due_of result ≡ due_after (LayersDue (kind_of kind)) (like line.now) }
+    ensures { result ≡ due_after (LayersDue kind) (like line.now) }
 {
     match line {
         Line::Layer => Some(Due::Cubes {
@@ -141,7 +142,7 @@ fn due_first(kind: Kind, line: &Line) -> Option<Due>
 
 /// What is due after the line that is the end line.
 fn due_after_end(line: &Line) -> Option<Due>
-    ensures { option_map due_of result ≡ due_after EndDue (like line.now) }
+    ensures { result ≡ due_after EndDue (like line.now) }
 {
     match line {
         Line::End => Some(Due::Nothing),
@@ -151,7 +152,7 @@ fn due_after_end(line: &Line) -> Option<Due>
 
 /// What is due after the line, if the line is allowed.
 pub(crate) fn next_due(due: Due, line: &Line) -> Option<Due>
-    ensures { option_map due_of result ≡ due_after (due_of due) (like line.now) }
+    ensures { result ≡ due_after due (like line.now) }
 {
     match due {
         Due::Header => due_after_header(line),

@@ -3,6 +3,7 @@
 ghost use Rattle.fond_cert.specs.Refusals.{LineRefuses};
 ghost use Rattle.fond_form.specs.Parts.{as_target, is_target, AreWordsText};
 ghost use Rattle.fond_cert.specs.Checked.{AreTargetsAt, IsTargetRefused, AreNumbersAt, IsOneNumberRefused, ReadsNumber, IsNumberRefused, ReadsTarget, IsTargetTooLarge};
+ghost use Rattle.fond_cert.specs.declared.code.TheConstants.{TOO_LARGE};
 ghost use Rattle.fond_cert.specs.declared.error.LineError.TheVariants.{Refused as RefusedLine};
 ghost use Rattle.fond_form.specs.Lines.{is_number, target_piece};
 ghost use Rattle.fond_cert.specs.Words.{piece_code};
@@ -10,6 +11,7 @@ ghost use Rattle.fond_task.specs.declared.task.Task.{Task};
 ghost use Rattle.std.specs.Prelude.{◌≡◌, ◌+◌, ◌<◌, ◌≤◌, ◌^◌, Some, length, IsTrue, MatchOption, IfOk, IfErr};
 ghost use Rattle.std.specs.Str.Parse.{digits_value};
 
+use crate::code::TOO_LARGE;
 use crate::error::LineError;
 use fond_cover::item::ItemNumbers;
 use fond_form::part::Part;
@@ -28,10 +30,10 @@ fn short_number(digits: &[u8]) -> Option<u32>
 
 /// The refusal of a number that is too large.
 pub(crate) fn too_large(digits: Part) -> LineError
-    ensures { result ≡ RefusedLine 4 digits.entry.at }
+    ensures { result ≡ RefusedLine TOO_LARGE digits.entry.at }
 {
     LineError::Refused {
-        code: 4,
+        code: TOO_LARGE,
         at: digits.at,
     }
 }
@@ -51,7 +53,7 @@ pub(crate) fn read_number(digits: Part) -> Result<u32, LineError>
 /// The target that the word writes, or nothing if its number is 2^32 or more.
 fn target(word: &[u8]) -> Option<Target>
     requires { IsTrue (is_target word.now) }
-    ensures { MatchOption result ((task : Task) → piece_code task (target_piece (as_target word.now)) ≡ Some 4) (ReadsTarget word.now) }
+    ensures { MatchOption result ((task : Task) → piece_code task (target_piece (as_target word.now)) ≡ Some TOO_LARGE) (ReadsTarget word.now) }
 {
     if word == b"goal".as_slice() {
         return Some(Target::Goal);
@@ -84,7 +86,7 @@ fn targets_at(alloc: Global, text: &[u8], at: usize) -> Result<TargetList, LineE
         let (word, further) = word(inner);
         let Some(target) = target(word) else {
             return Err(LineError::Refused {
-                code: 4,
+                code: TOO_LARGE,
                 at: at + (text.len() - inner.len()),
             });
         };
@@ -116,7 +118,7 @@ fn numbers_at(alloc: Global, text: &[u8], at: usize) -> Result<ItemNumbers, Line
         let (word, further) = word(inner);
         let Some(number) = short_number(word) else {
             return Err(LineError::Refused {
-                code: 4,
+                code: TOO_LARGE,
                 at: at + (text.len() - inner.len()),
             });
         };

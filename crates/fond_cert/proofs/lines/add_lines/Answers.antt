@@ -1,5 +1,4 @@
 use Rattle.std.proofs.Common.{◌≡◌, true}
-use Rattle.fond_cert.specs.Stages.{due_of}
 use Rattle.fond_cert.proofs.Wholes.{nothing_read, one_more_line, within_rest, line_fault, end_fault}
 use Rattle.fond_cert.proofs.lines.add_lines.Goals as goal
 
@@ -13,7 +12,7 @@ loop-piece-preserved c =
 
 pub placed-requires-clause-line : goal.placed-requires-clause-line
 placed-requires-clause-line c =
-    within_rest c.args.index.now c.loop-piece.rest.now c.in-Some.piece.now c.in-Some.further.now (due_of c.loop-piece.due) c.in-Err.error c.in-Some.ensures.1 c.in-Err.ensures.wrong
+    within_rest c.args.index.now c.loop-piece.rest.now c.in-Some.piece.now c.in-Some.further.now c.loop-piece.due c.in-Err.error c.in-Some.ensures.1 c.in-Err.ensures.wrong
 
 pub returns-in-Err-clause-refused : goal.returns-in-Err-clause-refused
 returns-in-Err-clause-refused c =
