@@ -4,3 +4,6 @@ pub mod Ranks
 pub mod Forced
 pub mod Stacked
 mod Worked
+pub mod Values
+pub mod Images
+pub mod More

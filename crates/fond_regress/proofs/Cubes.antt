@@ -1,15 +1,12 @@
 -- Cubes by their literals: those that a cube takes, keeps or loses.
 use Rattle.std.proofs.Common.{◌≡◌, ℕ, zero, suc, ◌<◌, List, Bool, false, Some, None, length, replicate, set, refl, sym, ap, ◌∙◌, subst, ⊎_elim}
-use Rattle.std.proofs.lemmas.Bool.{cases_eq, cases_lt}
-use Rattle.std.proofs.lemmas.List.{get_or-map, get_or-set_same, get_or-set_other, get_or_past, length-set, length-map}
+use Rattle.std.proofs.lemmas.Bool.{cases_eq}
+use Rattle.std.proofs.lemmas.List.{get_or-map, get_or-set_same, get_or-set_other, length-set, length-map}
 use Rattle.std.proofs.lemmas.Option.{none-some, same_Some}
-use Rattle.fond_state.specs.Cubes.{LiesIn, CubeLiesIn, full_cube, literal_at, without_literal}
+use Rattle.fond_state.specs.Cubes.{LiesIn, CubeLiesIn, full_cube, literal_at}
 use Rattle.fond_game.specs.Layers.{CubeView}
+use Rattle.fond_lean.proofs.Literals.{literal_within}
 use Rattle.fond_regress.specs.Taken.{TakesFrom}
-
--- an atom with a literal is one of the cube's
-pub literal_within : (cube : CubeView) (atom : ℕ) (sign : Bool) → literal_at cube atom ≡ Some sign → atom < length cube
-literal_within cube atom sign is = ⊎_elim (λ small. small) (λ past. absurd (none-some sign (sym (get_or_past cube atom None past) ∙ is))) (cases_lt atom (length cube))
 
 -- a cube without literals lies around each cube
 pub none_replicate : (n atom : ℕ) → literal_at (replicate n None) atom ≡ None
@@ -45,23 +42,3 @@ takes_literal source before after atom sign has long is = (
       (λ other. lies k known (sym (ap (λ c. literal_at c k) is ∙ get_or-set_other before atom k (Some sign) None other) ∙ at))
       (cases_eq k atom),
 )
-
--- a cube that lies in another one still does if both lose the literal of an atom
-pub lies_without : (cube other : CubeView) (atom : ℕ) → length cube ≡ length other → CubeLiesIn cube other → CubeLiesIn (without_literal cube atom) (without_literal other atom)
-lies_without cube other atom long lies k sign is = ⊎_elim
-    (λ same.
-    let small : k < length other = subst (λ n. k < n) (length-set other atom None) (literal_within (without_literal other atom) k sign is) in
-    let gone : literal_at (without_literal other atom) k ≡ None = ap (λ n. literal_at (without_literal other n) k) (sym same) ∙ get_or-set_same other k None None small in
-    absurd (none-some sign (sym gone ∙ is)))
-    (λ differs. get_or-set_other cube atom k None None differs ∙ lies k sign (sym (get_or-set_other other atom k None None differs) ∙ is))
-    (cases_eq k atom)
-
--- a cube lies in what is left of it
-pub lies_in_rest : (cube : CubeView) (atom : ℕ) → CubeLiesIn cube (without_literal cube atom)
-lies_in_rest cube atom k sign is = ⊎_elim
-    (λ same.
-    let small : k < length cube = subst (λ n. k < n) (length-set cube atom None) (literal_within (without_literal cube atom) k sign is) in
-    let gone : literal_at (without_literal cube atom) k ≡ None = ap (λ n. literal_at (without_literal cube n) k) (sym same) ∙ get_or-set_same cube k None None small in
-    absurd (none-some sign (sym gone ∙ is)))
-    (λ differs. sym (get_or-set_other cube atom k None None differs) ∙ is)
-    (cases_eq k atom)

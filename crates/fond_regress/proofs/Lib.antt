@@ -1,4 +1,1 @@
-pub mod Values
-pub mod Images
 pub mod Cubes
-pub mod Sure

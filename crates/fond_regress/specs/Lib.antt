@@ -1,4 +1,3 @@
 pub mod Taken
-pub mod Shorter
 pub mod Named
 pub mod Barred

@@ -2,26 +2,24 @@
 
 ghost use Rattle.fond_game.specs.Layers.{CubeView, IsSurePair};
 ghost use Rattle.fond_game.specs.Rules.{IsLeanPair};
-ghost use Rattle.fond_game.specs.declared.rule.Pair.{Pair};
 ghost use Rattle.fond_layers.specs.Over.{AreOver};
 ghost use Rattle.fond_regress.specs.Named.{HasCube};
-ghost use Rattle.fond_regress.specs.Shorter.{IsShorterPair, NeedsPairLiteral};
 ghost use Rattle.fond_state.specs.Cubes.{CubeLiesIn, LiesIn, full_cube};
 ghost use Rattle.fond_task.specs.declared.task.Act.{Act};
-ghost use Rattle.std.specs.Prelude.{◌≡◌, ◌<◌, List, Some, length, slice_get, Decides, IfOk};
+ghost use Rattle.std.specs.Prelude.{◌≡◌, ◌<◌, List, Some, length, slice_get, IfOk};
 
 use crate::regress::regress;
 use fond_game::rule::Pair;
 use fond_layers::layers::Layers;
-use fond_rules::pad::Pad;
-use fond_rules::sure_pairs::sure_pair;
+use fond_lean::shorten_from;
+use fond_rules::pair_test::PairTest;
 use fond_state::cube::Cube;
 use fond_state::state::State;
 use fond_task::task::Task;
 use fond_text::fault::NoMemory;
 use std::alloc::Global;
 
-/// Where a pair is tested: for which task, and beside which layers.
+/// Where a pair is made: for which task, and beside which layers.
 #[derive(Drop)]
 struct Place<'a> {
     task: &'a Task,
@@ -37,17 +35,6 @@ impl<'a> Place<'a> {
         ensures named { (cubes : List CubeView) × (slice_get self.now.layers.now layer ≡ Some cubes) × (slice_get cubes cube ≡ Some result.now) }
     {
         self.layers.get(layer).get(cube as usize)
-    }
-
-    /// Whether the pair is sure.
-    fn is_sure(&self, pair: &Pair, pad: &mut Pad) -> bool
-        requires named { HasCube self.now.layers.now pair.now.layer pair.now.cube }
-        requires over { length pair.now.cond ≡ length self.now.task.now.atoms }
-        requires pad { pad.old ≡ length self.now.task.now.atoms }
-        ensures same_pad { pad.new ≡ pad.old }
-        ensures decides { Decides result (IsSurePair self.now.task.now self.now.layers.now pair.now) }
-    {
-        sure_pair(self.task, self.named(pair.layer, pair.cube), pair, pad)
     }
 
     /// Literals of `full` because of which the outcome of the action leads into the cube.
@@ -70,62 +57,13 @@ impl<'a> Place<'a> {
         regress(outcomes.get(outcome as usize), full, dead, &mut out);
         Ok(out)
     }
-
-    /// Gives the pair the full cube if it is not sure with its condition.
-    fn make_sure(&self, full: &Cube, pair: &mut Pair, pad: &mut Pad)
-        requires full_long { length full.now ≡ length self.now.task.now.atoms }
-        requires long { length pair.old.cond ≡ length self.now.task.now.atoms }
-        requires lies { CubeLiesIn full.now pair.old.cond }
-        requires sure { IsSurePair self.now.task.now self.now.layers.now (record pair.old { cond = full.now }) }
-        requires pad { pad.old ≡ length self.now.task.now.atoms }
-        ensures same_pad { pad.new ≡ pad.old }
-        ensures shorter { IsShorterPair pair.new (record pair.old { cond = full.now }) }
-        ensures sure { IsSurePair self.now.task.now self.now.layers.now pair.new }
-    {
-        if !self.is_sure(pair, pad) {
-            pair.cond.copy_from(full);
-        }
-    }
-
-    /// Drops the pair's literal of the atom, if it has one, and puts it back if the pair is not sure without it.
-    fn drop_literal(&self, pair: &mut Pair, atom: u32, pad: &mut Pad)
-        requires long { length pair.old.cond ≡ length self.now.task.now.atoms }
-        requires sure { IsSurePair self.now.task.now self.now.layers.now pair.old }
-        requires pad { pad.old ≡ length self.now.task.now.atoms }
-        ensures same_pad { pad.new ≡ pad.old }
-        ensures shorter { IsShorterPair pair.new pair.old }
-        ensures sure { IsSurePair self.now.task.now self.now.layers.now pair.new }
-        ensures needed { NeedsPairLiteral self.now.task.now self.now.layers.now pair.new atom }
-    {
-        let Some(sign) = pair.cond.literal(atom) else {
-            return;
-        };
-        pair.cond.drop_literal(atom);
-        if !self.is_sure(pair, pad) {
-            pair.cond.put_literal(atom, sign);
-        }
-    }
-
-    /// Drops literals, one after the other, until the pair needs each that is left. One pass is enough: a literal that
-    /// was needed beside more literals is needed beside fewer.
-    fn drop_each(&self, pair: &mut Pair, pad: &mut Pad)
-        requires long { length pair.old.cond ≡ length self.now.task.now.atoms }
-        requires sure { IsSurePair self.now.task.now self.now.layers.now pair.old }
-        requires pad { pad.old ≡ length self.now.task.now.atoms }
-        ensures shorter { IsShorterPair pair.new pair.old }
-        ensures lean { IsLeanPair self.now.task.now self.now.layers.now pair.new }
-    {
-        for atom in 0..pair.cond.len() as u32 {
-            self.drop_literal(pair, atom, pad);
-        }
-    }
 }
 
 /// A lean pair of this action, outcome, layer and cube whose condition holds in the state. Starts with what regression
 /// of the cube through the outcome gives, or with the full cube of the state if the pair is not sure with that, and drops
 /// each literal that is not needed. Takes the time of `sure_pair` once for each literal of the start and once more, and
 /// before that, for each literal of the layer's cube, time in the size of the outcome times the depth of its conditions.
-/// Takes the memory of four cubes.
+/// Takes the memory of three cubes.
 pub fn lean_pair(
     alloc: Global,
     t: &Task,
@@ -147,15 +85,22 @@ pub fn lean_pair(
     let place = Place { task: t, layers };
     let full = Cube::full(alloc, s)?;
     let dead = place.named(layer, cube);
-    let mut pair = Pair {
-        cond: place.regressed(alloc, &full, act, outcome, dead)?,
+    let mut cond = place.regressed(alloc, &full, act, outcome, dead)?;
+    let mut image = Cube::new(alloc, s.len() as u32)?;
+    let test = PairTest {
+        task: t,
+        dead,
         act,
         outcome,
         layer,
         cube,
     };
-    let mut pad = Pad::new(alloc, s.len() as u32)?;
-    place.make_sure(&full, &mut pair, &mut pad);
-    place.drop_each(&mut pair, &mut pad);
-    Ok(pair)
+    shorten_from(&test, &full, &mut cond, &mut image);
+    Ok(Pair {
+        cond,
+        act,
+        outcome,
+        layer,
+        cube,
+    })
 }

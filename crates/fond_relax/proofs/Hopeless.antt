@@ -17,8 +17,8 @@ use Rattle.fond_task.proofs.Found.{all_at}
 use Rattle.fond_game.specs.Layers.{CubeView, Forces, IsSureCube, IsSureLayer, AreSureLayers}
 use Rattle.fond_game.proofs.Lists.{number_of, Contains_numbered, Contains-here, Contains-cases}
 use Rattle.fond_game.proofs.Stacked.{AreSureLayers-none, AreSureLayers-push}
-use Rattle.fond_regress.proofs.Values.{Keeps, Keeps-value}
-use Rattle.fond_regress.proofs.Images.{image_more}
+use Rattle.fond_game.proofs.Values.{Keeps, Keeps-value}
+use Rattle.fond_game.proofs.Images.{image_more}
 use Rattle.fond_relax.specs.Stable.{AllStay, DoesStay, IsStable, IsHopeless, IsHopelessBy}
 
 -- each stable cube in which the state lies is around this one

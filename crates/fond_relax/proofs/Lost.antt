@@ -5,7 +5,7 @@ use Rattle.std.proofs.lemmas.Bool.{false≢true, or_parts}
 use Rattle.std.proofs.lemmas.List.{length-set}
 use Rattle.std.proofs.lemmas.Option.{none-some}
 use Rattle.fond_state.specs.Cubes.{literal_at, without_literal}
-use Rattle.fond_regress.proofs.Cubes.{lies_in_rest}
+use Rattle.fond_lean.proofs.Literals.{lies_in_rest}
 use Rattle.fond_relax.specs.Weaker.{one_if, literals}
 use Rattle.fond_relax.specs.Weaker.{IsWeaker}
 

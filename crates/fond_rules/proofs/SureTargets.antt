@@ -1,17 +1,13 @@
--- Rules and pairs that are sure and lean, by the answers to the tests.
-use Rattle.std.proofs.Common.{◌≡◌, ℕ, List, Bool, Some, None, slice_get, sym, ap, ◌∙◌, subst, set}
-use Rattle.std.specs.Prelude.{slice_set}
-use Rattle.std.proofs.lemmas.List.{set-set, set-get_or}
+-- Sure and lean pairs, by the cube that they lead into.
+use Rattle.std.proofs.Common.{◌≡◌, List, Some, slice_get, sym, ap, ◌∙◌, subst}
 use Rattle.std.proofs.lemmas.Option.{same_Some}
-use Rattle.fond_state.specs.Cubes.{literal_at, without_literal, CubeLiesIn}
+use Rattle.fond_state.specs.Cubes.{CubeLiesIn, without_literal}
 use Rattle.fond_task.specs.declared.task.Task.{Task}
 use Rattle.fond_game.specs.declared.rule.Pair.{Pair}
 use Rattle.fond_game.specs.Layers.{CubeView, IsSurePair}
+use Rattle.fond_game.specs.Rules.{IsLeanPair}
+use Rattle.fond_lean.specs.Leans.{IsLean}
 use Rattle.fond_rules.specs.Targets.{LeadsInto}
-
--- a literal that was dropped and put back
-pub put_back : (cube : CubeView) (atom : ℕ) (sign : Bool) → literal_at cube atom ≡ Some sign → slice_set (without_literal cube atom) atom (Some sign) ≡ cube
-put_back cube atom sign is = set-set cube atom None (Some sign) ∙ ap (set cube atom) (sym is) ∙ set-get_or cube atom None
 
 module _ (task : Task) (layers : List (List CubeView)) (layer : List CubeView) (dead : CubeView) where
   -- a pair is sure if it leads into the cube that it names
@@ -33,3 +29,19 @@ module _ (task : Task) (layers : List (List CubeView)) (layer : List CubeView) (
       let same : sure.layer ≡ layer = same_Some sure.layer layer (sym sure.has_layer ∙ at) in
       let one : sure.target ≡ dead = same_Some sure.target dead (sym sure.has_target ∙ ap (λ l. slice_get l pair.cube) same ∙ there) in
       record { act = sure.act; has_act = sure.has_act; outcome = sure.outcome; has_outcome = sure.has_outcome; leads = subst (CubeLiesIn _) one sure.leads }
+
+  abbrev Leads : Pair → CubeView → Type 0
+  Leads pair cond = LeadsInto task dead (record pair { cond = cond })
+
+  -- a pair is lean if it leads into the cube that it names, and needs each literal for that
+  pub lean_if_leads : (pair : Pair) → slice_get layers pair.layer ≡ Some layer → slice_get layer pair.cube ≡ Some dead → IsLean (Leads pair) pair.cond → IsLeanPair task layers pair
+  lean_if_leads pair at there lean = record {
+    sure = sure_if_leads pair at there lean.passes;
+    needs = λ atom sign is sure. lean.needed atom sign is (leads_if_sure (record pair { cond = without_literal pair.cond atom }) at there sure);
+  }
+
+  pub leads_if_lean : (pair : Pair) → slice_get layers pair.layer ≡ Some layer → slice_get layer pair.cube ≡ Some dead → IsLeanPair task layers pair → IsLean (Leads pair) pair.cond
+  leads_if_lean pair at there lean = record {
+    passes = leads_if_sure pair at there lean.sure;
+    needed = λ atom sign is leads. lean.needs atom sign is (sure_if_leads (record pair { cond = without_literal pair.cond atom }) at there leads);
+  }

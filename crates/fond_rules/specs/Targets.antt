@@ -1,6 +1,6 @@
 -- Targets that are met, and pairs that lead into a cube.
-use Rattle.std.specs.Prelude.{◌≡◌, ℕ, List, Bool, Some, slice_get, length, Contains}
-use Rattle.fond_state.specs.Cubes.{literal_at, CubeLiesIn, Contradicts, without_literal}
+use Rattle.std.specs.Prelude.{◌≡◌, ℕ, List, Some, slice_get, length, Contains}
+use Rattle.fond_state.specs.Cubes.{CubeLiesIn, Contradicts}
 use Rattle.fond_task.specs.declared.task.Act.{Act}
 use Rattle.fond_task.specs.declared.task.Entry.{Entry}
 use Rattle.fond_task.specs.declared.task.Task.{Task}
@@ -9,7 +9,7 @@ use Rattle.fond_game.specs.declared.rule.Pair.{Pair}
 use Rattle.fond_game.specs.declared.rule.Rule.{Rule}
 use Rattle.fond_game.specs.declared.rule.Target.{Target}
 use Rattle.fond_game.specs.Layers.{CubeView}
-use Rattle.fond_game.specs.Rules.{Meets, IsEarlier, IsSureRule}
+use Rattle.fond_game.specs.Rules.{Meets, IsEarlier}
 
 -- a cube contradicts the condition of each pair of an action
 abbrev pub AllContradict : List Pair → ℕ → CubeView → Type 0
@@ -24,11 +24,6 @@ abbrev pub EachMeets : Task → List Rule → ℕ → CubeView → List (List En
 EachMeets task rules number cond outcomes targets =
     (length targets ≡ length outcomes)
     × ((at : ℕ) (target : Target) (entries : List Entry) → slice_get targets at ≡ Some target → slice_get outcomes at ≡ Some entries → MeetsEarlier task rules number (image cond entries) target)
-
--- a rule is not sure without its literal of an atom, if it has one
-abbrev pub NeedsLiteral : Task → List Pair → List Rule → ℕ → Rule → ℕ → Type 0
-NeedsLiteral task pairs rules number rule atom =
-    (sign : Bool) → literal_at rule.cond atom ≡ Some sign → ¬ IsSureRule task pairs rules number (record rule { cond = without_literal rule.cond atom })
 
 -- the pair's action and outcome exist, and the outcome leads from the pair's cube into this cube
 pub record LeadsInto (task : Task) (target : CubeView) (pair : Pair) : Type 0 where

@@ -6,8 +6,9 @@
 
 pub mod laws;
 pub mod pad;
+pub mod pair_test;
 pub mod pairs;
+pub mod rule_test;
 pub mod rules;
-mod setting;
 pub mod sure_pairs;
 pub mod sure_rules;

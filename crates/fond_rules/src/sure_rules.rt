@@ -7,9 +7,10 @@ ghost use Rattle.std.specs.Prelude.{◌≡◌, ◌<◌, ◌≤◌, length, Decid
 
 use crate::pad::Pad;
 use crate::pairs::Pairs;
+use crate::rule_test::RuleTest;
 use crate::rules::Rules;
-use crate::setting::Setting;
 use fond_game::rule::Rule;
+use fond_lean::{Test, is_lean};
 use fond_task::task::Task;
 
 /// Whether the rule is sure at this number of the rules, beside the pairs. Targets of a number that the rules do not
@@ -33,13 +34,15 @@ pub fn sure_rule(
     ensures same_pad { pad.new ≡ pad.old }
     ensures decides { Decides result (IsSureRule t.now pairs.now rules.now number r.now) }
 {
-    let setting = Setting {
+    let test = RuleTest {
         task: t,
         pairs,
         rules,
         number,
+        act: r.act,
+        targets: &r.targets,
     };
-    setting.is_sure(r, &r.cond, &mut pad.image)
+    test.passes(&r.cond, &mut pad.image)
 }
 
 /// Whether the rule is lean at this number of the rules, beside the pairs. Takes the time of `sure_rule` once more for
@@ -61,12 +64,14 @@ pub fn lean_rule(
     ensures same_pad { pad.new ≡ pad.old }
     ensures decides { Decides result (IsLeanRule t.now pairs.now rules.now number r.now) }
 {
-    let setting = Setting {
+    let test = RuleTest {
         task: t,
         pairs,
         rules,
         number,
+        act: r.act,
+        targets: &r.targets,
     };
-    setting.is_sure(r, &r.cond, &mut pad.image)
-        && setting.needs_each(r, &mut pad.cond, &mut pad.image)
+    pad.cond.copy_from(&r.cond);
+    is_lean(&test, &mut pad.cond, &mut pad.image)
 }

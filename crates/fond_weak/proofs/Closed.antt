@@ -24,7 +24,7 @@ use Rattle.fond_game.specs.Layers.{CubeView, Leads, Forces, IsSureCube, IsSureLa
 use Rattle.fond_game.proofs.Lists.{Contains_numbered, number_of, same_numbered, Contains-map}
 use Rattle.fond_game.proofs.Reached.{length-next_state}
 use Rattle.fond_layers.specs.Over.{IsOver, AreOver}
-use Rattle.fond_regress.proofs.Images.{image_more}
+use Rattle.fond_game.proofs.Images.{image_more}
 use Rattle.fond_rules.specs.Belongs.{ArePairsOver}
 use Rattle.fond_regress.specs.Barred.{IsBarred}
 use Rattle.fond_weak.specs.Trees.{IsOpened, IsTried, MayLose, StaysAmong}

@@ -4,7 +4,8 @@ use Rattle.std.proofs.lemmas.Bool.{false≢true}
 use Rattle.std.proofs.lemmas.List.{length-map, get_or-map}
 use Rattle.fond_state.specs.Cubes.{LiesIn, CubeLiesIn, full_cube}
 use Rattle.fond_task.specs.Within.{is_form_within}
-use Rattle.fond_regress.proofs.Cubes.{literal_within, lies_by_full}
+use Rattle.fond_lean.proofs.Literals.{literal_within}
+use Rattle.fond_regress.proofs.Cubes.{lies_by_full}
 use Rattle.fond_relax.proofs.Hopeless.{IsLeast}
 use Rattle.fond_relax.proofs.Hopeless.{not_hopeless}
 use Rattle.fond_relax.proofs.estimate.estimate.Goals as goal

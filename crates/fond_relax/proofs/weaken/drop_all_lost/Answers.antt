@@ -1,5 +1,5 @@
 use Rattle.std.proofs.Common.{◌≡◌, ℕ, ◌<◌, subst, arith}
-use Rattle.fond_regress.proofs.Cubes.{literal_within}
+use Rattle.fond_lean.proofs.Literals.{literal_within}
 use Rattle.fond_relax.proofs.weaken.drop_all_lost.Goals as goal
 
 pub returns-clause-kept : goal.returns-clause-kept

@@ -6,4 +6,4 @@ returns-clause-decides c = λ layers layer at there.
     let task = c.args.t.now in
     let dead = c.args.dead.now in
     let pair = c.args.p.now in
-    (λ e. sure_if_leads task layers layer dead pair at there (c.leads_into.ensures.decides.0 e), λ sure. c.leads_into.ensures.decides.1 (leads_if_sure task layers layer dead pair at there sure))
+    (λ e. sure_if_leads task layers layer dead pair at there (c.passes.ensures.decides.0 e), λ sure. c.passes.ensures.decides.1 (leads_if_sure task layers layer dead pair at there sure))
