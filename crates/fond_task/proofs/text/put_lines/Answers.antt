@@ -7,7 +7,7 @@ pub returns-in_err-extend_from_slice-clause-grew : goal.returns-in_err-extend_fr
 returns-in_err-extend_from_slice-clause-grew c = ([], c.in_err-extend_from_slice.ensures.items ∙ sym (append-nil _))
 
 pub loop-i-init : goal.loop-i-init
-loop-i-init c = record { text = refl; grew = (_, c.in_ok-extend_from_slice.ensures.items); }
+loop-i-init c = record { text = refl; grew = (_, c.in_ok-extend_from_slice.ensures.items) }
 
 pub returns-in_err-put_line-clause-grew : goal.returns-in_err-put_line-clause-grew
 returns-in_err-put_line-clause-grew c = grew_twice _ _ _ c.loop-i.invariant.grew c.put_line.ensures.grew

@@ -4,7 +4,7 @@ use Rattle.fond_text.proofs.Grown.{grew_more}
 use Rattle.fond_task.proofs.text.put_objects.Goals as goal
 
 pub loop-object-init : goal.loop-object-init
-loop-object-init c = record { text = refl; grew = ([], sym (append-nil _)); }
+loop-object-init c = record { text = refl; grew = ([], sym (append-nil _)) }
 
 pub returns-in_err-extend_from_slice-clause-grew : goal.returns-in_err-extend_from_slice-clause-grew
 returns-in_err-extend_from_slice-clause-grew c =
