@@ -115,6 +115,54 @@ nothing_at written faults pen true e = inr (record {
 pub adds_nothing : (written : Option (List ℕ)) (faults : ℕ) (pen : PenState) → Adds (flow written faults pen) (flow written faults pen) []
 adds_nothing written faults pen = nothing_at written faults pen pen.failed refl
 
+-- a pen that has failed loses all that is put
+pub lost_by_failed : (written : Option (List ℕ)) (faults : ℕ) (pen : PenState) (bytes : List ℕ) → pen.failed ≡ true → IsLost (flow written faults pen) (flow written faults pen) bytes
+lost_by_failed written faults pen bytes failed = record {
+  failed = failed;
+  part = λ sound. absurd (false≢true (sym sound ∙ failed));
+  rose = λ sound. absurd (false≢true (sym sound ∙ failed));
+  still = λ _. refl;
+  counted = omega arith;
+}
+
+-- bytes that fit into the buffer are put by keeping them
+pub put_by_keeping : (written : Option (List ℕ)) (faults : ℕ) (old new : PenState) (bytes : List ℕ) → old.failed ≡ false → new ≡ record { pending = old.pending ++ bytes; failed = old.failed } →
+    IsPut (flow written faults old) (flow written faults new) bytes
+put_by_keeping written faults old new bytes sound same = rw same (record {
+  front = [];
+  appended = nothing_appended written;
+  split = refl;
+  was_sound = sound;
+  is_sound = sound;
+  counted = omega arith;
+})
+
+-- the pending bytes could not be written, and so the new ones are lost too
+pub lost_in_flush : {T E : Type 0} (r : Result T E) (w0 w1 : Option (List ℕ)) (f0 f1 : ℕ) (old new : PenState) (bytes : List ℕ) → old.failed ≡ false →
+    AppendedPart w0 w1 old.pending → Rose f0 f1 → new.failed ≡ true → f0 ≤ f1 → OnErr r (IsLost (flow w0 f0 old) (flow w1 f1 new) bytes)
+lost_in_flush (Ok _) w0 w1 f0 f1 old new bytes sound part rose failed up = tt
+lost_in_flush (Err _) w0 w1 f0 f1 old new bytes sound part rose failed up = record {
+  failed = failed;
+  part = λ _. part_of_more w0 w1 old.pending bytes part;
+  rose = λ _. rose;
+  still = λ e. absurd (false≢true (sym sound ∙ e));
+  counted = up;
+}
+
+-- all pending bytes were written, and the new ones are kept
+pub put_after_flush : (w0 w1 : Option (List ℕ)) (f0 f1 : ℕ) (old now new : PenState) (bytes : List ℕ) → old.failed ≡ false → Appended w0 w1 old.pending → f0 ≤ f1 →
+    now ≡ record { pending = []; failed = false } → new ≡ record { pending = now.pending ++ bytes; failed = now.failed } → IsPut (flow w0 f0 old) (flow w1 f1 new) bytes
+put_after_flush w0 w1 f0 f1 old now new bytes sound flushed up clear same =
+    let kept : new ≡ record { pending = bytes; failed = false } = same ∙ ap (λ (pen : PenState). record { pending = pen.pending ++ bytes; failed = pen.failed }) clear in
+    rw kept (record {
+      front = old.pending;
+      appended = flushed;
+      split = refl;
+      was_sound = sound;
+      is_sound = refl;
+      counted = up;
+    })
+
 -- all pending bytes were written, and then bytes past the buffer
 module _ {T E : Type 0} (w0 w1 w2 : Option (List ℕ)) (f0 f1 f2 : ℕ) (old new : PenState) (bytes : List ℕ) (sound : old.failed ≡ false)
     (flushed : Appended w0 w1 old.pending) (up : f0 ≤ f1) (further : f1 ≤ f2) where
