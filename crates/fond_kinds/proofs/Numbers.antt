@@ -1,5 +1,5 @@
 -- The tables of types: the numbers of names, first declarations and parents.
-use Rattle.std.proofs.Common.{◌≡◌, ◌≢◌, ◌⊎◌, ℕ, zero, suc, ◌+◌, ◌*◌, ◌<◌, ◌≤◌, ◌||◌, ◌&&◌, not, nat_lt, Bool, true, false, List, [], ◌∷◌, Option, Some, None, length, get_or, slice_get, drop, replicate, cond, map, refl, sym, ap, ◌∙◌, subst, zero-add, inl, inr, arith}
+use Rattle.std.proofs.Common.{◌≡◌, ◌≢◌, ◌⊎◌, ℕ, zero, suc, ◌+◌, ◌*◌, ◌<◌, ◌≤◌, ◌||◌, ◌&&◌, not, nat_lt, Bool, true, false, List, [], ◌∷◌, ◌++◌, Option, Some, None, length, get_or, slice_get, drop, replicate, cond, map, refl, sym, ap, ◌∙◌, subst, zero-add, append_assoc, inl, inr, arith}
 use Rattle.std.specs.Prelude.{option_and_then, slice_index_or, slice_set, find, position, is_none, if◌then◌else◌}
 use Rattle.std.specs.List.{list_any, flat_map, position_from}
 use Rattle.std.proofs.lemmas.Iterator.Adapters.{position_from-zero}
@@ -52,6 +52,13 @@ pub record AreFirsts (types : List TypedName) (firsts : List (Option ℕ)) (i : 
 
 pub drop_at : {X : Type 0} (xs : List X) (i : ℕ) (x : X) → slice_get xs i ≡ Some x → drop i xs ≡ x ∷ drop (i + 1) xs
 drop_at xs i x at = at_drop_more (λ rest. rest) xs i x (slice_get_within xs i x at) ∙ ap (λ y. y ∷ drop (i + 1) xs) (get_or_from_slice_get xs i x x at)
+
+-- a list that is made element by element goes on with the image of the next element
+pub map_next : {X Y : Type 0} (f : X → Y) (made next all : List Y) (xs : List X) (i : ℕ) (d : X) (y : Y) → i < length xs → y ≡ f (get_or xs i d) → next ≡ made ++ y ∷ [] →
+    made ++ map f (drop i xs) ≡ all → next ++ map f (drop (i + 1) xs) ≡ all
+map_next f made next all xs i d y within image pushed before =
+    ap (λ l. l ++ map f (drop (i + 1) xs)) (pushed ∙ ap (λ z. made ++ z ∷ []) image) ∙ append_assoc made (f (get_or xs i d) ∷ []) (map f (drop (i + 1) xs))
+    ∙ ap (λ l. made ++ l) (sym (at_drop_more (map f) xs i d within)) ∙ before
 
 bool_cases : (b : Bool) → (b ≡ true) ⊎ (b ≡ false)
 bool_cases true = inl refl

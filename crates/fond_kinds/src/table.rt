@@ -8,7 +8,7 @@ ghost use Rattle.fond_text.specs.declared.code.TheConstants.{LONGEST_TEXT};
 ghost use Rattle.std.specs.Bool.{Decides};
 ghost use Rattle.std.specs.List.{list_all};
 ghost use Rattle.std.specs.Option.{is_some, option_map_or};
-ghost use Rattle.std.specs.Prelude.{◌≡◌, ◌<◌, ◌≤◌, ◌^◌, ℕ, List, IsTrue, Some, None, true, length, option_and_then, position, replicate, slice_get, slice_index_or, vec_len, IfOk, OnOk};
+ghost use Rattle.std.specs.Prelude.{◌≡◌, ◌<◌, ◌≤◌, ◌^◌, ℕ, List, [], IsTrue, Some, None, true, length, option_and_then, position, replicate, slice_get, slice_index_or, vec_len, IfOk, OnOk};
 
 use crate::ancestry::Ancestry;
 use crate::links::parent_at;
@@ -60,19 +60,29 @@ fn put(alloc: Global, numbers: &mut TextIndex, text: &[u8], number: u32) -> Resu
     numbers.insert(Vec::from_slice(alloc, text)?, number)
 }
 
+/// Inserts the names of types, each with its first number.
+fn put_names(alloc: Global, types: &TypedNames, numbers: &mut TextIndex) -> Result<(), NoMemory>
+    requires few { length types.now ≤ LONGEST_TEXT }
+    requires empty { numbers.old ≡ [] }
+    ensures { OnOk result ((name : List ℕ) → number_beside numbers.new name ≡ number_of types.now name) }
+{
+    put(alloc, numbers, b"object", 0)?;
+    for i in 0..types.len() {
+        let declared = types.get(i);
+        let at = 2 * i as u32;
+        put(alloc, numbers, declared.name.bytes(), at + 1)?;
+        put(alloc, numbers, only_kind(declared), at + 2)?;
+    }
+    Ok(())
+}
+
 /// The numbers of the names of types.
 fn numbers_of(alloc: Global, types: &TypedNames) -> Result<TextIndex, NoMemory>
     requires { length types.now ≤ LONGEST_TEXT }
     ensures { IfOk result (λ numbers. (name : List ℕ) → number_beside numbers name ≡ number_of types.now name) }
 {
     let mut numbers = TextIndex::new(alloc);
-    put(alloc, &mut numbers, b"object", 0)?;
-    for i in 0..types.len() {
-        let declared = types.get(i);
-        let at = 2 * i as u32;
-        put(alloc, &mut numbers, declared.name.bytes(), at + 1)?;
-        put(alloc, &mut numbers, only_kind(declared), at + 2)?;
-    }
+    put_names(alloc, types, &mut numbers)?;
     Ok(numbers)
 }
 
@@ -150,6 +160,26 @@ fn parents_of(
     Ok(parents)
 }
 
+/// The parents of the numbers of types, with a forest among them.
+fn ancestry_of(
+    alloc: Global,
+    types: &TypedNames,
+    numbers: &TextIndex,
+    firsts: &[Option<u32>],
+) -> Result<Ancestry, NoMemory>
+    requires few { length types.now ≤ LONGEST_TEXT }
+    requires numbered { (name : List ℕ) → number_beside numbers.now name ≡ number_of types.now name }
+    requires declared { (name : List ℕ) (number : ℕ) → number_of types.now name ≡ Some number
+        → slice_index_or firsts.now number None ≡ position (declares name) types.now }
+    requires over { length firsts.now ≡ length (type_names types.now) }
+    ensures ascends { IfOk result (λ ancestry. (name : List ℕ) (number : ℕ) → number_of types.now name ≡ Some number
+        → parent_of ancestry number ≡ number_of types.now (parent_of_type types.now name)) }
+    ensures over { IfOk result (λ ancestry. length ancestry ≡ length (type_names types.now)) }
+{
+    let parents = parents_of(alloc, types, numbers, firsts)?;
+    Ancestry::of(alloc, parents)
+}
+
 impl<'a> TypeTable<'a> {
     /// The table of these declarations. Takes time and memory in the length of their names.
     pub fn of(alloc: Global, types: &'a TypedNames) -> Result<TypeTable<'a>, NoMemory>
@@ -158,8 +188,7 @@ impl<'a> TypeTable<'a> {
     {
         let numbers = numbers_of(alloc, types)?;
         let firsts = firsts_of(alloc, types, &numbers)?;
-        let parents = parents_of(alloc, types, &numbers, &firsts)?;
-        let ancestry = Ancestry::of(alloc, parents)?;
+        let ancestry = ancestry_of(alloc, types, &numbers, &firsts)?;
         Ok(TypeTable {
             types,
             numbers,

@@ -2,7 +2,7 @@ use Rattle.std.proofs.Common.{◌≡◌, ◌<◌, [], ◌++◌, None, length, ma
 use Rattle.std.proofs.lemmas.Grind.{common_steps}
 use Rattle.std.proofs.lemmas.List.{append-nil}
 use Rattle.fond_kinds.specs.Parents.{parent_of}
-use Rattle.fond_kinds.proofs.Numbers.{map_at, parent_number, parents_ascend, parents_within}
+use Rattle.fond_kinds.proofs.Numbers.{map_at, map_next, parent_number, parents_ascend, parents_within}
 use Rattle.fond_kinds.proofs.Types.{number_within}
 use Rattle.fond_kinds.specs.Tables.{type_names}
 use Rattle.fond_kinds.proofs.table.parents_of.Goals as goal
@@ -24,3 +24,8 @@ returns-clause-within c =
     let all : c.loop-first.parents.items ≡ map (parent_number c.args.types.now c.args.numbers.now) c.args.firsts.now =
     sym (append-nil c.loop-first.parents.items) ∙ sym (ap (λ z. c.loop-first.parents.items ++ map (parent_number c.args.types.now c.args.numbers.now) z) none) ∙ c.loop-first.invariant in
     parents_within c.args.types.now c.args.numbers.now c.args.firsts.now c.requires.numbered c.requires.over c.loop-first.parents.items all
+
+pub loop-first-preserved : goal.loop-first-preserved
+loop-first-preserved c =
+    map_next (parent_number c.args.types.now c.args.numbers.now) c.loop-first.parents.items c.push.new.self.items _ c.args.firsts.now c.loop-first.first-index None c.parent_number.result
+    c.loop-first-test.true c.parent_number.ensures c.in_ok-push.ensures.items c.loop-first.invariant

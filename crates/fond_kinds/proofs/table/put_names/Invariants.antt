@@ -1,7 +1,7 @@
 use Rattle.std.proofs.Common.{◌+◌, ◌*◌}
 use Rattle.fond_lookup.proofs.Firsts.{HasFirsts}
 use Rattle.fond_kinds.specs.Tables.{type_names}
-use Rattle.fond_kinds.proofs.table.numbers_of.Given as goal
+use Rattle.fond_kinds.proofs.table.put_names.Given as goal
 
 -- the numbers have the first place of each name so far
 abbrev pub invariant-loop-i : goal.invariant-loop-i

@@ -4,11 +4,11 @@ use Rattle.fond_lookup.specs.Texts.{with_text}
 use Rattle.fond_kinds.specs.Kinds.{root, only_kind}
 use Rattle.fond_kinds.specs.Tables.{type_names}
 use Rattle.fond_kinds.proofs.Numbers.{name_at, kind_at, names_long}
-use Rattle.fond_kinds.proofs.table.numbers_of.Goals as goal
+use Rattle.fond_kinds.proofs.table.put_names.Goals as goal
 
 pub loop-i-init : goal.loop-i-init
 loop-i-init c =
-    let grown = c.in_ok-put.ensures ∙ ap (λ z. with_text z root 0) c.new-numbers.ensures in
+    let grown = c.in_ok-put.ensures ∙ ap (λ z. with_text z root 0) c.requires.empty in
     has_more (λ (name : List ℕ). name) (type_names c.args.types.now) [] c.put.new.numbers 0 root root refl refl grown (λ text. refl)
 
 pub loop-i-preserved : goal.loop-i-preserved
