@@ -11,18 +11,15 @@ use std::marker::Model;
 /// Distinct texts, each with a number, in the order in which they were inserted.
 #[derive(Drop)]
 pub struct TextIndex {
-    alloc: Global,
-    /// In a box, so that what holds an index is cheap to move and to prove; none before the first insertion.
-    numbers: Option<Box<IndexMap<Vec<u8>, u32>>>,
+    numbers: IndexMap<Vec<u8>, u32>,
 }
 
 impl Model for TextIndex {
-    ghost use Rattle.std.specs.Option.{option_map_or};
-    ghost use Rattle.std.specs.Prelude.{List, [], ℕ, map};
+    ghost use Rattle.std.specs.Prelude.{List, ℕ, map};
 
     ghost Value = { List (List ℕ × ℕ) };
 
-    ghost view = { λ x. option_map_or (λ numbers. map (λ entry. (entry.0.items, entry.1)) numbers.value.entries) x.numbers [] };
+    ghost view = { λ x. map (λ entry. (entry.0.items, entry.1)) x.numbers.entries };
 }
 
 impl TextIndex {
@@ -31,8 +28,7 @@ impl TextIndex {
         ensures { result ≡ [] }
     {
         TextIndex {
-            alloc,
-            numbers: None,
+            numbers: IndexMap::new(alloc),
         }
     }
 
@@ -45,16 +41,7 @@ impl TextIndex {
         if self.find(&text).is_some() {
             return Ok(());
         }
-        match &mut self.numbers {
-            Some(numbers) => {
-                numbers.insert(text, number)?;
-            }
-            None => {
-                let mut numbers = Box::new(self.alloc, IndexMap::new(self.alloc))?;
-                numbers.insert(text, number)?;
-                self.numbers = Some(numbers);
-            }
-        }
+        self.numbers.insert(text, number)?;
         Ok(())
     }
 
@@ -62,9 +49,6 @@ impl TextIndex {
     pub fn find(&self, text: &[u8]) -> Option<u32>
         ensures { result ≡ number_beside self.now text.now }
     {
-        match &self.numbers {
-            Some(numbers) => numbers.get(text).copied(),
-            None => None,
-        }
+        self.numbers.get(text).copied()
     }
 }

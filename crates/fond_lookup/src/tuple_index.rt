@@ -11,18 +11,15 @@ use std::marker::Model;
 /// Distinct lists, each with a number, in the order in which they were inserted.
 #[derive(Drop)]
 pub struct TupleIndex {
-    alloc: Global,
-    /// In a box, so that what holds an index is cheap to move and to prove; none before the first insertion.
-    numbers: Option<Box<IndexMap<Vec<u32>, u32>>>,
+    numbers: IndexMap<Vec<u32>, u32>,
 }
 
 impl Model for TupleIndex {
-    ghost use Rattle.std.specs.Option.{option_map_or};
-    ghost use Rattle.std.specs.Prelude.{List, [], ℕ, map};
+    ghost use Rattle.std.specs.Prelude.{List, ℕ, map};
 
     ghost Value = { List (List ℕ × ℕ) };
 
-    ghost view = { λ x. option_map_or (λ numbers. map (λ entry. (entry.0.items, entry.1)) numbers.value.entries) x.numbers [] };
+    ghost view = { λ x. map (λ entry. (entry.0.items, entry.1)) x.numbers.entries };
 }
 
 impl TupleIndex {
@@ -31,8 +28,7 @@ impl TupleIndex {
         ensures { result ≡ [] }
     {
         TupleIndex {
-            alloc,
-            numbers: None,
+            numbers: IndexMap::new(alloc),
         }
     }
 
@@ -45,16 +41,7 @@ impl TupleIndex {
         if self.find(&tuple).is_some() {
             return Ok(());
         }
-        match &mut self.numbers {
-            Some(numbers) => {
-                numbers.insert(tuple, number)?;
-            }
-            None => {
-                let mut numbers = Box::new(self.alloc, IndexMap::new(self.alloc))?;
-                numbers.insert(tuple, number)?;
-                self.numbers = Some(numbers);
-            }
-        }
+        self.numbers.insert(tuple, number)?;
         Ok(())
     }
 
@@ -62,9 +49,6 @@ impl TupleIndex {
     pub fn find(&self, tuple: &[u32]) -> Option<u32>
         ensures { result ≡ number_beside self.now tuple.now }
     {
-        match &self.numbers {
-            Some(numbers) => numbers.get(tuple).copied(),
-            None => None,
-        }
+        self.numbers.get(tuple).copied()
     }
 }

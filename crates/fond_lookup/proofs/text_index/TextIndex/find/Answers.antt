@@ -1,12 +1,9 @@
-use Rattle.std.proofs.Common.{◌∙◌, [], sym, ap}
-use Rattle.std.specs.Option.{option_map_or}
+use Rattle.std.proofs.Common.{◌∙◌, ap}
 use Rattle.fond_lookup.specs.Texts.{number_beside}
-use Rattle.fond_lookup.proofs.Entries.{shown, number_at}
+use Rattle.fond_lookup.proofs.Entries.{number_at}
 use Rattle.fond_lookup.proofs.text_index.TextIndex.find.Goals as goal
 
-pub returns-in-Some : goal.returns-in-Some
-returns-in-Some c =
+pub returns : goal.returns
+returns c =
     let text = c.args.text.now in
-    let entries = c.deref.result.now.entries in
-    let seen = ap (λ inner. shown inner.entries) c.deref.ensures ∙ ap (λ numbers. option_map_or (λ inner. shown inner.value.entries) numbers []) (sym c.in-Some.is) ∙ c.self.view_is in
-    c.copied.ensures ∙ c.get.ensures.value ∙ number_at entries text ∙ ap (λ items. number_beside items text) seen
+    c.copied.ensures ∙ c.get.ensures.value ∙ number_at c.self.inside.numbers.entries text ∙ ap (λ items. number_beside items text) c.self.view_is

@@ -1,21 +1,19 @@
 use Rattle.std.proofs.Common.{◌≡◌, ◌∙◌, ◌++◌, ◌∷◌, [], None, sym, ap}
 use Rattle.std.proofs.lemmas.List.{map-append}
-use Rattle.std.specs.Option.{option_map_or}
 use Rattle.std.specs.Str.{bytes_eq}
 use Rattle.indexmap.proofs.CallerLemmas.{insert_entry-new}
 use Rattle.fond_lookup.specs.Texts.{number_beside}
 use Rattle.fond_lookup.proofs.Entries.{shown, number_at, kept_last, not_some}
 use Rattle.fond_lookup.proofs.tuple_index.TupleIndex.insert.Goals as goal
 
-pub returns-in_ok-insert-in-Some-clause-ok : goal.returns-in_ok-insert-in-Some-clause-ok
-returns-in_ok-insert-in-Some-clause-ok c =
+pub returns-clause-ok : goal.returns-clause-ok
+returns-clause-ok c =
     let tuple = c.args.tuple.items in
-    let numbers = c.deref_mut.result.now in
-    let seen = ap (λ inner. shown inner.entries) c.deref_mut.ensures.value ∙ ap (λ held. option_map_or (λ inner. shown inner.value.entries) held []) (sym c.in-Some.is) ∙ c.self.view_is in
+    let numbers = c.self.inside.numbers in
     let none : number_beside c.args.self.now tuple ≡ None =
     ap (number_beside c.args.self.now) (sym c.deref.ensures.value) ∙ sym c.find.ensures ∙ not_some c.find.result (sym c.is_some.ensures ∙ c.if-is_some.false) in
-    let absent = number_at numbers.entries tuple ∙ ap (λ items. number_beside items tuple) seen ∙ none in
-    ap shown (c.in_ok-insert-in-Some.ensures.entries ∙ insert_entry-new (λ x y. bytes_eq x.items y.items) numbers c.args.tuple c.args.number absent)
+    let absent = number_at numbers.entries tuple ∙ ap (λ items. number_beside items tuple) c.self.view_is ∙ none in
+    ap shown (c.in_ok-insert.ensures.entries ∙ insert_entry-new (λ x y. bytes_eq x.items y.items) numbers c.args.tuple c.args.number absent)
     ∙ map-append _ numbers.entries _
-    ∙ ap (λ items. items ++ (tuple, c.args.number) ∷ []) seen
+    ∙ ap (λ items. items ++ (tuple, c.args.number) ∷ []) c.self.view_is
     ∙ sym (kept_last c.args.self.now tuple c.args.number none)
