@@ -1,4 +1,5 @@
 pub mod First
+pub mod Held
 pub mod Linked
 pub mod SureTargets
 pub mod Earlier

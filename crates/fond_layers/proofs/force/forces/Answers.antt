@@ -1,11 +1,15 @@
-use Rattle.std.proofs.Common.{List, subst, refl, arith, Decides}
-use Rattle.std.specs.Prelude.{Contains}
-use Rattle.std.proofs.lemmas.Bool.{false≢true}
+use Rattle.std.proofs.Common.{List, length, sym, subst, refl, arith, Decides}
+use Rattle.std.specs.List.{list_all}
+use Rattle.std.specs.Prelude.{Contains, IsTrue}
+use Rattle.std.proofs.lemmas.Bool.{false≢true, and_parts}
+use Rattle.fond_task.specs.Within.{is_entry_within}
+use Rattle.fond_task.proofs.Found.{all_at}
+use Rattle.fond_layers.specs.Over.{IsOver, AreOver}
 use Rattle.fond_task.specs.declared.task.Entry.{Entry}
 use Rattle.fond_task.specs.Images.{image}
 use Rattle.fond_game.specs.Layers.{CubeView, Leads, LiesInLayer}
 use Rattle.fond_layers.specs.Leads.{LiesInSome}
-use Rattle.fond_layers.proofs.Tried.{read_Contains, all_more, some_more, each_more}
+use Rattle.fond_layers.proofs.Tried.{read_at, read_Contains, all_more, some_more, each_more}
 use Rattle.fond_layers.proofs.Forced.{forced_by_some, forced_by_each, forced_earlier}
 use Rattle.fond_layers.proofs.force.forces.Goals as goal
 
@@ -49,3 +53,18 @@ pub returns-else-act-clause-decides : goal.returns-else-act-clause-decides
 returns-else-act-clause-decides c =
     forced_by_each c.args.earlier.now c.args.layer.now c.args.cube.now c.args.act.now c.as_slice-outcome-items.result.now c.as_slice-outcome-items.ensures
     c.loop-outcome.outcome-index c.loop-outcome.auto.outcome-index-end (omega arith) c.loop-outcome.invariant.misses c.loop-outcome.each_leads c.if-act.false c.loop-outcome.invariant.each_tried
+
+pub image_of-requires-clause-within : goal.image_of-requires-clause-within
+image_of-requires-clause-within c =
+    let items = c.as_slice-outcome-items.result.now in
+    let outcome = c.outcome-item.result in
+    let i = c.loop-outcome.outcome-index in
+    let All : List (List Entry) → Type 0 = λ outcomes. IsTrue (list_all (list_all (is_entry_within (length c.args.cube.now))) outcomes) in
+    let all = subst All (sym c.as_slice-outcome-items.ensures) (and_parts _ _ c.requires.within).1 in
+    all_at (list_all (is_entry_within (length c.args.cube.now))) items i outcome all (read_at items i outcome c.loop-outcome-test.true c.outcome-item.is)
+
+pub lies_in_some-requires : goal.lies_in_some-requires
+lies_in_some-requires c = subst (λ atoms. AreOver atoms c.args.earlier.now) (sym c.image_of.ensures.same_length) c.requires.earlier_over
+
+pub has_around-leads-requires : goal.has_around-leads-requires
+has_around-leads-requires c = subst (λ atoms. IsOver atoms c.args.layer.now) (sym c.image_of.ensures.same_length) c.requires.layer_over

@@ -1,4 +1,5 @@
-use Rattle.std.proofs.Common.{sym, subst}
+use Rattle.std.proofs.Common.{◌∙◌, sym, subst, arith}
+use Rattle.std.proofs.lemmas.Grind.{common_steps}
 use Rattle.fond_state.specs.Cubes.{CubeLiesIn}
 use Rattle.fond_task.proofs.Found.{outcome_within}
 use Rattle.fond_game.specs.Layers.{CubeView}
@@ -15,3 +16,12 @@ returns-clause-lies c =
     let full = c.args.full.now in
     let Lies : CubeView → Type 0 = λ cube. CubeLiesIn full cube in
     c.regress.ensures.1 (subst Lies (sym c.in_ok-out.ensures) (lies_in_empty full _))
+
+pub get-requires-2 : goal.get-requires-2
+get-requires-2 c = c.requires.outcome_there c.get.result.now c.get.ensures
+
+pub regress-requires-clause-long : goal.regress-requires-clause-long
+regress-requires-clause-long c = grind (arith, common_steps)
+
+pub returns-clause-long : goal.returns-clause-long
+returns-clause-long c = grind (arith, common_steps)

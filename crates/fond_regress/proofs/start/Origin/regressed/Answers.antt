@@ -1,4 +1,6 @@
-use Rattle.std.proofs.Common.{sym, subst}
+use Rattle.std.proofs.Common.{ℕ, ◌≡◌, ◌∙◌, length, sym, subst, arith}
+use Rattle.std.proofs.lemmas.Grind.{common_steps}
+use Rattle.fond_rules.specs.Belongs.{ArePairsOver}
 use Rattle.std.proofs.lemmas.Bool.{and_parts}
 use Rattle.fond_state.specs.Cubes.{CubeLiesIn}
 use Rattle.fond_task.specs.Within.{is_act_within}
@@ -22,3 +24,18 @@ returns-clause-lies c =
     let source = c.args.self.now.source.now in
     let Lies : CubeView → Type 0 = λ cube. CubeLiesIn source cube in
     c.oppose_pairs.ensures.1 (c.explain_targets.ensures.1 (c.explain.ensures.1 (subst Lies (sym c.in_ok-out.ensures) (lies_in_empty source _))))
+
+pub explain-requires-clause-long : goal.explain-requires-clause-long
+explain-requires-clause-long c = grind (arith, common_steps)
+
+pub explain_targets-requires-clause-long : goal.explain_targets-requires-clause-long
+explain_targets-requires-clause-long c = grind (arith, common_steps)
+
+pub oppose_pairs-requires-clause-over : goal.oppose_pairs-requires-clause-over
+oppose_pairs-requires-clause-over c = subst (λ atoms. ArePairsOver atoms c.args.pairs.now) (sym c.args.self.now.long) c.requires.over
+
+pub oppose_pairs-requires-clause-long : goal.oppose_pairs-requires-clause-long
+oppose_pairs-requires-clause-long c = grind (arith, common_steps)
+
+pub returns-clause-long : goal.returns-clause-long
+returns-clause-long c = grind (arith, common_steps)

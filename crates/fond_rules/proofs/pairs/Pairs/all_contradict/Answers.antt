@@ -1,11 +1,13 @@
 use Rattle.std.proofs.Common.{◌≡◌, ◌∙◌, ℕ, ◌<◌, List, Option, Some, length, map, get_or, slice_get, ap, sym, subst, refl, arith}
 use Rattle.std.specs.Prelude.{option_map}
+use Rattle.std.proofs.lemmas.Bool.{false≢true}
 use Rattle.std.proofs.lemmas.List.{length-map}
 use Rattle.std.proofs.lemmas.Option.{slice_get-map, slice_get-get_or}
 use Rattle.fond_game.specs.declared.rule.Pair.{Pair}
 use Rattle.fond_rules.specs.Links.{AreLinked, IsLast}
 use Rattle.fond_rules.specs.declared.pairs.Linked.{Linked}
-use Rattle.fond_rules.proofs.Linked.{Walked, Walked-step, Walked-end, steps_left, steps_less}
+use Rattle.fond_rules.proofs.Held.{held_at, contained}
+use Rattle.fond_rules.proofs.Linked.{Walked, walked_of, Walked-step, Walked-end, steps_left, steps_less}
 use Rattle.fond_rules.proofs.pairs.Pairs.all_contradict.Goals as goal
 
 abbrev pairs_of : List Linked → List Pair
@@ -57,3 +59,31 @@ returns c =
     let pairs = c.args.self.now in
     let P : Option ℕ → Type 0 = λ next. Walked pairs c.args.cond.now c.args.act next in
     (λ e. Walked-end pairs c.args.cond.now c.args.act (subst P c.in_default.is c.loop-next.invariant), λ all. refl)
+
+pub index-linked-requires : goal.index-linked-requires
+index-linked-requires c =
+    let P : Option ℕ → Type 0 = λ next. Walked c.args.self.now c.args.cond.now c.args.act next in
+    let walked = subst P c.in-Some.is c.loop-next.invariant in
+    omega (arith, walked.before, ap length c.self.view_is, length-map c.self.inside.items.items (λ (linked : Linked). linked.pair))
+
+pub contradicts-requires : goal.contradicts-requires
+contradicts-requires c =
+    let pairs = c.args.self.now in
+    let cond = c.args.cond.now in
+    let number = c.in-Some.number in
+    let linked = c.index-linked.result.now in
+    let P : Option ℕ → Type 0 = λ next. Walked pairs cond c.args.act next in
+    let walked = subst P c.in-Some.is c.loop-next.invariant in
+    let at = pair_at c.self.inside.items.items pairs c.self.view_is number linked walked.before c.index-linked.ensures in
+    sym (held_at pairs number linked.pair at (λ pair. length pair.cond ≡ length cond) c.requires)
+
+pub returns-then-not-contradicts : goal.returns-then-not-contradicts
+returns-then-not-contradicts c =
+    let pairs = c.args.self.now in
+    let cond = c.args.cond.now in
+    let number = c.in-Some.number in
+    let linked = c.index-linked.result.now in
+    let P : Option ℕ → Type 0 = λ next. Walked pairs cond c.args.act next in
+    let walked = subst P c.in-Some.is c.loop-next.invariant in
+    let at = pair_at c.self.inside.items.items pairs c.self.view_is number linked walked.before c.index-linked.ensures in
+    (λ e. absurd (false≢true e), λ all. c.if-not-contradicts.ensures.1 (all linked.pair (contained pairs number linked.pair at) (walked_of pairs cond c.args.act number linked.pair walked at)))
