@@ -123,12 +123,7 @@ impl Source for Guide {
     }
 
     /// Makes the engine, if there is none, and lets the next searches do this much.
-    fn allow(
-        &mut self,
-        alloc: Global,
-        t: &Task,
-        effort: Effort,
-    ) -> Result<(), NoMemory> {
+    fn allow(&mut self, alloc: Global, t: &Task, effort: Effort) -> Result<(), NoMemory> {
         if self.engine.is_none() {
             self.engine = Some(Engine::new(alloc, t)?);
         }
@@ -146,12 +141,7 @@ impl Source for Guide {
     }
 
     /// Steps from the state to a goal or to a state in which a rule of the draft holds, if the engine finds some.
-    fn plan(
-        &mut self,
-        alloc: Global,
-        draft: &Draft,
-        from: &State,
-    ) -> Result<Hint, NoMemory> {
+    fn plan(&mut self, alloc: Global, draft: &Draft, from: &State) -> Result<Hint, NoMemory> {
         let Some(engine) = &mut self.engine else {
             return Ok(Hint::Spent);
         };
@@ -171,12 +161,7 @@ impl Source for Guide {
     }
 
     /// Searches go on in this outcome of the unfair action from now on.
-    fn respond(
-        &mut self,
-        state: &State,
-        act: u32,
-        outcome: u32,
-    ) -> Result<(), NoMemory> {
+    fn respond(&mut self, state: &State, act: u32, outcome: u32) -> Result<(), NoMemory> {
         match &mut self.engine {
             Some(engine) => engine.respond(state, act, outcome),
             None => Ok(()),
@@ -216,11 +201,7 @@ impl Source for Guide {
     }
 
     /// The next layer, if the engine finds one. What it takes is no more there for further ones.
-    fn next_layer(
-        &mut self,
-        alloc: Global,
-        draft: &Draft,
-    ) -> Result<LayerHint, NoMemory> {
+    fn next_layer(&mut self, alloc: Global, draft: &Draft) -> Result<LayerHint, NoMemory> {
         let Some(engine) = &mut self.engine else {
             return Ok(LayerHint::Nothing);
         };

@@ -10,8 +10,8 @@ ghost use Rattle.std.specs.Prelude.{◌≡◌, true, length, IfOk, IfSome, OnOk}
 
 use crate::make::add_rule;
 use crate::planner::Planner;
-use crate::source::{Effort, Source};
 use crate::replay::replay;
+use crate::source::{Effort, Source};
 use crate::turn::{first_open, is_ready};
 use fond_explicit::answer::{Choices, Pick};
 use fond_hint::hint::Hint;

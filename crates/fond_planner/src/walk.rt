@@ -17,12 +17,13 @@ ghost use Rattle.std.specs.Prelude.{◌≡◌, ◌<◌, ◌≤◌, false, true, 
 use crate::draft::Draft;
 use crate::find::Found;
 use crate::planner::Planner;
-use crate::source::Source;
 use crate::sketched::Sketched;
+use crate::source::Source;
 use fond_cover::items::Items;
 use fond_game::rule::Pair;
 use fond_layers::layers::Layers;
 use fond_policy::walk::one_state;
+use fond_regress::barred::is_barred;
 use fond_regress::pair::lean_pair;
 use fond_state::state::State;
 use fond_store::store::Store;
@@ -30,7 +31,6 @@ use fond_task::step::apply_into;
 use fond_task::task::Task;
 use fond_task::truth::is_goal;
 use fond_text::fault::NoMemory;
-use fond_regress::barred::is_barred;
 use std::alloc::Global;
 
 /// A step of a walk: an outcome of an action leads from a state to the next one.
