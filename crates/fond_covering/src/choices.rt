@@ -1,8 +1,8 @@
 //! Rules in words: which is the first that holds in a state, and which atoms keep the earlier ones from holding.
 
 use crate::opposed::Opposed;
-use fond_heuristic::condition::{Mask, all_hold};
-use fond_heuristic::index::{Literal, NONE, at, bit_of, has, link_at, put, put_bit, size, word_at};
+use fond_moves::condition::{Mask, all_hold};
+use fond_moves::index::{Literal, NONE, at, bit_of, has, link_at, put, put_bit, size, word_at};
 use fond_state::cube::Cube;
 use fond_text::fault::NoMemory;
 use std::alloc::Global;

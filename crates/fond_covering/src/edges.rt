@@ -1,7 +1,7 @@
 //! Edges: an outcome at a node, with the node that the outcome leads into.
 
 use crate::nodes::Nodes;
-use fond_heuristic::index::{NONE, link_at, put, size};
+use fond_moves::index::{NONE, link_at, put, size};
 use fond_text::fault::NoMemory;
 use std::alloc::Global;
 use std::collections::BinaryHeap;

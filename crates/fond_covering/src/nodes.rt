@@ -1,7 +1,7 @@
 //! Nodes: each has a state in which a rule is the first that holds, or which is a goal, and the atoms of it that are known. The
 //! cube of these atoms is to become an item.
 
-use fond_heuristic::index::{NONE, copy_words, link_at, put, size};
+use fond_moves::index::{NONE, copy_words, link_at, put, size};
 use fond_text::fault::NoMemory;
 use std::alloc::Global;
 

@@ -1,7 +1,7 @@
 //! Which rules a literal keeps from holding, as bits.
 
-use fond_heuristic::condition::Mask;
-use fond_heuristic::index::{Literal, NONE, bit_of, has, put_bit, size};
+use fond_moves::condition::Mask;
+use fond_moves::index::{Literal, NONE, bit_of, has, put_bit, size};
 use fond_text::fault::NoMemory;
 use std::alloc::Global;
 

@@ -1,6 +1,6 @@
 //! Reasons: atoms of a state whose values decide whether a condition is true in it.
 
-use fond_heuristic::index::{has, put_bit};
+use fond_moves::index::{has, put_bit};
 use fond_task::form::Form;
 
 /// Whether the condition is true in the state.

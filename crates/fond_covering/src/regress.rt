@@ -1,7 +1,7 @@
 //! What must be known before an outcome, so that some atoms are known after it.
 
 use crate::reason::{explain, is_decided, is_true};
-use fond_heuristic::index::{Literal, has, put_bit};
+use fond_moves::index::{Literal, has, put_bit};
 use fond_task::task::{Entry, Outcome};
 
 /// Whether the entry gives the atom of the literal its value, if its condition is true.

@@ -1,6 +1,6 @@
 //! Which actions are still to be looked at, on the cubes of which nodes.
 
-use fond_heuristic::index::{put_bit, size};
+use fond_moves::index::{put_bit, size};
 use fond_text::fault::NoMemory;
 use std::alloc::Global;
 

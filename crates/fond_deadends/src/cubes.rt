@@ -1,9 +1,9 @@
 //! Sets of cubes, each filed under one of its literals, so that only few of them are looked at to tell whether one holds
 //! in a state.
 
-use fond_heuristic::condition::{Mask, all_hold, copy_mentioned};
-use fond_heuristic::index::{Literal, NONE, bit_of, has, put_bit, size, word_at};
-use fond_heuristic::part::Part;
+use fond_moves::condition::{Mask, all_hold, copy_mentioned};
+use fond_moves::index::{Literal, NONE, bit_of, has, put_bit, size, word_at};
+use fond_moves::part::Part;
 use fond_text::fault::NoMemory;
 use std::alloc::Global;
 

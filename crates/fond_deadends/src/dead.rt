@@ -10,9 +10,10 @@
 //! ranges of them with all that falls with these, as long as what is left is dead.
 
 use crate::facts::Facts;
-use fond_heuristic::index::{Literal, NONE, has, size};
-use fond_heuristic::moves::Move;
-use fond_heuristic::part::Part;
+use fond_moves::boxes::boxed;
+use fond_moves::index::{Literal, NONE, has, size};
+use fond_moves::moves::Move;
+use fond_moves::part::Part;
 use fond_task::form::Kleene;
 use fond_text::fault::NoMemory;
 use std::alloc::Global;
@@ -45,20 +46,23 @@ pub struct Prover {
 
 impl Prover {
     /// A search that has not begun.
-    pub fn new(alloc: Global, width: u32) -> Result<Prover, NoMemory> {
+    pub fn new(alloc: Global, width: u32) -> Result<Box<Prover>, NoMemory> {
         let part = Part::new(alloc, width)?;
         let image = Part::new(alloc, width)?;
         let best = Part::new(alloc, width)?;
-        Ok(Prover {
-            part,
-            image,
-            best,
-            literals: Vec::new(alloc),
-            trial: Vec::new(alloc),
-            taker: 0,
-            left: 0,
-            work: 0,
-        })
+        boxed(
+            alloc,
+            Prover {
+                part,
+                image,
+                best,
+                literals: Vec::new(alloc),
+                trial: Vec::new(alloc),
+                taker: 0,
+                left: 0,
+                work: 0,
+            },
+        )
     }
 
     /// The outcome that leads from what is left into a dead cube, and that cube.

@@ -1,9 +1,9 @@
 //! What a search for dead cubes goes by.
 
 use crate::cubes::CubeSet;
-use fond_heuristic::moves::Moves;
 use fond_heuristic::net::Net;
-use fond_heuristic::weight::Weights;
+use fond_moves::moves::Moves;
+use fond_moves::weight::Weights;
 
 /// The actions of a task with the goal, how much literals are worth as reasons, the relaxed task, and the cubes that are dead
 /// already.

@@ -15,13 +15,14 @@ use crate::dead::Prover;
 use crate::facts::Facts;
 use crate::nodes::Nodes;
 use crate::states::StateSet;
-use fond_heuristic::condition::Mask;
 use fond_heuristic::cost::FAR;
-use fond_heuristic::effect::Effect;
-use fond_heuristic::index::{NONE, bit_of, copy_words, size, word_at};
-use fond_heuristic::moves::Move;
-use fond_heuristic::part::Part;
 use fond_heuristic::relaxed::Estimate;
+use fond_moves::boxes::boxed;
+use fond_moves::condition::Mask;
+use fond_moves::effect::Effect;
+use fond_moves::index::{NONE, bit_of, copy_words, size, word_at};
+use fond_moves::moves::Move;
+use fond_moves::part::Part;
 use fond_task::form::Kleene;
 use fond_text::fault::NoMemory;
 use std::alloc::Global;
@@ -52,15 +53,28 @@ pub enum Stage {
     Failed,
 }
 
-/// A search for layers around a state. Its buffers serve one search after the other.
+/// A search for layers around a state. Its buffers serve one search after the other. The large parts are in boxes, since the
+/// time that the proof of a body takes grows with the fields of the values that it owns.
 #[derive(Drop)]
 pub struct LayerSearch {
     nodes: Nodes,
     agenda: Agenda,
-    prover: Prover,
-    estimate: Estimate,
+    prover: Box<Prover>,
+    estimate: Box<Estimate>,
     /// States that are known to be lost, if any are: responses to unfair actions are sought among them.
-    lost: StateSet,
+    lost: Box<StateSet>,
+    view: Box<View>,
+    /// The node in whose cube each outcome of the action leads, or `NONE`.
+    inside: Vec<u32>,
+    /// How many nodes there may be, how much work may still be done, and how much was done in all searches.
+    most: u32,
+    left: u64,
+    work: u64,
+}
+
+/// What is looked at.
+#[derive(Drop)]
+struct View {
     /// The cube of the node that is looked at, all that is known in its state, and an image.
     part: Part,
     whole: Part,
@@ -68,12 +82,64 @@ pub struct LayerSearch {
     /// A next state, and all that is known in it.
     next: Vec<u64>,
     other: Part,
-    /// The node in whose cube each outcome of the action leads, or `NONE`.
-    inside: Vec<u32>,
-    /// How many nodes there may be, how much work may still be done, and how much was done in all searches.
-    most: u32,
-    left: u64,
-    work: u64,
+}
+
+impl View {
+    /// Nothing is looked at yet, in states of this many words.
+    fn new(alloc: Global, width: u32) -> Result<Box<View>, NoMemory> {
+        let part = Part::new(alloc, width)?;
+        let whole = Part::new(alloc, width)?;
+        let image = Part::new(alloc, width)?;
+        let other = Part::new(alloc, width)?;
+        let next = vec![in alloc; 0; width as usize]?;
+        boxed(
+            alloc,
+            View {
+                part,
+                whole,
+                image,
+                next,
+                other,
+            },
+        )
+    }
+
+    /// Makes the image what is known after an effect on the cube.
+    fn follow(&mut self, effect: &Effect) {
+        effect.image(&self.part, &mut self.image);
+    }
+
+    /// Makes the next state the one after an effect in the node's state.
+    fn enter(&mut self, effect: &Effect) {
+        effect.apply(&self.whole.value, &mut self.next);
+    }
+
+    /// Makes the image reasons why the next state is no goal.
+    fn explain_next(&mut self, facts: &Facts) {
+        know_all(&mut self.other, &self.next, facts.moves.atoms);
+        self.image.clear();
+        facts
+            .moves
+            .goal
+            .refute(&self.other, facts.weights, &mut self.image);
+    }
+
+    /// Adds reasons why an action does not apply in the node's state.
+    fn refute(&mut self, facts: &Facts, one: &Move) {
+        one.needs.refute(&self.whole, facts.weights, &mut self.part);
+    }
+
+    /// Adds what has to be known before an effect, so that these literals hold after it, which they do in the node's state.
+    fn regress(&mut self, effect: &Effect, mask: &Mask) {
+        let values = word_at(&self.whole.value, mask.word);
+        match effect.needed_before(mask) {
+            Some(bits) => self.part.put_bits(mask.word, bits, values),
+            None => {
+                self.part.put_bits(mask.word, mask.care, values);
+                effect.mention(&self.whole, &mut self.part);
+            }
+        }
+    }
 }
 
 /// Makes the partial state that in which all these atoms are known.
@@ -92,32 +158,27 @@ fn know_all(whole: &mut Part, state: &[u64], atoms: u32) {
 
 impl LayerSearch {
     /// A search that has not begun.
-    pub fn new(alloc: Global, facts: &Facts) -> Result<LayerSearch, NoMemory> {
+    pub fn new(alloc: Global, facts: &Facts) -> Result<Box<LayerSearch>, NoMemory> {
         let width = facts.moves.width;
         let prover = Prover::new(alloc, width)?;
         let estimate = Estimate::new(alloc, facts.net, facts.moves.steps.len())?;
-        let lost = StateSet::new(alloc, width)?;
-        let part = Part::new(alloc, width)?;
-        let whole = Part::new(alloc, width)?;
-        let image = Part::new(alloc, width)?;
-        let other = Part::new(alloc, width)?;
-        let next = vec![in alloc; 0; width as usize]?;
-        Ok(LayerSearch {
-            nodes: Nodes::new(alloc, width),
-            agenda: Agenda::new(alloc, size(facts.moves.acts.len())),
-            prover,
-            estimate,
-            lost,
-            part,
-            whole,
-            image,
-            next,
-            other,
-            inside: Vec::new(alloc),
-            most: 0,
-            left: 0,
-            work: 0,
-        })
+        let lost = boxed(alloc, StateSet::new(alloc, width)?)?;
+        let view = View::new(alloc, width)?;
+        boxed(
+            alloc,
+            LayerSearch {
+                nodes: Nodes::new(alloc, width),
+                agenda: Agenda::new(alloc, size(facts.moves.acts.len())),
+                prover,
+                estimate,
+                lost,
+                view,
+                inside: Vec::new(alloc),
+                most: 0,
+                left: 0,
+                work: 0,
+            },
+        )
     }
 
     /// How much was done in all searches: looks at an action for a cube, and comparisons of cubes.
@@ -144,14 +205,9 @@ impl LayerSearch {
 
     /// Adds a node for the next state, with reasons why it is no goal.
     fn add_node(&mut self, facts: &Facts) -> Result<u32, NoMemory> {
-        know_all(&mut self.other, &self.next, facts.moves.atoms);
-        self.image.clear();
-        facts
-            .moves
-            .goal
-            .refute(&self.other, facts.weights, &mut self.image);
+        self.view.explain_next(facts);
         self.agenda.add_node()?;
-        self.nodes.add(&self.next, &self.image.care)
+        self.nodes.add(&self.view.next, &self.view.image.care)
     }
 
     /// Begins with a state, and lets the search take this much.
@@ -160,8 +216,8 @@ impl LayerSearch {
         self.agenda.clear();
         self.most = limits.states.min(NODES);
         self.left = limits.work;
-        copy_words(&mut self.next, state);
-        if facts.moves.goal.holds(&self.next) {
+        copy_words(&mut self.view.next, state);
+        if facts.moves.goal.holds(&self.view.next) {
             self.left = 0;
             return Ok(());
         }
@@ -171,7 +227,7 @@ impl LayerSearch {
 
     /// The node in whose cube the image lies: the one that is looked at, or else the first one, if the others are asked.
     fn node_around(&mut self, node: u32, others: bool) -> u32 {
-        if self.nodes.covers(node, &self.image) {
+        if self.nodes.covers(node, &self.view.image) {
             return node;
         }
         if !others {
@@ -179,7 +235,7 @@ impl LayerSearch {
         }
         let count = self.nodes.len() as u64;
         self.spend(count);
-        self.nodes.first_covering(&self.image).unwrap_or(NONE)
+        self.nodes.first_covering(&self.view.image).unwrap_or(NONE)
     }
 
     /// Finds the nodes in whose cubes the outcomes lead. Returns whether one of them leads into a dead cube.
@@ -192,8 +248,8 @@ impl LayerSearch {
     ) -> Result<bool, NoMemory> {
         self.inside.clear();
         for effect in &one.effects {
-            effect.image(&self.part, &mut self.image);
-            if facts.dead.cover(&self.image).is_some() {
+            self.view.follow(effect);
+            if facts.dead.cover(&self.view.image).is_some() {
                 return Ok(true);
             }
             let around = self.node_around(node, others);
@@ -228,7 +284,7 @@ impl LayerSearch {
 
     /// Whether the action does no harm on the cube that is looked at.
     fn is_harmless(&mut self, facts: &Facts, one: &Move, look: Look) -> Result<bool, NoMemory> {
-        let applies = one.needs.holds(&self.whole.value);
+        let applies = one.needs.holds(&self.view.whole.value);
         if self.follow(facts, one, look.node, applies)? {
             return Ok(true);
         }
@@ -241,25 +297,10 @@ impl LayerSearch {
 
     /// The cube of a node becomes what is known now.
     fn keep(&mut self, node: u32) -> Result<(), NoMemory> {
-        if self.nodes.know(node, &self.part.care) {
+        if self.nodes.know(node, &self.view.part.care) {
             self.agenda.wake_leaning(node)?;
         }
         Ok(())
-    }
-
-    /// Adds what has to be known before an effect, so that these literals hold after it, which they do in the node's state.
-    fn regress(&mut self, effect: &Effect, mask: &Mask) {
-        match effect.needed_before(mask) {
-            Some(bits) => {
-                let values = word_at(&self.whole.value, mask.word);
-                self.part.put_bits(mask.word, bits, values);
-            }
-            None => {
-                let values = word_at(&self.whole.value, mask.word);
-                self.part.put_bits(mask.word, mask.care, values);
-                effect.mention(&self.whole, &mut self.part);
-            }
-        }
     }
 
     /// The first outcome that leads from the node's state into a dead cube, and that cube.
@@ -268,8 +309,8 @@ impl LayerSearch {
             return None;
         }
         for (k, effect) in one.effects.iter().enumerate() {
-            effect.apply(&self.whole.value, &mut self.next);
-            let cube = facts.dead.first(&self.next);
+            self.view.enter(effect);
+            let cube = facts.dead.first(&self.view.next);
             if cube != NONE {
                 return Some((k, cube));
             }
@@ -280,7 +321,7 @@ impl LayerSearch {
     /// Adds what a dead cube asks for, before an effect that leads into it.
     fn regress_dead(&mut self, facts: &Facts, effect: &Effect, cube: u32) {
         for mask in facts.dead.masks(cube) {
-            self.regress(effect, mask);
+            self.view.regress(effect, mask);
         }
     }
 
@@ -289,29 +330,29 @@ impl LayerSearch {
         for word in 0..self.nodes.width() {
             let mask = self.nodes.mask(node, word);
             if mask.care != 0 {
-                self.regress(effect, &mask);
+                self.view.regress(effect, &mask);
             }
         }
     }
 
     /// The node whose cube holds in the next state: the one that is looked at, or else the first one.
     fn node_of_next(&mut self, node: u32) -> u32 {
-        if self.nodes.holds(node, &self.next) {
+        if self.nodes.holds(node, &self.view.next) {
             return node;
         }
         let count = self.nodes.len() as u64;
         self.spend(count);
-        self.nodes.first_holding(&self.next).unwrap_or(NONE)
+        self.nodes.first_holding(&self.view.next).unwrap_or(NONE)
     }
 
     /// Whether the next state, which lies in no cube, can be a node: it is no goal, and there is room. If it is dead by itself, its
     /// cube comes first.
     fn judge_next(&mut self, facts: &Facts) -> Result<Stage, NoMemory> {
-        if facts.moves.goal.holds(&self.next) || self.nodes.len() >= self.most {
+        if facts.moves.goal.holds(&self.view.next) || self.nodes.len() >= self.most {
             return Ok(Stage::Failed);
         }
         let before = self.prover.work;
-        let is_dead = self.prover.find(facts, &self.next)?;
+        let is_dead = self.prover.find(facts, &self.view.next)?;
         let looks = self.prover.work.saturating_sub(before);
         let cost = 1 + facts.moves.width as u64 / 8;
         self.left = self.left.saturating_sub(looks.saturating_mul(cost));
@@ -320,7 +361,7 @@ impl LayerSearch {
 
     /// Goes into the next state by an effect: what the cube of its node asks for has to be known before.
     fn enter(&mut self, facts: &Facts, effect: &Effect, look: Look) -> Result<Stage, NoMemory> {
-        effect.apply(&self.whole.value, &mut self.next);
+        self.view.enter(effect);
         let mut node = self.node_of_next(look.node);
         if node == NONE {
             let stage = self.judge_next(facts)?;
@@ -348,7 +389,7 @@ impl LayerSearch {
     /// How much the opponent likes the next state as a response: most of all to stay in the cube, then to go into another one, then
     /// to be far from the goal. 0 if it is a goal, or no lost state though some are known.
     fn like(&mut self, facts: &Facts, node: u32) -> Result<u32, NoMemory> {
-        if facts.moves.goal.holds(&self.next) {
+        if facts.moves.goal.holds(&self.view.next) {
             return Ok(0);
         }
         let around = self.node_of_next(node);
@@ -359,9 +400,9 @@ impl LayerSearch {
             return Ok(FAR - 1);
         }
         if self.lost.len() > 0 {
-            return Ok(self.lost.find(&self.next).is_some() as u32);
+            return Ok(self.lost.find(&self.view.next).is_some() as u32);
         }
-        let distance = self.estimate.of(facts.net, &self.next)?;
+        let distance = self.estimate.of(facts.net, &self.view.next)?;
         Ok(distance.min(FAR - 2).max(1))
     }
 
@@ -375,7 +416,7 @@ impl LayerSearch {
         let mut best = None;
         let mut most = 0;
         for (k, effect) in one.effects.iter().enumerate() {
-            effect.apply(&self.whole.value, &mut self.next);
+            self.view.enter(effect);
             let liked = self.like(facts, node)?;
             if liked > most {
                 best = Some(k);
@@ -398,8 +439,8 @@ impl LayerSearch {
 
     /// Adds what has to be known for an action to do no harm on the cube that is looked at.
     fn explain(&mut self, facts: &Facts, one: &Move, look: Look) -> Result<Stage, NoMemory> {
-        if !one.needs.holds(&self.whole.value) {
-            one.needs.refute(&self.whole, facts.weights, &mut self.part);
+        if !one.needs.holds(&self.view.whole.value) {
+            self.view.refute(facts, one);
             return Ok(Stage::Open);
         }
         if let Some((k, cube)) = self.first_dead(facts, one) {
@@ -420,12 +461,12 @@ impl LayerSearch {
         let Some(one) = facts.moves.acts.get(look.act as usize) else {
             return Ok(Stage::Open);
         };
-        self.nodes.load(look.node, &mut self.part);
-        if one.needs.value(&self.part) == Kleene::No {
+        self.nodes.load(look.node, &mut self.view.part);
+        if one.needs.value(&self.view.part) == Kleene::No {
             return Ok(Stage::Open);
         }
         know_all(
-            &mut self.whole,
+            &mut self.view.whole,
             self.nodes.state(look.node),
             facts.moves.atoms,
         );

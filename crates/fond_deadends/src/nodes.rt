@@ -1,8 +1,8 @@
 //! States with a cube around each: a mask of the atoms that are known.
 
-use fond_heuristic::condition::Mask;
-use fond_heuristic::index::{copy_words, size, word_at};
-use fond_heuristic::part::Part;
+use fond_moves::condition::Mask;
+use fond_moves::index::{copy_words, size, word_at};
+use fond_moves::part::Part;
 use fond_text::fault::NoMemory;
 use std::alloc::Global;
 

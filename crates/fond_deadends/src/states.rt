@@ -1,6 +1,6 @@
 //! A set of states in one vector of words, with a hash table of numbers. A state takes its words and 8 to 16 bytes.
 
-use fond_heuristic::index::{NONE, fill};
+use fond_moves::index::{NONE, fill};
 use fond_text::fault::NoMemory;
 use std::alloc::Global;
 

@@ -1,7 +1,7 @@
 //! The local aim of a search. A state without a rule that an action leads to is often near to the rule of the action, or to
 //! one of its targets, while the goal is far: a plan that ends in one of these needs few new rules.
 
-use fond_heuristic::index::copy_words;
+use fond_moves::index::copy_words;
 use fond_text::fault::NoMemory;
 use std::alloc::Global;
 

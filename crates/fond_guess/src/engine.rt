@@ -1,14 +1,15 @@
 //! The engine: what others call.
 
 use crate::aim::Aim;
-use crate::known::{Known, boxed};
+use crate::known::Known;
 use crate::search::{Ended, Limits, Search};
 use fond_deadends::cubes::{Masks, masks_of};
 use fond_deadends::dead::Prover;
 use fond_deadends::layers::{LayerSearch, Limits as LayerLimits, Stage};
-use fond_heuristic::index::{copy_words, put_bit, size};
-use fond_heuristic::part::Part;
 use fond_hint::hint::{Hint, LayerHint};
+use fond_moves::boxes::boxed;
+use fond_moves::index::{copy_words, put_bit, size};
+use fond_moves::part::Part;
 use fond_state::cube::Cube;
 use fond_state::state::State;
 use fond_task::task::Task;
@@ -81,21 +82,6 @@ fn known_of(alloc: Global, t: &Task) -> Result<Box<Known>, NoMemory> {
     boxed(alloc, Known::new(alloc, t)?)
 }
 
-/// A search that has not begun.
-fn search_over(alloc: Global, known: &Known) -> Result<Box<Search>, NoMemory> {
-    boxed(alloc, Search::new(alloc, known)?)
-}
-
-/// A search for single dead cubes over states of this many words.
-fn prover_of(alloc: Global, width: u32) -> Result<Box<Prover>, NoMemory> {
-    boxed(alloc, Prover::new(alloc, width)?)
-}
-
-/// A search for layers that has not begun.
-fn layers_over(alloc: Global, known: &Known) -> Result<Box<LayerSearch>, NoMemory> {
-    boxed(alloc, LayerSearch::new(alloc, &known.facts())?)
-}
-
 /// No aim, over states of this many words.
 fn aim_of(alloc: Global, width: u32) -> Result<Box<Aim>, NoMemory> {
     boxed(alloc, Aim::new(alloc, width)?)
@@ -106,9 +92,9 @@ impl Engine {
     pub fn new(alloc: Global, t: &Task) -> Result<Engine, NoMemory> {
         let known = known_of(alloc, t)?;
         let width = known.moves.width;
-        let search = search_over(alloc, &known)?;
-        let prover = prover_of(alloc, width)?;
-        let layers = layers_over(alloc, &known)?;
+        let search = Search::new(alloc, &known)?;
+        let prover = Prover::new(alloc, width)?;
+        let layers = LayerSearch::new(alloc, &known.facts())?;
         let aim = aim_of(alloc, width)?;
         let start = vec![in alloc; 0; width as usize]?;
         let cube = Part::new(alloc, width)?;

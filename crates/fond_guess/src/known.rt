@@ -4,15 +4,16 @@
 use fond_deadends::cubes::{CubeSet, Masks};
 use fond_deadends::facts::Facts;
 use fond_deadends::states::StateSet;
-use fond_heuristic::applicable::ActIndex;
 use fond_heuristic::bar::Givers;
-use fond_heuristic::condition::all_hold;
-use fond_heuristic::index::{NONE, copy_words, fill, link_at, put, size};
-use fond_heuristic::moves::Moves;
 use fond_heuristic::net::Net;
-use fond_hint::step::PlanStep;
 use fond_heuristic::together::Together;
-use fond_heuristic::weight::Weights;
+use fond_hint::step::PlanStep;
+use fond_moves::applicable::ActIndex;
+use fond_moves::boxes::boxed;
+use fond_moves::condition::all_hold;
+use fond_moves::index::{NONE, copy_words, fill, link_at, put, size};
+use fond_moves::moves::Moves;
+use fond_moves::weight::Weights;
 use fond_task::task::Task;
 use fond_text::fault::NoMemory;
 use std::alloc::Global;
@@ -60,11 +61,6 @@ pub(crate) struct Known {
     responses: Box<Responses>,
 }
 
-/// A value in a box.
-pub(crate) fn boxed<T: Drop>(alloc: Global, value: T) -> Result<Box<T>, NoMemory> {
-    Ok(Box::new(alloc, value)?)
-}
-
 /// The moves of a task.
 fn moves_of(alloc: Global, task: &Task) -> Result<Box<Moves>, NoMemory> {
     boxed(alloc, Moves::new(alloc, task)?)
@@ -73,11 +69,6 @@ fn moves_of(alloc: Global, task: &Task) -> Result<Box<Moves>, NoMemory> {
 /// An index of moves by the literals of their preconditions.
 fn index_of(alloc: Global, moves: &Moves) -> Result<Box<ActIndex>, NoMemory> {
     boxed(alloc, ActIndex::new(alloc, moves)?)
-}
-
-/// The relaxed task.
-fn net_of(alloc: Global, task: &Task, moves: &Moves) -> Result<Box<Net>, NoMemory> {
-    boxed(alloc, Net::new(alloc, task, moves)?)
 }
 
 /// The weights of a task's atoms.
@@ -190,7 +181,7 @@ impl Known {
     pub(crate) fn new(alloc: Global, task: &Task) -> Result<Known, NoMemory> {
         let moves = moves_of(alloc, task)?;
         let index = index_of(alloc, &moves)?;
-        let net = net_of(alloc, task, &moves)?;
+        let net = Net::new(alloc, task, &moves)?;
         let weights = weights_of(alloc, task, moves.atoms)?;
         let together = together_of(alloc, task, &moves)?;
         let givers = givers_of(alloc, &moves)?;

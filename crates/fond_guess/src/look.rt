@@ -3,8 +3,8 @@
 use crate::known::Known;
 use crate::search::{Link, Search};
 use fond_heuristic::cost::FAR;
-use fond_heuristic::index::{NONE, copy_words};
 use fond_heuristic::relaxed::Chosen;
+use fond_moves::index::{NONE, copy_words};
 use fond_text::fault::NoMemory;
 
 /// The most rounds of lookahead from one state on.

@@ -1,6 +1,6 @@
 //! A queue with a bucket for each estimate. The lowest estimate comes first, and among equals the oldest.
 
-use fond_heuristic::index::{NONE, link_at, put, size};
+use fond_moves::index::{NONE, link_at, put, size};
 use fond_text::fault::NoMemory;
 use std::alloc::Global;
 

@@ -8,9 +8,10 @@ use crate::known::Known;
 use crate::queue::{Agenda, Open};
 use fond_deadends::states::StateSet;
 use fond_heuristic::cost::FAR;
-use fond_heuristic::index::{NONE, copy_words, size};
 use fond_heuristic::relaxed::{Chosen, Estimate};
 use fond_hint::step::PlanStep;
+use fond_moves::boxes::boxed;
+use fond_moves::index::{NONE, copy_words, size};
 use fond_text::fault::NoMemory;
 use std::alloc::Global;
 
@@ -61,7 +62,7 @@ pub(crate) struct Search {
     pub(crate) current: Vec<u64>,
     pub(crate) next: Vec<u64>,
     chosen: Vec<u64>,
-    pub(crate) estimate: Estimate,
+    pub(crate) estimate: Box<Estimate>,
     pub(crate) nearest: u32,
     /// The length of the first state's relaxed plan.
     pub(crate) length: u32,
@@ -82,34 +83,37 @@ fn no_link() -> Link {
 
 impl Search {
     /// A search that has not begun.
-    pub(crate) fn new(alloc: Global, known: &Known) -> Result<Search, NoMemory> {
+    pub(crate) fn new(alloc: Global, known: &Known) -> Result<Box<Search>, NoMemory> {
         let width = known.moves.width;
         let estimate = Estimate::new(alloc, &known.net, known.moves.steps.len())?;
         let states = StateSet::new(alloc, width)?;
         let current = vec![in alloc; 0; width as usize]?;
         let next = vec![in alloc; 0; width as usize]?;
         let chosen = vec![in alloc; 0; width as usize]?;
-        Ok(Search {
-            states,
-            links: Vec::new(alloc),
-            all: Agenda::new(alloc),
-            preferred: Agenda::new(alloc),
-            taken: 0,
-            taken_preferred: 0,
-            passed: Vec::new(alloc),
-            path: Vec::new(alloc),
-            acts: Vec::new(alloc),
-            current,
-            next,
-            chosen,
-            estimate,
-            nearest: FAR,
-            length: 0,
-            opened: 0,
-            steps: 0,
-            end: NONE,
-            last: None,
-        })
+        boxed(
+            alloc,
+            Search {
+                states,
+                links: Vec::new(alloc),
+                all: Agenda::new(alloc),
+                preferred: Agenda::new(alloc),
+                taken: 0,
+                taken_preferred: 0,
+                passed: Vec::new(alloc),
+                path: Vec::new(alloc),
+                acts: Vec::new(alloc),
+                current,
+                next,
+                chosen,
+                estimate,
+                nearest: FAR,
+                length: 0,
+                opened: 0,
+                steps: 0,
+                end: NONE,
+                last: None,
+            },
+        )
     }
 
     /// Forgets the search before.

@@ -1,14 +1,14 @@
 //! What dead cubes say about actions: one that would surely lead into a dead cube, if it were not for a single literal,
 //! needs the opposite of that literal in the relaxation.
 
-use crate::applicable::sure_masks;
-use crate::condition::Mask;
-use crate::effect::Effect;
-use crate::index::{Literal, bit_of, size};
-use crate::moves::{Move, Moves};
 use crate::net::Net;
-use fond_hint::step::PlanStep;
 use crate::together::Together;
+use fond_hint::step::PlanStep;
+use fond_moves::applicable::sure_masks;
+use fond_moves::condition::Mask;
+use fond_moves::effect::Effect;
+use fond_moves::index::{Literal, bit_of, size};
+use fond_moves::moves::{Move, Moves};
 use fond_text::fault::NoMemory;
 use std::alloc::Global;
 

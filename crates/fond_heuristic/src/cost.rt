@@ -1,8 +1,8 @@
 //! The additive heuristic: the cost of each fact if each need is paid for by itself (Bonet and Geffner, *Planning as
 //! heuristic search*, 2001). Facts are settled in the order of their costs, which are kept in buckets.
 
-use crate::index::{NONE, fill, has, link_at, put, size};
 use crate::net::{Counter, Net, Operator};
+use fond_moves::index::{NONE, fill, has, link_at, put, size};
 use fond_text::fault::NoMemory;
 use std::alloc::Global;
 

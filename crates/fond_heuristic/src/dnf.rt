@@ -1,6 +1,6 @@
 //! Disjunctive normal forms of conditions, at most a few disjuncts long.
 
-use crate::index::Literal;
+use fond_moves::index::Literal;
 use fond_task::form::Form;
 use fond_text::fault::NoMemory;
 use std::alloc::Global;
@@ -55,16 +55,43 @@ fn add_products(
     Ok(())
 }
 
-/// The conjunction of two, or the first if the conjunction has too many disjuncts.
-fn product(alloc: Global, one: Dnf, other: Dnf) -> Result<Dnf, NoMemory> {
+/// Makes the first the conjunction of both, unless that has too many disjuncts.
+fn multiply(alloc: Global, one: &mut Dnf, other: &Dnf) -> Result<(), NoMemory> {
     if one.len().saturating_mul(other.len()) > MOST {
-        return Ok(one);
+        return Ok(());
     }
     let mut out = Vec::new(alloc);
-    for disjunct in &one {
-        add_products(alloc, disjunct, &other, &mut out)?;
+    for disjunct in one.iter() {
+        add_products(alloc, disjunct, other, &mut out)?;
     }
-    Ok(out)
+    *one = out;
+    Ok(())
+}
+
+/// Adds disjuncts to others.
+fn append(alloc: Global, one: &mut Dnf, other: &Dnf) -> Result<(), NoMemory> {
+    for disjunct in other {
+        one.push(Vec::from_slice(alloc, disjunct.as_slice())?)?;
+    }
+    Ok(())
+}
+
+/// The disjunction of one literal.
+fn one_literal(alloc: Global, literal: Literal) -> Result<Dnf, NoMemory> {
+    let mut disjuncts = truth(alloc)?;
+    if let Some(literals) = disjuncts.last_mut() {
+        literals.push(literal)?;
+    }
+    Ok(disjuncts)
+}
+
+/// The disjunction, or the one that is always true if it has too many disjuncts.
+fn bounded(alloc: Global, disjuncts: Dnf) -> Result<Dnf, NoMemory> {
+    if disjuncts.len() > MOST {
+        truth(alloc)
+    } else {
+        Ok(disjuncts)
+    }
 }
 
 /// The normal form of a condition.
@@ -73,35 +100,25 @@ pub fn dnf_of(alloc: Global, form: &Form) -> Result<Dnf, NoMemory> {
         Form::Truth(true) => truth(alloc),
         Form::Truth(false) => Ok(Vec::new(alloc)),
         Form::Lit(atom, sign) => {
-            let one = Literal {
+            let literal = Literal {
                 atom: *atom,
                 sign: *sign,
             };
-            let mut disjuncts = truth(alloc)?;
-            if let Some(literals) = disjuncts.last_mut() {
-                literals.push(one)?;
-            }
-            Ok(disjuncts)
+            one_literal(alloc, literal)
         }
         Form::And(parts) => {
             let mut all = truth(alloc)?;
             for part in parts {
-                all = product(alloc, all, dnf_of(alloc, part)?)?;
+                multiply(alloc, &mut all, &dnf_of(alloc, part)?)?;
             }
             Ok(all)
         }
         Form::Or(parts) => {
             let mut all = Vec::new(alloc);
             for part in parts {
-                let more = dnf_of(alloc, part)?;
-                for disjunct in &more {
-                    all.push(Vec::from_slice(alloc, disjunct.as_slice())?)?;
-                }
+                append(alloc, &mut all, &dnf_of(alloc, part)?)?;
             }
-            if all.len() > MOST {
-                return truth(alloc);
-            }
-            Ok(all)
+            bounded(alloc, all)
         }
     }
 }

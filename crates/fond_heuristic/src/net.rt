@@ -4,11 +4,12 @@
 //! to meet an action's precondition, and for that of one entry if the entry has a condition; it gives a fact for each
 //! literal of an outcome. Of an unfair action, what every outcome gives is sure, and the rest is only hoped for.
 
-use crate::condition::Mask;
 use crate::dnf::{Dnf, Literals, both, contains, dnf_of};
-use crate::effect::{Effect, is_plain};
-use crate::index::{Literal, NONE, bit_of, link_at, put, size};
-use crate::moves::{Move, Moves};
+use fond_moves::boxes::boxed;
+use fond_moves::condition::Mask;
+use fond_moves::effect::{Effect, is_plain};
+use fond_moves::index::{Literal, NONE, bit_of, link_at, put, size};
+use fond_moves::moves::{Move, Moves};
 use fond_task::form::Form;
 use fond_task::task::{Act, Entry, Task};
 use fond_text::fault::NoMemory;
@@ -109,6 +110,16 @@ fn mark_act(act: &Act, marks: &mut [u32]) {
     }
 }
 
+/// Marks the literals of a task's conditions, among all literals over this many atoms.
+fn marks_of(alloc: Global, task: &Task, atoms: u32) -> Result<Vec<u32>, NoMemory> {
+    let mut marks = vec![in alloc; NONE; (atoms as usize).saturating_mul(2)]?;
+    mark(&task.goal, &mut marks);
+    for act in &task.acts {
+        mark_act(act, &mut marks);
+    }
+    Ok(marks)
+}
+
 /// Whether all effects give the literal.
 fn all_give(effects: &[Effect], literal: Literal) -> bool {
     for effect in effects {
@@ -152,14 +163,18 @@ impl Net {
         Ok(())
     }
 
-    /// A net without operators over the literals of a task's conditions.
-    fn facts(alloc: Global, task: &Task, atoms: u32) -> Result<Net, NoMemory> {
-        let mut marks = vec![in alloc; NONE; (atoms as usize).saturating_mul(2)]?;
-        mark(&task.goal, &mut marks);
-        for act in &task.acts {
-            mark_act(act, &mut marks);
+    /// Numbers the marked literals, which are all facts but the goal. Nothing uses a fact yet.
+    fn begin(&mut self, alloc: Global, atoms: u32) -> Result<(), NoMemory> {
+        self.number(atoms)?;
+        for _ in 0..self.goal().saturating_add(1) {
+            self.users.push(Vec::new(alloc))?;
         }
-        let mut net = Net {
+        Ok(())
+    }
+
+    /// A net without facts, over literals of which some are marked.
+    fn over(alloc: Global, marks: Vec<u32>) -> Net {
+        Net {
             literals: Vec::new(alloc),
             numbers: marks,
             operators: Vec::new(alloc),
@@ -174,12 +189,7 @@ impl Net {
             has_hopeful: false,
             first_goal: 0,
             end_goal: 0,
-        };
-        net.number(atoms)?;
-        for _ in 0..net.goal().saturating_add(1) {
-            net.users.push(Vec::new(alloc))?;
         }
-        Ok(net)
     }
 
     /// Whether one of the last gifts gives a fact by the operator that is being made.
@@ -288,6 +298,18 @@ impl Net {
         Ok(())
     }
 
+    /// Adds an operator of what `give_plain` adds.
+    fn add_plain(
+        &mut self,
+        source: &Source<'_>,
+        needs: &[Literal],
+        sure: bool,
+    ) -> Result<(), NoMemory> {
+        let first = size(self.gifts.len());
+        self.give_plain(source, needs, sure)?;
+        self.close(needs, first, 1, !sure)
+    }
+
     /// Whether the entry of an outcome is to be among the sure gifts, or among the others.
     fn is_due(&self, source: &Source<'_>, entry: &Entry, outcome: u32, sure: bool) -> bool {
         let literal = Literal {
@@ -317,6 +339,25 @@ impl Net {
         }
     }
 
+    /// Adds an operator for each condition of an entry, beside one way to meet the precondition.
+    fn add_ways(
+        &mut self,
+        alloc: Global,
+        source: &Source<'_>,
+        pre: &[Literal],
+        conditions: &Dnf,
+        literal: Literal,
+        step: u32,
+    ) -> Result<(), NoMemory> {
+        for condition in conditions {
+            let needs = both(alloc, pre, condition)?;
+            let first = size(self.gifts.len());
+            self.give(&needs, literal, step)?;
+            self.close(&needs, first, 1, source.one.unfair)?;
+        }
+        Ok(())
+    }
+
     /// Adds the operators of an entry with a condition.
     fn add_entry(
         &mut self,
@@ -334,12 +375,7 @@ impl Net {
         }
         let conditions = dnf_of(alloc, &entry.cond)?;
         for pre in source.pre {
-            for condition in &conditions {
-                let needs = both(alloc, pre, condition)?;
-                let first = size(self.gifts.len());
-                self.give(&needs, literal, step)?;
-                self.close(&needs, first, 1, source.one.unfair)?;
-            }
+            self.add_ways(alloc, source, pre, &conditions, literal, step)?;
         }
         Ok(())
     }
@@ -366,12 +402,8 @@ impl Net {
             pre: &pre,
         };
         for needs in &pre {
-            let first = size(self.gifts.len());
-            self.give_plain(&source, needs, true)?;
-            self.close(needs, first, 1, false)?;
-            let second = size(self.gifts.len());
-            self.give_plain(&source, needs, false)?;
-            self.close(needs, second, 1, true)?;
+            self.add_plain(&source, needs, true)?;
+            self.add_plain(&source, needs, false)?;
         }
         self.add_entries(alloc, &source)
     }
@@ -400,16 +432,22 @@ impl Net {
         Ok(())
     }
 
-    /// The net of a task.
-    pub fn new(alloc: Global, task: &Task, moves: &Moves) -> Result<Net, NoMemory> {
-        let mut net = Net::facts(alloc, task, moves.atoms)?;
+    /// Adds the operators of all actions.
+    fn add_acts(&mut self, alloc: Global, task: &Task, moves: &Moves) -> Result<(), NoMemory> {
         for (act, one) in task.acts.as_slice().iter().zip(moves.acts.iter()) {
-            let first = size(net.operators.len());
-            net.firsts.push(first)?;
-            net.add_act(alloc, act, one)?;
+            self.firsts.push(size(self.operators.len()))?;
+            self.add_act(alloc, act, one)?;
         }
-        let end = size(net.operators.len());
-        net.firsts.push(end)?;
+        self.firsts.push(size(self.operators.len()))?;
+        Ok(())
+    }
+
+    /// The net of a task.
+    pub fn new(alloc: Global, task: &Task, moves: &Moves) -> Result<Box<Net>, NoMemory> {
+        let marks = marks_of(alloc, task, moves.atoms)?;
+        let mut net = boxed(alloc, Net::over(alloc, marks))?;
+        net.begin(alloc, moves.atoms)?;
+        net.add_acts(alloc, task, moves)?;
         net.add_goal(alloc, task)?;
         Ok(net)
     }

@@ -2,8 +2,9 @@
 //! planning system*, 2001). The number of steps estimates the distance to the goal.
 
 use crate::cost::{Costs, FAR};
-use crate::index::{NONE, at, link_at, put, size};
 use crate::net::{Gift, Net};
+use fond_moves::boxes::boxed;
+use fond_moves::index::{NONE, at, link_at, put, size};
 use fond_text::fault::NoMemory;
 use std::alloc::Global;
 
@@ -31,15 +32,21 @@ pub struct Estimate {
 
 impl Estimate {
     /// No estimate yet, for a net over this many steps.
-    pub fn new(alloc: Global, net: &Net, steps: usize) -> Result<Estimate, NoMemory> {
-        Ok(Estimate {
-            costs: Costs::new(alloc, net)?,
-            plan: Vec::new(alloc),
-            facts: vec![in alloc; 0; net.users.len()]?,
-            steps: vec![in alloc; 0; steps]?,
-            round: 0,
-            open: Vec::new(alloc),
-        })
+    pub fn new(alloc: Global, net: &Net, steps: usize) -> Result<Box<Estimate>, NoMemory> {
+        let facts = vec![in alloc; 0; net.users.len()]?;
+        let steps = vec![in alloc; 0; steps]?;
+        let costs = Costs::new(alloc, net)?;
+        boxed(
+            alloc,
+            Estimate {
+                costs,
+                plan: Vec::new(alloc),
+                facts,
+                steps,
+                round: 0,
+                open: Vec::new(alloc),
+            },
+        )
     }
 
     /// Whether the step is in the last relaxed plan.

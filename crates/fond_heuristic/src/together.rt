@@ -3,11 +3,11 @@
 //! with one of them are a row of bits, so an action is followed for all pairs at once. It is followed again only once the row of
 //! an atom that it needs has grown.
 
-use crate::applicable::sure_masks;
-use crate::condition::Mask;
-use crate::effect::Effect;
-use crate::index::{at, copy_words, put, put_bit, size, word_at};
-use crate::moves::{Move, Moves};
+use fond_moves::applicable::sure_masks;
+use fond_moves::condition::Mask;
+use fond_moves::effect::Effect;
+use fond_moves::index::{at, clear_words, copy_words, put, put_bit, size, word_at};
+use fond_moves::moves::{Move, Moves};
 use fond_task::task::Task;
 use fond_text::fault::NoMemory;
 use std::alloc::Global;
@@ -163,9 +163,7 @@ impl Together {
 
     /// Follows an outcome of an action whose precondition may hold.
     fn follow(&mut self, effect: &Effect) {
-        for word in self.adds.iter_mut() {
-            *word = 0;
-        }
+        clear_words(&mut self.adds);
         copy_words(&mut self.after, &self.before);
         effect.relax(&mut self.adds, &mut self.after);
         for word in 0..size(self.adds.len()) {

@@ -1,7 +1,7 @@
 //! Effects in words.
 
 use crate::condition::{Condition, Mask, condition_of, greater};
-use crate::index::{Literal, bit_of, copy_words, has, put_bit, word_at};
+use crate::index::{Literal, bit_of, copy_words, has, put_bit, raise_bits, word_at};
 use crate::part::Part;
 use fond_task::form::{Form, Kleene};
 use fond_task::task::{Entry, Outcome};
@@ -38,9 +38,20 @@ impl Change {
         let opposed = word_at(&part.value, self.word) ^ self.set;
         word_at(&part.care, self.word) & !self.keep & opposed
     }
-}
 
-impl Change {
+    /// Makes the change to a state.
+    fn apply(&self, state: &mut [u64]) {
+        if let Some(word) = state.get_mut(self.word as usize) {
+            *word = (*word & self.keep) | self.set;
+        }
+    }
+
+    /// Makes the change to a partial state: the atoms of the change are known after it.
+    fn image(&self, part: &mut Part) {
+        raise_bits(&mut part.care, self.word, !self.keep);
+        self.apply(&mut part.value);
+    }
+
     /// Adds the number of a step to the lists of the literals that the change gives.
     fn list_gifts(&self, step: u32, lists: &mut [Vec<u32>]) -> Result<(), NoMemory> {
         let mut bits = !self.keep;
@@ -121,6 +132,14 @@ impl Mixed {
         }
         for condition in &self.deletes {
             condition.mention(from, into);
+        }
+    }
+
+    /// If the atom may become true, it is among those that are added and those that may be true after the effect.
+    fn relax(&self, adds: &mut [u64], after: &mut [u64]) {
+        if !self.adds.is_empty() {
+            put_bit(adds, self.atom, true);
+            put_bit(after, self.atom, true);
         }
     }
 
@@ -240,9 +259,7 @@ impl Effect {
     pub fn apply(&self, state: &[u64], out: &mut [u64]) {
         copy_words(out, state);
         for change in &self.changes {
-            if let Some(word) = out.get_mut(change.word as usize) {
-                *word = (*word & change.keep) | change.set;
-            }
+            change.apply(out);
         }
         for mixed in &self.mixed {
             let before = has(state, mixed.atom);
@@ -306,18 +323,11 @@ impl Effect {
     /// become true.
     pub fn relax(&self, adds: &mut [u64], after: &mut [u64]) {
         for change in &self.changes {
-            if let Some(word) = adds.get_mut(change.word as usize) {
-                *word |= change.set;
-            }
-            if let Some(word) = after.get_mut(change.word as usize) {
-                *word = (*word & change.keep) | change.set;
-            }
+            raise_bits(adds, change.word, change.set);
+            change.apply(after);
         }
         for mixed in &self.mixed {
-            if !mixed.adds.is_empty() {
-                put_bit(adds, mixed.atom, true);
-                put_bit(after, mixed.atom, true);
-            }
+            mixed.relax(adds, after);
         }
     }
 
@@ -340,12 +350,7 @@ impl Effect {
     pub fn image(&self, part: &Part, out: &mut Part) {
         out.copy_from(part);
         for change in &self.changes {
-            if let Some(care) = out.care.get_mut(change.word as usize) {
-                *care |= !change.keep;
-            }
-            if let Some(value) = out.value.get_mut(change.word as usize) {
-                *value = (*value & change.keep) | change.set;
-            }
+            change.image(out);
         }
         for mixed in &self.mixed {
             out.set(mixed.atom, mixed.known_after(part));

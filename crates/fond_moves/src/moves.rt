@@ -4,7 +4,7 @@ use crate::condition::{Condition, condition_of};
 use crate::effect::{Effect, effect_of};
 use crate::index::size;
 use fond_hint::step::PlanStep;
-use fond_task::task::{Act, Task};
+use fond_task::task::{Act, Outcome, Task};
 use fond_text::fault::NoMemory;
 use std::alloc::Global;
 
@@ -27,27 +27,41 @@ pub struct Moves {
     pub width: u32,
 }
 
+/// The effects of outcomes.
+fn effects_of(alloc: Global, outcomes: &[Outcome]) -> Result<Vec<Effect>, NoMemory> {
+    let mut effects = Vec::new(alloc);
+    for outcome in outcomes {
+        effects.push(effect_of(alloc, outcome)?)?;
+    }
+    Ok(effects)
+}
+
+/// An action whose steps have numbers from `first` on.
+fn move_of(alloc: Global, act: &Act, first: u32) -> Result<Move, NoMemory> {
+    let effects = effects_of(alloc, act.outcomes.as_slice())?;
+    Ok(Move {
+        unfair: act.unfair && effects.len() > 1,
+        needs: condition_of(alloc, &act.pre)?,
+        effects,
+        first,
+    })
+}
+
 impl Moves {
+    /// Numbers the steps of an action with this many outcomes.
+    fn number(&mut self, act: u32, outcomes: u32) -> Result<(), NoMemory> {
+        for outcome in 0..outcomes {
+            self.steps.push(PlanStep { act, outcome })?;
+        }
+        Ok(())
+    }
+
     /// Adds an action.
     fn add(&mut self, alloc: Global, act: &Act) -> Result<(), NoMemory> {
         let number = size(self.acts.len());
         let first = size(self.steps.len());
-        let mut effects = Vec::new(alloc);
-        for outcome in &act.outcomes {
-            let step = PlanStep {
-                act: number,
-                outcome: size(effects.len()),
-            };
-            self.steps.push(step)?;
-            effects.push(effect_of(alloc, outcome)?)?;
-        }
-        let unfair = act.unfair && effects.len() > 1;
-        self.acts.push(Move {
-            unfair,
-            needs: condition_of(alloc, &act.pre)?,
-            effects,
-            first,
-        })?;
+        self.number(number, size(act.outcomes.len()))?;
+        self.acts.push(move_of(alloc, act, first)?)?;
         Ok(())
     }
 

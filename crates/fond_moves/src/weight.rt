@@ -3,7 +3,7 @@
 
 use crate::index::{Literal, at, put};
 use fond_task::form::Form;
-use fond_task::task::{Act, Task};
+use fond_task::task::{Act, Outcome, Task};
 use fond_text::fault::NoMemory;
 use std::alloc::Global;
 
@@ -40,12 +40,32 @@ fn count_opposites(form: &Form, counts: &mut [u32]) {
     }
 }
 
+/// Counts the literals that the entries of an outcome may take away.
+fn count_entries(outcome: &Outcome, counts: &mut [u32]) {
+    for entry in outcome {
+        count(counts, place(entry.atom, !entry.add));
+    }
+}
+
 /// Counts the literals that an action's entries may take away.
 fn count_changes(act: &Act, counts: &mut [u32]) {
     for outcome in &act.outcomes {
-        for entry in outcome {
-            count(counts, place(entry.atom, !entry.add));
-        }
+        count_entries(outcome, counts);
+    }
+}
+
+/// Counts what the actions of a task ask for and change.
+fn count_acts(task: &Task, opposites: &mut [u32], changes: &mut [u32]) {
+    for act in &task.acts {
+        count_opposites(&act.pre, opposites);
+        count_changes(act, changes);
+    }
+}
+
+/// Makes the numbers of opposites the weights.
+fn weigh(opposites: &mut [u32], changes: &[u32]) {
+    for (weight, change) in opposites.iter_mut().zip(changes.iter()) {
+        *weight = weight.saturating_mul(SCALE) / change.saturating_add(1).max(1);
     }
 }
 
@@ -55,13 +75,8 @@ impl Weights {
         let places = (atoms as usize).saturating_mul(2);
         let mut weights = vec![in alloc; 0; places]?;
         let mut changes = vec![in alloc; 0; places]?;
-        for act in &task.acts {
-            count_opposites(&act.pre, &mut weights);
-            count_changes(act, &mut changes);
-        }
-        for (weight, change) in weights.iter_mut().zip(changes.iter()) {
-            *weight = weight.saturating_mul(SCALE) / change.saturating_add(1).max(1);
-        }
+        count_acts(task, &mut weights, &mut changes);
+        weigh(&mut weights, &changes);
         Ok(Weights { weights })
     }
 

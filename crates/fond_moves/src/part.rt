@@ -1,6 +1,6 @@
 //! Partial states in words.
 
-use crate::index::{Literal, copy_words, has, put_bit};
+use crate::index::{Literal, clear_words, copy_words, drop_bits, has, put_bit, raise_bits};
 use fond_text::fault::NoMemory;
 use std::alloc::Global;
 
@@ -22,12 +22,8 @@ impl Part {
 
     /// Makes this the partial state of which nothing is known.
     pub fn clear(&mut self) {
-        for word in self.care.iter_mut() {
-            *word = 0;
-        }
-        for word in self.value.iter_mut() {
-            *word = 0;
-        }
+        clear_words(&mut self.care);
+        clear_words(&mut self.value);
     }
 
     /// Copies another partial state.
@@ -72,12 +68,8 @@ impl Part {
 
     /// Adds these atoms of a word, with their values.
     pub fn put_bits(&mut self, word: u32, bits: u64, values: u64) {
-        if let Some(care) = self.care.get_mut(word as usize) {
-            *care |= bits;
-        }
-        if let Some(value) = self.value.get_mut(word as usize) {
-            *value |= values & bits;
-        }
+        raise_bits(&mut self.care, word, bits);
+        raise_bits(&mut self.value, word, values & bits);
     }
 
     /// How many atoms are known.
@@ -91,11 +83,7 @@ impl Part {
 
     /// Forgets these atoms of a word.
     pub fn forget_bits(&mut self, word: u32, bits: u64) {
-        if let Some(care) = self.care.get_mut(word as usize) {
-            *care &= !bits;
-        }
-        if let Some(value) = self.value.get_mut(word as usize) {
-            *value &= !bits;
-        }
+        drop_bits(&mut self.care, word, bits);
+        drop_bits(&mut self.value, word, bits);
     }
 }

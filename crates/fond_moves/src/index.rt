@@ -46,6 +46,27 @@ pub fn word_at(words: &[u64], i: u32) -> u64 {
     }
 }
 
+/// Sets all words to 0.
+pub fn clear_words(words: &mut [u64]) {
+    for word in words {
+        *word = 0;
+    }
+}
+
+/// Sets these bits of the word at an index.
+pub fn raise_bits(words: &mut [u64], i: u32, bits: u64) {
+    if let Some(word) = words.get_mut(i as usize) {
+        *word |= bits;
+    }
+}
+
+/// Clears these bits of the word at an index.
+pub fn drop_bits(words: &mut [u64], i: u32, bits: u64) {
+    if let Some(word) = words.get_mut(i as usize) {
+        *word &= !bits;
+    }
+}
+
 /// Copies words as far as both slices go.
 pub fn copy_words(words: &mut [u64], from: &[u64]) {
     for (slot, word) in words.iter_mut().zip(from.iter()) {
@@ -65,13 +86,10 @@ pub fn has(words: &[u64], atom: u32) -> bool {
 
 /// Gives the atom a truth value.
 pub fn put_bit(words: &mut [u64], atom: u32, value: bool) {
-    if let Some(word) = words.get_mut((atom >> 6) as usize) {
-        let bit = bit_of(atom);
-        if value {
-            *word |= bit;
-        } else {
-            *word &= !bit;
-        }
+    if value {
+        raise_bits(words, atom >> 6, bit_of(atom));
+    } else {
+        drop_bits(words, atom >> 6, bit_of(atom));
     }
 }
 
