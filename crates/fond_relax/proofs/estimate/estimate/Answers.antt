@@ -1,6 +1,7 @@
 use Rattle.std.proofs.Common.{◌≡◌, ◌∙◌, ℕ, ◌<◌, List, Bool, false, Option, Some, None, length, map, refl, sym, ap, subst, arith}
 use Rattle.std.specs.Prelude.{IsTrue}
 use Rattle.std.proofs.lemmas.Bool.{false≢true}
+use Rattle.std.proofs.lemmas.Grind.{common_steps}
 use Rattle.std.proofs.lemmas.List.{length-map, get_or-map}
 use Rattle.fond_state.specs.Cubes.{LiesIn, CubeLiesIn, full_cube}
 use Rattle.fond_task.specs.Within.{is_form_within}
@@ -37,3 +38,12 @@ returns c =
     let P : List (Option Bool) → Type 0 = λ cube. CubeLiesIn cube around in
     c.settle.ensures.around around long stable (subst P (sym c.in_ok-cube.ensures) (full_in state around (long ∙ sym c.requires) lies)) in
     not_hopeless c.args.t.now state c.settle.new.cube least (λ no. false≢true (c.if-is_no.ensures.1 no))
+
+pub settle-requires-clause-long : goal.settle-requires-clause-long
+settle-requires-clause-long c = grind (arith, common_steps)
+
+pub is_no-requires : goal.is_no-requires
+is_no-requires c =
+    let task = c.args.t.now in
+    let Within : ℕ → Type 0 = λ atoms. IsTrue (is_form_within atoms task.goal) in
+    subst Within (sym (c.settle.ensures.same_length ∙ ap length c.in_ok-cube.ensures ∙ length-map c.args.s.now (λ value. Some value) ∙ c.requires)) task.goal_within
