@@ -70,8 +70,8 @@ abbrev pub HasWrongArity : Declarations → ReadAtom → Place → ℕ → Type 
 HasWrongArity files atom place code =
     (declared : Declared) × (predicate_of files.domain atom.name ≡ Some declared) × (length atom.terms ≢ length declared.parameters) × (place ≡ atom.place) × (code ≡ WRONG_ARITY)
 
--- an argument of an atom whose types are declared does not fit the parameter at its position, whose types are declared
--- too; the fault is at the argument
+-- an argument of an atom does not fit the parameter at its position: the predicate and the argument are declared, and so
+-- are all types of the argument and of the parameter, but these types do not fit; the fault is at the argument
 pub record HasMismatch (files : Declarations) (around : Scope) (atom : ReadAtom) (place : Place) (code : ℕ) : Type 0 where
   pub predicate : Declared
   pub named : predicate_of files.domain atom.name ≡ Some predicate
@@ -119,7 +119,8 @@ IsFirstIn files sites found = IsFirst (OccursAmong files sites) found
 abbrev pub IsFirstWithin : Declarations → List TypedName → (Scope → List Site) → Scope → Option Found → Type 0
 IsFirstWithin files names of around found = IsFirstIn files (sites_within names of around) found
 
--- the first of some objects that is declared again with another type, whichever objects come before and after them
+-- if `all` is some objects, then these, and then some others: the first of these that is declared with another type than
+-- at first, among the objects before it in `all`. If these are no part of `all`, this is true of any result
 abbrev pub IsFirstRepeated : List TypedName → List TypedName → Option Found → Type 0
 IsFirstRepeated all objects found =
     (before after : List TypedName) → all ≡ before ++ (objects ++ after) → IsFirst (IsRepeatedObject before objects) found
@@ -152,7 +153,8 @@ abbrev pub HasFaultyPattern : Declarations → Place → ℕ → Type 0
 HasFaultyPattern files place code =
     (pattern : Pattern) × Contains files.side.patterns pattern × (HasWrongCount files.domain pattern place code ⊎ HasUnknownObject files pattern place code)
 
--- a predicate or a schema is declared again, or a schema has a fault
+-- a predicate is declared again with other parameters, a schema has the name of an earlier one, or a fault of names occurs
+-- at a site of a schema
 abbrev pub HasLaterFault : Declarations → Place → ℕ → Type 0
 HasLaterFault files place code =
     IsRepeatedPredicate files.domain.predicates place code

@@ -74,7 +74,7 @@ domain_sites domain = flat_map schema_sites domain.schemas
 abbrev pub problem_sites : Problem → List Site
 problem_sites problem = map (λ initial. AnAtom [] initial.atom) problem.init ++ condition_sites problem.goal []
 
--- the sites inside a list of variables: the list itself, and those of a part that it is around
+-- a list of variables as a site, followed by the sites of its part, which has this list around it and then the outer ones
 abbrev pub sites_within : List TypedName → (Scope → List Site) → Scope → List Site
 sites_within names of around = AList names ∷ of (names ∷ around)
 

@@ -11,8 +11,8 @@ use Rattle.fond_names.specs.Names.{Declarations, all_objects, first_of}
 use Rattle.fond_names.specs.Sites.{Scope}
 
 -- one of these types is not declared; the fault is at the type
-abbrev pub IsUnknownKind : List TypedName → List Kind → Place → ℕ → Type 0
-IsUnknownKind types kinds place code = (kind : Kind) × Contains kinds kind × (is_type types kind.name ≡ false) × (place ≡ kind.place) × (code ≡ UNKNOWN_TYPE)
+abbrev pub IsUnknownType : List TypedName → List Kind → Place → ℕ → Type 0
+IsUnknownType types kinds place code = (kind : Kind) × Contains kinds kind × (is_type types kind.name ≡ false) × (place ≡ kind.place) × (code ≡ UNKNOWN_TYPE)
 
 -- an argument whose types are declared does not fit a parameter whose types are declared; the fault is at the argument
 pub record IsMisfit (files : Declarations) (around : Scope) (argument : Term) (parameter : TypedName) (place : Place) (code : ℕ) : Type 0 where

@@ -23,11 +23,69 @@ fn indexed_names(
     problem: &Problem,
 ) -> Result<(TextIndex, TextIndex), NoMemory>
     ensures predicates { IfOk result (λ made. IsIndex (λ predicate. predicate.name) made.0 domain.now.predicates) }
-    ensures objects { IfOk result (λ made. IsIndex (λ one. one.name) made.1 (domain.now.constants ++ problem.now.objects)) }
+    ensures objects { IfOk result
+        (λ made. IsIndex (λ one. one.name) made.1 (domain.now.constants ++ problem.now.objects)) }
 {
     let predicates = index_predicates(alloc, &domain.predicates)?;
     let objects = index_objects(alloc, &domain.constants, &problem.objects)?;
     Ok((predicates, objects))
+}
+
+/// The index of the schemas of a domain, beside those of the predicates and the objects.
+fn all_indexes(
+    alloc: Global,
+    domain: &Domain,
+    problem: &Problem,
+) -> Result<(TextIndex, (TextIndex, TextIndex)), NoMemory>
+    ensures schemas { IfOk result (λ made. IsIndex (λ schema. schema.name) made.0 domain.now.schemas) }
+    ensures predicates { IfOk result (λ made. IsIndex (λ predicate. predicate.name) made.1.0 domain.now.predicates) }
+    ensures objects { IfOk result
+        (λ made. IsIndex (λ one. one.name) made.1.1 (domain.now.constants ++ problem.now.objects)) }
+{
+    let schemas = index_schemas(alloc, &domain.schemas)?;
+    let names = indexed_names(alloc, domain, problem)?;
+    Ok((schemas, names))
+}
+
+/// The declarations of three files with these indexes of their types and names.
+fn with_indexes<'a>(
+    domain: &'a Domain,
+    problem: &'a Problem,
+    side: &'a Side,
+    types: TypeTable<'a>,
+    indexes: (TextIndex, (TextIndex, TextIndex)),
+) -> Files<'a>
+    requires typed { types.types.now ≡ domain.now.kinds }
+    requires schemas { IsIndex (λ schema. schema.name) indexes.0 domain.now.schemas }
+    requires predicates { IsIndex (λ predicate. predicate.name) indexes.1.0 domain.now.predicates }
+    requires objects { IsIndex (λ one. one.name) indexes.1.1 (domain.now.constants ++ problem.now.objects) }
+    ensures { declarations_of result ≡ record { domain = domain.now; problem = problem.now; side = side.now } }
+{
+    let (schemas, (predicates, objects)) = indexes;
+    Files {
+        domain,
+        problem,
+        side,
+        types,
+        predicates,
+        objects,
+        schemas,
+    }
+}
+
+/// The declarations of three files with this table of types.
+fn with_types<'a>(
+    alloc: Global,
+    domain: &'a Domain,
+    problem: &'a Problem,
+    side: &'a Side,
+    types: TypeTable<'a>,
+) -> Result<Files<'a>, NoMemory>
+    requires { types.types.now ≡ domain.now.kinds }
+    ensures { IfOk result (λ files. declarations_of files ≡ record { domain = domain.now; problem = problem.now; side = side.now }) }
+{
+    let indexes = all_indexes(alloc, domain, problem)?;
+    Ok(with_indexes(domain, problem, side, types, indexes))
 }
 
 /// The declarations of three files, indexed. Takes time and memory linear in their names.
@@ -39,18 +97,8 @@ pub fn indexed<'a>(
 ) -> Result<Files<'a>, NoMemory>
     ensures { IfOk result (λ files. declarations_of files ≡ record { domain = domain.now; problem = problem.now; side = side.now }) }
 {
-    let schemas = index_schemas(alloc, &domain.schemas)?;
-    let (predicates, objects) = indexed_names(alloc, domain, problem)?;
     let types = TypeTable::of(alloc, &domain.kinds)?;
-    Ok(Files {
-        domain,
-        problem,
-        side,
-        types,
-        predicates,
-        objects,
-        schemas,
-    })
+    with_types(alloc, domain, problem, side, types)
 }
 
 /// The first declaration of a predicate.

@@ -88,7 +88,8 @@ fn quantified_inside(
     around: &Around,
 ) -> Result<Option<Found>, NoMemory>
     requires { length variables.now + condition_variables part.now ≤ LONGEST_TEXT }
-    ensures { IfOk result (IsFirstWithin (declarations_of files.now) variables.now (condition_sites part.now) around.now) }
+    ensures { IfOk result
+        (IsFirstWithin (declarations_of files.now) variables.now (condition_sites part.now) around.now) }
 {
     let first = list_fault(files, variables);
     let within = inside(&*variables, &*around);

@@ -3,7 +3,7 @@
 ghost use Rattle.fond_text.specs.Firsts.{IsFirst};
 ghost use Rattle.fond_names.specs.Faults.{HasUnknownType, HasUnknownParameter};
 ghost use Rattle.fond_names.specs.Files.{declarations_of};
-ghost use Rattle.fond_names.specs.Unknown.{IsUnknownKind};
+ghost use Rattle.fond_names.specs.Unknown.{IsUnknownType};
 
 use crate::files::Files;
 use crate::types::is_type;
@@ -14,7 +14,7 @@ use fond_text::first::{Found, earlier, found_if};
 
 /// The first of some types that is not declared.
 fn unknown_kind(types: &TypeTable, kinds: &Kinds) -> Option<Found>
-    ensures { IsFirst (IsUnknownKind types.now.types.now kinds.now) result }
+    ensures { IsFirst (IsUnknownType types.now.types.now kinds.now) result }
 {
     let mut first = None;
     for i in 0..kinds.len() {
