@@ -1,5 +1,5 @@
 -- The first cube of a layer that passes a test.
-use Rattle.std.proofs.Common.{◌≡◌, ℕ, ◌<◌, List, [], ◌∷◌, Bool, true, false, Option, Some, None, length, cond, get_or, slice_get, take, refl, sym, ap, ◌∙◌, subst, arith}
+use Rattle.std.proofs.Common.{◌≡◌, ℕ, List, [], ◌∷◌, Bool, true, false, Option, Some, None, length, cond, get_or, slice_get, take, refl, sym, ◌∙◌, subst, arith}
 use Rattle.std.specs.Prelude.{Contains, Decides, MatchOption, is_some, nat_lt, position}
 use Rattle.std.specs.List.{position_or_len}
 use Rattle.std.proofs.lemmas.Bool.{false≢true, ltb-false, ltb-true}
