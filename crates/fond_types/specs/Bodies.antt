@@ -30,12 +30,14 @@ pub record AreSoundConditions (files : Declarations) (around : Scope) (condition
   pub typed : are_typed_around files.domain.kinds around ≡ true
   pub few : length (variables_of around) + sum (map condition_variables conditions) ≤ LONGEST_TEXT
 
--- a condition over numbers is a written one, names only what there is, and all arguments in it fit
+-- a condition over numbers is a condition of the files with its names replaced by numbers; it names only what there is, and
+-- all arguments in it fit
 pub record IsNumberedCondition (all : Numbered) (around : Scope) (condition : Cond) (number : LCond) : Type 0 where
   pub resolved : is_condition (meanings all.files) condition around number ≡ true
   pub within : is_condition_in all around number ≡ true
 
--- conditions over numbers are written ones, name only what there is, and all arguments in them fit
+-- conditions over numbers are conditions of the files with their names replaced by numbers, one by one; they name only what
+-- there is, and all arguments in them fit
 pub record AreNumberedConditions (all : Numbered) (around : Scope) (conditions : List Cond) (numbers : List LCond) : Type 0 where
   pub resolved : each_passes (map (λ part. part around) (map (is_condition (meanings all.files)) conditions)) numbers ≡ true
   pub within : list_all (λ number. number (ranges_around (meanings all.files).range around))
@@ -59,13 +61,15 @@ pub record AreSoundEffects (files : Declarations) (around : Scope) (effects : Li
   pub typed : are_typed_around files.domain.kinds around ≡ true
   pub few : length (variables_of around) + sum (map effect_variables effects) ≤ LONGEST_TEXT
 
--- an effect over numbers is a written one, names only what there is, all arguments in it fit, and its literals are fluent
+-- an effect over numbers is an effect of the files with its names replaced by numbers; it names only what there is, all
+-- arguments in it fit, and its literals are fluent
 pub record IsNumberedEffect (all : Numbered) (around : Scope) (effect : Effect) (number : LEffect) : Type 0 where
   pub resolved : is_effect (meanings all.files) effect around number ≡ true
   pub within : is_effect_in all around number ≡ true
   pub fluent : is_effect_fluent all.predicates number ≡ true
 
--- effects over numbers are written ones, name only what there is, all arguments in them fit, and their literals are fluent
+-- effects over numbers are effects of the files with their names replaced by numbers, one by one; they name only what there
+-- is, all arguments in them fit, and their literals are fluent
 pub record AreNumberedEffects (all : Numbered) (around : Scope) (effects : List Effect) (numbers : List LEffect) : Type 0 where
   pub resolved : each_passes (map (λ part. part around) (map (is_effect (meanings all.files)) effects)) numbers ≡ true
   pub within : list_all (λ number. number (ranges_around (meanings all.files).range around))
@@ -81,12 +85,15 @@ pub record IsSoundSchema (files : Declarations) (schema : Schema) : Type 0 where
   pub literals : literals_pass (is_mentioned files.domain) schema.effect ≡ true
   pub few : has_few_variables schema ≡ true
 
--- the precondition and the effect of a schema over numbers
+-- a condition and an effect over numbers are the precondition and the effect of a schema, with only its parameters around
+-- them, with their names replaced by numbers; they name only what there is, all arguments in them fit, and the literals of the
+-- effect are fluent
 pub record IsNumberedBody (all : Numbered) (schema : Schema) (pre : LCond) (effect : LEffect) : Type 0 where
   pub pre_is : IsNumberedCondition all (schema.parameters ∷ []) schema.pre pre
   pub effect_is : IsNumberedEffect all (schema.parameters ∷ []) schema.effect effect
 
--- a schema over numbers is a written one, names only what there is, all arguments in it fit, and its literals are fluent
+-- a schema over numbers is a schema of the files with its names replaced by numbers; it names only what there is, all
+-- arguments in it fit, and its literals are fluent
 pub record IsNumberedSchema (all : Numbered) (schema : Schema) (number : LSchema) : Type 0 where
   pub resolved : IsResolvedSchema (meanings all.files) all.files.side schema number
   pub within : is_schema_in all number ≡ true

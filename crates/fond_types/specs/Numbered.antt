@@ -17,7 +17,8 @@ use Rattle.fond_types.specs.Meanings.{are_typed, has_root, meanings, ranges_arou
 use Rattle.fond_types.specs.Patterns.{is_sound_pattern}
 use Rattle.fond_types.specs.Resolves.{is_term}
 
--- each type in declarations is declared, schemas have distinct names, and patterns are sound
+-- `object` has no parent but itself, the types of all objects and of all parameters of predicates are declared, schemas have
+-- distinct names, and the patterns of the side list are sound
 pub record AreWellNamed (files : Declarations) : Type 0 where
   pub rooted : has_root files.domain.kinds ≡ true
   pub objects_typed : are_typed files.domain.kinds (all_objects files) ≡ true
@@ -39,7 +40,7 @@ pub record AreNumbered (all : Numbered) : Type 0 where
 abbrev pub is_term_in : Declarations → Scope → LTerm → Bool
 is_term_in files around number = is_term_within (length (objects_declared files)) (ranges_around (meanings files).range around) number
 
--- whether terms over numbers are written ones, one by one
+-- whether numbers are those of terms with these lists of variables around them, one by one
 abbrev pub are_terms : Declarations → Scope → List Term → List LTerm → Bool
 are_terms files around terms numbers = each_passes (map (is_term (meanings files) around) terms) numbers
 

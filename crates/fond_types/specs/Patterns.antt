@@ -31,7 +31,7 @@ first_place terms name = position (λ other. other.variable && bytes_eq other.na
 abbrev pub HasPlaces : List Term → List (List ℕ × ℕ) → Type 0
 HasPlaces terms index = (name : List ℕ) → number_beside index name ≡ first_place terms name
 
--- whether patterns over numbers are those of some written ones that name this schema, in order
+-- whether patterns over numbers are those of the given patterns that name this schema, in order
 abbrev pub are_patterns : Meanings → List Pattern → List ℕ → List (List LTerm) → Bool
 are_patterns meanings patterns name numbers = each_passes (map (is_pattern meanings) (filter (λ pattern. bytes_eq pattern.schema.name name) patterns)) numbers
 

@@ -64,7 +64,7 @@ abbrev pub is_term : Meanings → Scope → Term → LTerm → Bool
 is_term meanings around term (Object number) = not term.variable && is_number_of meanings.objects term.name number
 is_term meanings around term (Variable number) = term.variable && option_map_or (λ other. other == number) (variable_number around term.name) false
 
--- whether an atom over numbers is a written one
+-- whether an atom over numbers is an atom of the files with its names replaced by numbers
 abbrev pub is_atom : Meanings → Scope → ReadAtom → LAtom → Bool
 is_atom meanings around atom number = is_number_of meanings.predicates atom.name number.predicate && each_passes (map (is_term meanings around) atom.terms) number.terms
 
@@ -72,7 +72,7 @@ is_atom meanings around atom number = is_number_of meanings.predicates atom.name
 abbrev pub are_ranges : Meanings → List TypedName → RangeList → Bool
 are_ranges meanings names ranges = each_passes (map (λ name. bytes_eq (meanings.range name.kinds)) names) (objects_of ranges)
 
--- a condition over numbers has the form of a written one, with parts in the same order
+-- whether one layer of a condition and of a condition over numbers have the same form, with parts in the same order
 abbrev pub condition_step : Meanings → condition.Cond-F (Scope → LCond → Bool) → Scope → numbered_condition.LCond-F LCond → Bool
 condition_step meanings condition.Truth around numbered_condition.Truth = true
 condition_step meanings (condition.Holds atom) around (numbered_condition.Holds number) = is_atom meanings around atom number
@@ -85,11 +85,12 @@ condition_step meanings (condition.Forall names part) around (numbered_condition
 condition_step meanings (condition.Exists names part) around (numbered_condition.Exists ranges number) = are_ranges meanings names ranges && part.value (names ∷ around) number.value
 condition_step meanings form around number = false
 
--- whether a condition over numbers is a written one, with these lists of variables around it
+-- whether a condition over numbers is this condition with its names replaced by numbers, with these lists of variables
+-- around it
 abbrev pub is_condition : Meanings → Cond → Scope → LCond → Bool
 is_condition meanings = fold-Cond (Scope → LCond → Bool) (λ form around number. condition_step meanings form around (out-LCond number))
 
--- an effect over numbers has the form of a written one, with parts in the same order
+-- whether one layer of an effect and of an effect over numbers have the same form, with parts in the same order
 abbrev pub effect_step : Meanings → effect.Effect-F (Scope → LEffect → Bool) → Scope → numbered_effect.LEffect-F LEffect → Bool
 effect_step meanings effect.Nothing around numbered_effect.Nothing = true
 effect_step meanings (effect.Add atom) around (numbered_effect.Add number) = is_atom meanings around atom number
@@ -100,7 +101,7 @@ effect_step meanings (effect.When condition part) around (numbered_effect.When n
 effect_step meanings (effect.OneOf parts) around (numbered_effect.OneOf numbers) = each_passes (map (λ part. part around) parts.items) numbers.items
 effect_step meanings form around number = false
 
--- whether an effect over numbers is a written one, with these lists of variables around it
+-- whether an effect over numbers is this effect with its names replaced by numbers, with these lists of variables around it
 abbrev pub is_effect : Meanings → Effect → Scope → LEffect → Bool
 is_effect meanings = fold-Effect (Scope → LEffect → Bool) (λ form around number. effect_step meanings form around (out-LEffect number))
 
@@ -130,7 +131,7 @@ is_pattern_term meanings terms term (Object number) = not term.variable && is_nu
 is_pattern_term meanings terms term (Variable number) =
     term.variable && option_map_or (λ at. at == number) (position (λ other. other.variable && bytes_eq other.name term.name) terms) false
 
--- whether a pattern over numbers is a written one
+-- whether a pattern over numbers is this pattern with its names replaced by numbers
 abbrev pub is_pattern : Meanings → Pattern → List LTerm → Bool
 is_pattern meanings pattern numbers = each_passes (map (is_pattern_term meanings pattern.terms) pattern.terms) numbers
 
@@ -138,8 +139,8 @@ is_pattern meanings pattern numbers = each_passes (map (is_pattern_term meanings
 abbrev pub patterns_of : Side → List ℕ → List Pattern
 patterns_of side name = filter (λ pattern. bytes_eq pattern.schema.name name) side.patterns
 
--- a schema over numbers is a written one: it is unfair if and only if a leaf of the side list outside parentheses is its
--- name, and it has the patterns that name it
+-- a schema over numbers is this schema with its names replaced by numbers: it is unfair if and only if a leaf of the side
+-- list outside parentheses is its name, and it has the patterns that name it
 pub record IsResolvedSchema (meanings : Meanings) (side : Side) (schema : Schema) (number : LSchema) : Type 0 where
   pub place : number.place ≡ schema.place
   pub named : number.name ≡ schema.name
@@ -149,7 +150,7 @@ pub record IsResolvedSchema (meanings : Meanings) (side : Side) (schema : Schema
   pub unfair : number.unfair ≡ list_any (λ leaf. bytes_eq leaf.name schema.name) side.names
   pub patterns : each_passes (map (is_pattern meanings) (patterns_of side schema.name)) number.patterns ≡ true
 
--- whether a ground atom is a written one without variables
+-- whether a ground atom is this atom, which has no variables, with its names replaced by numbers
 abbrev pub is_ground_atom : Meanings → ReadAtom → Atom → Bool
 is_ground_atom meanings atom number =
     is_number_of meanings.predicates atom.name number.predicate && each_passes (map (λ term. is_number_of meanings.objects term.name) atom.terms) number.objects

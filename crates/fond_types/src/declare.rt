@@ -54,7 +54,8 @@ pub(crate) fn declared_predicates(alloc: Global, files: &Files) -> Result<Number
 
 /// The constants and the objects of the problem.
 pub(crate) fn declared_objects(alloc: Global, files: &Files) -> Result<Numbers, NoMemory>
-    ensures { IfOk result (λ all. all.names ≡ names_once (λ one. one.name) (all_objects (declarations_of files.now))) }
+    ensures { IfOk result
+        (λ all. all.names ≡ names_once (λ one. one.name) (all_objects (declarations_of files.now))) }
 {
     let (constants, objects) = (&files.domain.constants, &files.problem.objects);
     let mut names = Names::new(alloc);

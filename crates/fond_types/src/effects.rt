@@ -86,7 +86,8 @@ fn numbered_inside(
 ) -> Result<Box<LEffect>, NoMemory>
     requires sound { IsSoundEffect context.now.files (names.now ∷ around.now) part.now }
     requires kept { are_kept context.now.files kept.old.entries.items ≡ true }
-    ensures numbered { IfOk result (λ made. IsNumberedEffect context.now (names.now ∷ around.now) part.now made.value) }
+    ensures numbered { IfOk result
+        (λ made. IsNumberedEffect context.now (names.now ∷ around.now) part.now made.value) }
     ensures kept { OnOk result (are_kept context.now.files kept.new.entries.items ≡ true) }
 {
     let variables = Variables::of(alloc, names)?;
@@ -107,7 +108,8 @@ fn numbered_part(
     requires sound { IsSoundEffect context.now.files (names.now ∷ around.now) part.now }
     requires kept { are_kept context.now.files kept.old.entries.items ≡ true }
     ensures ranges { IfOk result (λ made. are_ranges (meanings context.now.files) names.now made.0 ≡ true) }
-    ensures numbered { IfOk result (λ made. IsNumberedEffect context.now (names.now ∷ around.now) part.now made.1.value) }
+    ensures numbered { IfOk result
+        (λ made. IsNumberedEffect context.now (names.now ∷ around.now) part.now made.1.value) }
     ensures kept { OnOk result (are_kept context.now.files kept.new.entries.items ≡ true) }
 {
     let part = numbered_inside(alloc, context, kept, names, part, around)?;

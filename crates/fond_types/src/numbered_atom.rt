@@ -27,7 +27,8 @@ pub(crate) fn numbered_atom(
     requires sound { is_sound context.now.files (AnAtom around.now atom.now) ≡ true }
     requires typed { are_typed_around context.now.files.domain.kinds around.now ≡ true }
     requires few { length (variables_of around.now) ≤ LONGEST_TEXT }
-    ensures resolved { IfOk result (λ number. is_atom (meanings context.now.files) around.now atom.now number ≡ true) }
+    ensures resolved { IfOk result
+        (λ number. is_atom (meanings context.now.files) around.now atom.now number ≡ true) }
     ensures within { IfOk result (λ number. is_atom_in context.now around.now number ≡ true) }
     ensures fluent { IfOk result (λ number. is_fluent context.now.predicates number.predicate
         ≡ is_mentioned context.now.files.domain atom.now.name) }

@@ -50,7 +50,8 @@ fn numbered_at(table: &Table, places: &TextIndex, terms: &Terms, i: usize) -> LT
     requires within { i < length terms.now }
     requires places { HasPlaces terms.now places.now }
     requires sound { list_all (is_sound_term table.now) terms.now ≡ true }
-    ensures { IfSome (slice_get terms.now i) (λ one. is_pattern_term (meanings table.now) terms.now one result ≡ true) }
+    ensures { IfSome (slice_get terms.now i)
+        (λ one. is_pattern_term (meanings table.now) terms.now one result ≡ true) }
 {
     let term = terms.get(i);
     if term.variable {
@@ -97,7 +98,8 @@ fn numbered_pattern(alloc: Global, table: &Table, pattern: &Pattern) -> Result<L
 fn schema_position(table: &Table, pattern: &Pattern) -> usize
     requires { is_sound_pattern table.now pattern.now ≡ true }
     ensures within { result < length table.now.domain.schemas }
-    ensures named { IfSome (slice_get table.now.domain.schemas result) (λ schema. is_of_schema pattern.now schema ≡ true) }
+    ensures named { IfSome (slice_get table.now.domain.schemas result)
+        (λ schema. is_of_schema pattern.now schema ≡ true) }
 {
     match table.schema_position(&pattern.schema.name) {
         Some(at) => at as usize,
