@@ -1,4 +1,4 @@
--- Conditions that have no literal too many.
+-- Lean conditions: those that pass a test, and need each of their literals for it.
 use Rattle.std.specs.Prelude.{◌≡◌, ℕ, List, Bool, Option, Some}
 use Rattle.fond_state.specs.Cubes.{literal_at, without_literal}
 

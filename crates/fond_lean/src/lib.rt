@@ -1,5 +1,6 @@
-//! Conditions that have no literal too many, for any test that further literals never harm: whether a condition is one, and the
-//! literals of a condition dropped until it is. Which conditions pass a test is left to the crates above.
+//! Lean conditions: those that pass a test, and would not without any one of their literals. The test may be any that a condition
+//! still passes with more literals. The calls tell whether a condition is lean, and drop literals until it is. Which conditions pass
+//! is left to the crates above.
 #![tactic(auto)]
 
 ghost use Rattle.fond_lean.specs.Leans.{IsLean, NeedsLiteral};
@@ -8,13 +9,15 @@ ghost use Rattle.std.specs.Prelude.{◌≡◌, ℕ, false, length, Decides};
 
 use fond_state::cube::Cube;
 
-/// A test of conditions over the atoms of a task which further literals never harm.
+/// A test of conditions over some atoms that a condition still passes with more literals.
 pub trait Test {
     ghost use Rattle.fond_state.specs.Cubes.{CubeLiesIn};
     ghost use Rattle.std.specs.Prelude.{◌≡◌, ℕ, List, Bool, Option, length, Decides};
 
+    /// The number of atoms.
     ghost width: { Self → ℕ };
 
+    /// The conditions that pass.
     ghost passes: { Self → List (Option Bool) → Type 0 };
 
     /// Whether the condition passes. Overwrites `image`.
@@ -129,8 +132,8 @@ fn take_passing<T: Test>(test: &T, full: &Cube, cond: &mut Cube, image: &mut Cub
     cond.copy_from(full);
 }
 
-/// Makes the condition a lean one that has literals of the full one alone, which passes. Starts with the condition, or with the
-/// full one if the condition does not pass, and shortens it. Takes the time of one test for each literal of the start and one more.
+/// Makes the condition lean, with literals of `full` alone, which passes. Starts with the condition, or with `full` if the condition
+/// does not pass, and drops literals. Takes the time of one test for each literal of the start and one more.
 pub fn shorten_from<T: Test>(test: &T, full: &Cube, cond: &mut Cube, image: &mut Cube)
     requires full_long { length full.now ≡ T.width test.now }
     requires cond_long { length cond.old ≡ T.width test.now }

@@ -25,7 +25,7 @@ use Rattle.fond_policy.proofs.Walking.{few_outcomes}
 use Rattle.fond_policy.specs.Parts.{AreSureRules}
 use Rattle.fond_relax.specs.Stable.{IsHopelessBy}
 use Rattle.fond_relax.proofs.Hopeless.{stable_sure}
-use Rattle.fond_planner.specs.Decisions.{IsRightCert}
+use Rattle.fond_planner.specs.Decisions.{IsGoodCert}
 use Rattle.fond_planner.specs.Drafts.{IsDraft, IsFitting}
 use Rattle.fond_planner.specs.declared.draft.Draft.{Draft}
 use Rattle.fond_planner.proofs.Lists.{all_numbered, element_at, only_one}
@@ -72,7 +72,7 @@ module _ (task : Task) (draft : Draft) (is_draft : IsDraft task draft) where
 
   -- the certificate of a draft with items that cover what its rules reach is correct and lean
   pub right_cover : (items : List Item) (start : ℕ) → length draft.layers < 2 ^ 32 → Each (λ layer. length layer < 2 ^ 32) draft.layers → length draft.rules < 2 ^ 32
-      → IsCovering task draft.rules items start → IsRightCert task (Covered draft.layers draft.pairs draft.rules items start)
+      → IsCovering task draft.rules items start → IsGoodCert task (Covered draft.layers draft.pairs draft.rules items start)
   right_cover items start few few_cubes few_rules covering = record {
     belongs = (
       record { few = few; few_cubes = few_cubes; over = is_draft.over },
@@ -109,7 +109,7 @@ module _ (task : Task) (draft : Draft) (is_draft : IsDraft task draft) where
   }
 
   -- the certificate of a draft is a correct refusal if the initial state lies in one of its layers
-  pub right_refusal : length draft.layers < 2 ^ 32 → Each (λ layer. length layer < 2 ^ 32) draft.layers → LiesInLayers task.init draft.layers → IsRightCert task (Refusal draft.layers)
+  pub right_refusal : length draft.layers < 2 ^ 32 → Each (λ layer. length layer < 2 ^ 32) draft.layers → LiesInLayers task.init draft.layers → IsGoodCert task (Refusal draft.layers)
   right_refusal few few_cubes lies = record {
     belongs = record { few = few; few_cubes = few_cubes; over = is_draft.over };
     small = tt;
@@ -118,7 +118,7 @@ module _ (task : Task) (draft : Draft) (is_draft : IsDraft task draft) where
   }
 
 -- the certificate of the cube by which the initial state is hopeless is correct
-pub right_hopeless : (task : Task) (cube : CubeView) → IsHopelessBy task task.init cube → IsRightCert task (Refusal ((cube ∷ []) ∷ []))
+pub right_hopeless : (task : Task) (cube : CubeView) → IsHopelessBy task task.init cube → IsGoodCert task (Refusal ((cube ∷ []) ∷ []))
 right_hopeless task cube hopeless = record {
   belongs = record {
     few = omega arith;

@@ -12,18 +12,18 @@ use Rattle.fond_relax.specs.Stable.{IsHopeless}
 use Rattle.fond_planner.specs.declared.decide.Decision.{Decision}
 use Rattle.fond_planner.specs.declared.decide.Decision.TheVariants.{Certified, Undecided}
 
--- a certificate is a refusal, or a policy with a cover whose pairs, rules and items are lean
-abbrev pub IsLean : Task → Cert → Type 0
-IsLean task (Refusal layers) = ⊤
-IsLean task (Covered layers pairs rules items start) = AreAllLean task layers pairs rules items
-IsLean task (Policy layers pairs rules reach) = ⊥
+-- a certificate is a refusal, or a policy with a cover whose pairs, rules and items are all lean
+abbrev pub IsLeanAnswer : Task → Cert → Type 0
+IsLeanAnswer task (Refusal layers) = ⊤
+IsLeanAnswer task (Covered layers pairs rules items start) = AreAllLean task layers pairs rules items
+IsLeanAnswer task (Policy layers pairs rules reach) = ⊥
 
--- a certificate belongs to a task, its numbers fit their types, and it is correct and lean
-pub record IsRightCert (task : Task) (cert : Cert) : Type 0 where
+-- a certificate belongs to a task, its numbers fit their types, it is correct, and what it has of pairs, rules and items is lean
+pub record IsGoodCert (task : Task) (cert : Cert) : Type 0 where
   pub belongs : Belongs task cert
   pub small : HasSmallNumbers cert
   pub right : IsRight task cert
-  pub lean : IsLean task cert
+  pub lean : IsLeanAnswer task cert
 
 -- more than this many states are reachable in a task, by any actions out of states that are no goals
 abbrev pub IsPast : Task → ℕ → Type 0
@@ -32,5 +32,5 @@ IsPast task budget = games.More (game task) budget
 -- a decision about a task is right: its certificate is correct and lean; or more states are reachable than the budget, and the
 -- initial state is not hopeless
 abbrev pub IsDecision : Task → ℕ → Decision → Type 0
-IsDecision task budget (Certified cert) = IsRightCert task cert
+IsDecision task budget (Certified cert) = IsGoodCert task cert
 IsDecision task budget Undecided = IsPast task budget × (¬ IsHopeless task task.init)

@@ -1,4 +1,4 @@
--- Planners: a policy in the making, and the plans from which its rules are made.
+-- Planners: the draft of a policy, and the plans that are kept for its rules.
 use Rattle.fond_task.specs.declared.task.Task.{Task}
 use Rattle.fond_planner.specs.Drafts.{IsDraft}
 use Rattle.fond_planner.specs.Plans.{ArePlans}

@@ -1,7 +1,7 @@
 //! Deciding a task.
 
 ghost use Rattle.fond_covering.specs.Coverings.{IsCovering};
-ghost use Rattle.fond_planner.specs.Decisions.{IsDecision, IsPast, IsRightCert};
+ghost use Rattle.fond_planner.specs.Decisions.{IsDecision, IsPast, IsGoodCert};
 ghost use Rattle.fond_planner.specs.Drafts.{IsDraft};
 ghost use Rattle.fond_planner.specs.Ends.{IsEnd};
 ghost use Rattle.fond_planner.specs.Planners.{IsPlanner};
@@ -54,7 +54,7 @@ fn read_count(rules: &Rules)
 fn refusal_of(t: &Task, draft: Draft) -> Cert
     requires draft { IsDraft t.now draft }
     requires lies { LiesInLayers t.now.init draft.layers }
-    ensures { IsRightCert t.now result }
+    ensures { IsGoodCert t.now result }
 {
     read_sizes(&draft.layers);
     Cert::Refusal {
@@ -66,7 +66,7 @@ fn refusal_of(t: &Task, draft: Draft) -> Cert
 fn policy_of(t: &Task, draft: Draft, covering: Covering) -> Cert
     requires draft { IsDraft t.now draft }
     requires covering { IsCovering t.now draft.rules covering.items covering.start }
-    ensures { IsRightCert t.now result }
+    ensures { IsGoodCert t.now result }
 {
     read_sizes(&draft.layers);
     read_count(&draft.rules);
@@ -180,7 +180,7 @@ fn quick_budget(t: &Task, budget: u32) -> u32 {
 /// The refusal of a task whose initial state is hopeless by this cube. Its one layer is the cube.
 fn hopeless_refusal(alloc: Global, t: &Task, cube: Cube) -> Result<Cert, NoMemory>
     requires { IsHopelessBy t.now t.now.init cube }
-    ensures { IfOk result (IsRightCert t.now) }
+    ensures { IfOk result (IsGoodCert t.now) }
 {
     let mut layer = Layer::new(alloc);
     layer.push(cube)?;

@@ -9,34 +9,37 @@ use fond_task::task::Task;
 use fond_text::fault::NoMemory;
 use std::alloc::Global;
 
-/// How much searches may do: how many states each may expand, or visit for layers, how many updates of the relaxed task all may make,
-/// and how much work all may do for layers.
+/// How much a source may do.
 #[derive(Clone, Copy)]
 pub struct Effort {
+    /// The states that each search for a plan may expand, and each search for layers may visit.
     pub states: u32,
+    /// The updates of the relaxed task, and of queues, that all searches for plans may make together.
     pub work: u64,
+    /// The work that all searches for layers may do together.
     pub layers: u64,
 }
 
-/// A source of hints beside a draft: whoever has one can lend a planner its steps and layers. Nothing is claimed of them. The planner
-/// makes a rule of a step only if the rule is sure now, and keeps a layer only if it is sure.
+/// A source of hints for a planner, which lends it the draft. Nothing is claimed of a hint: the planner makes a rule of a step only if
+/// the rule is sure at that time, and keeps a layer only if it is sure.
 pub trait Source: Drop {
-    /// A source that was asked nothing. It takes no memory.
+    /// A source that was not asked yet. It takes no memory.
     fn new() -> Self;
 
-    /// Lets the next searches do this much.
+    /// Sets how much the next searches may do.
     fn allow(&mut self, alloc: Global, t: &Task, effort: Effort) -> Result<(), NoMemory>;
 
-    /// Steps from the state to a goal or to a state in which a rule of the draft holds.
+    /// Proposes steps from the state to a goal, or to a state in which a rule of the draft holds, if a search finds some.
     fn plan(&mut self, alloc: Global, draft: &Draft, from: &State) -> Result<Hint, NoMemory>;
 
-    /// An action leads from the state to the one from which the next search begins.
+    /// Notes that an action was taken in this state, and that the next search begins where it led.
     fn leave(&mut self, state: &State);
 
-    /// Searches go on in this outcome of the unfair action from now on.
+    /// Notes that searches are to follow this outcome of the unfair action in the state from now on.
     fn respond(&mut self, state: &State, act: u32, outcome: u32) -> Result<(), NoMemory>;
 
-    /// A cube around the state from which no goal may be reachable.
+    /// Proposes a cube around the state that may be losing, if a search finds one: from none of its states does a policy surely get to
+    /// a goal.
     fn dead_cube(
         &mut self,
         alloc: Global,
@@ -50,15 +53,15 @@ pub trait Source: Drop {
     /// Begins to look for layers around the state of a full cube.
     fn begin_layers_in(&mut self, draft: &Draft, cube: &Cube) -> Result<(), NoMemory>;
 
-    /// The next layer. What it takes is no more there for further ones.
+    /// Proposes a further layer, or tells that there is none. A cube is proposed once.
     fn next_layer(&mut self, alloc: Global, draft: &Draft) -> Result<LayerHint, NoMemory>;
 
-    /// The states of the full cubes of these layers are known to be lost, and no others.
+    /// Takes the states of the full cubes of these layers, and no others, as losing.
     fn know_lost(&mut self, layers: &Layers) -> Result<(), NoMemory>;
 
-    /// No state is known to be lost any more.
+    /// Takes no state as losing any more.
     fn forget_lost(&mut self) -> Result<(), NoMemory>;
 
-    /// The rules and the pairs of the draft are made anew.
+    /// Forgets what was learnt from the rules and the pairs of the draft, since the rules are made anew. The draft keeps its pairs.
     fn forget_rules(&mut self);
 }

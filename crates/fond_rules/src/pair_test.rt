@@ -1,4 +1,4 @@
-//! The test whether a pair leads into a cube with a condition.
+//! The test whether a pair with a given condition leads into the cube that it names.
 
 ghost use Rattle.fond_rules.specs.Targets.{LeadsInto};
 ghost use Rattle.std.specs.Prelude.{◌≡◌, length, Decides};
@@ -8,8 +8,8 @@ use fond_state::cube::Cube;
 use fond_task::image::image_of;
 use fond_task::task::Task;
 
-/// The test whether a pair leads into the cube that it names, `dead`, for any condition of the pair: its action and outcome, the
-/// numbers by which it names the cube, and the task.
+/// The test whether a pair leads into the cube that it names, `dead`, with any condition. A pair is its condition, an action and an
+/// outcome, and the numbers by which it names the cube.
 #[derive(Drop)]
 pub struct PairTest<'a> {
     pub task: &'a Task,

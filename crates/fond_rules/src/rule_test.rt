@@ -1,4 +1,4 @@
-//! The test whether a rule is sure with a condition.
+//! The test whether a rule with a given condition is sure.
 
 ghost use Rattle.fond_game.specs.Rules.{AreMet, IsSureRule};
 ghost use Rattle.fond_rules.specs.Belongs.{ArePairsOver};
@@ -21,8 +21,8 @@ use fond_task::image::image_of;
 use fond_task::task::{Act, Outcome, Outcomes, Task};
 use fond_task::value::value;
 
-/// The test whether a rule is sure, for any condition of the rule: its action and targets, the task, the pairs beside it, and its
-/// number in a list.
+/// The test whether a rule is sure, with any condition. A rule is its condition, an action and its targets; it is sure beside some
+/// pairs, by the number that it has, or would have, in a list.
 #[derive(Drop)]
 pub struct RuleTest<'a> {
     pub task: &'a Task,

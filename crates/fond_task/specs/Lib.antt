@@ -4,6 +4,7 @@ pub mod Named
 pub mod Truth
 pub mod Steps
 pub mod Values
+pub mod Junctions
 pub mod Images
 pub mod Laws
 pub mod Texts

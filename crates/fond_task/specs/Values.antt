@@ -8,6 +8,16 @@ use Rattle.fond_task.specs.declared.form.Kleene.{Kleene}
 use Rattle.fond_task.specs.declared.form.Kleene.TheVariants.{No, Unknown, Yes}
 use Rattle.fond_text.specs.Bools.{is_same}
 
+-- the value of a test: Yes if it is true, and No if it is false
+abbrev pub truth_value : Bool → Kleene
+truth_value truth = if truth then Yes else No
+
+-- the opposite of a value
+abbrev pub opposite : Kleene → Kleene
+opposite No = Yes
+opposite Unknown = Unknown
+opposite Yes = No
+
 -- the lesser of two values: No is below Unknown, and Unknown below Yes
 abbrev pub lesser : Kleene → Kleene → Kleene
 lesser No other = No

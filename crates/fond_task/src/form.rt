@@ -8,6 +8,13 @@ pub enum Kleene {
     Yes,
 }
 
+/// How the parts of a condition are joined: all of them have to be true, or one is enough.
+#[derive(Clone, Copy)]
+pub enum Junction {
+    All,
+    Any,
+}
+
 /// The parts of a conjunction or a disjunction.
 pub type Forms = Vec<Form>;
 

@@ -5,6 +5,7 @@
 
 pub mod form;
 pub mod image;
+pub mod junction;
 pub mod laws;
 pub mod step;
 pub mod task;

@@ -5,7 +5,7 @@ use Rattle.fond_bridge.proofs.Between.{ground-tasks-agree}
 use Rattle.fond_cert.specs.Spellings.{spelling}
 use Rattle.fond_policy.specs.declared.cert.Cert.{Cert}
 use Rattle.fond_policy.specs.declared.cert.Cert.TheVariants.{Policy, Refusal, Covered}
-use Rattle.fond_planner.specs.Decisions.{IsDecision, IsRightCert}
+use Rattle.fond_planner.specs.Decisions.{IsDecision, IsGoodCert}
 use Rattle.fond_planner.specs.declared.decide.Decision.{Decision}
 use Rattle.fond_planner.specs.declared.decide.Decision.TheVariants.{Certified, Undecided}
 use Rattle.fond_game.proofs.Forced.{refusals_exclude}
@@ -19,7 +19,7 @@ use Rattle.fond_tool.specs.Replies.{Reply}
 use Rattle.fond_tool.proofs.Solvable.{solvable}
 
 module _ (task : LiftedTask) (game : Task) (budget : ℕ) (is : IsGroundOf task game) where
-  certified : (cert : Cert) → IsRightCert game cert → AnswersPlan task game budget (record { text = spelling game cert; ending = cert_ending cert })
+  certified : (cert : Cert) → IsGoodCert game cert → AnswersPlan task game budget (record { text = spelling game cert; ending = cert_ending cert })
   certified (Covered layers pairs rules items start) right =
       let solves = covers_solve game layers pairs rules items start right.right in
       AnswersPlan.policy layers pairs rules items start (spelling game (Covered layers pairs rules items start)) (right.belongs, right.small, refl) right.right right.lean

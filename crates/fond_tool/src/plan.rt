@@ -1,6 +1,6 @@
 //! The command `plan`: a policy, or that there is none.
 
-ghost use Rattle.fond_planner.specs.Decisions.{IsDecision, IsRightCert};
+ghost use Rattle.fond_planner.specs.Decisions.{IsDecision, IsGoodCert};
 ghost use Rattle.fond_planner.specs.declared.decide.Decision.{Decision};
 ghost use Rattle.fond_ground.specs.Grounds.{IsGroundOf};
 ghost use Rattle.fond_tool.specs.Decided.{cert_ending, decision_reply};
@@ -39,7 +39,7 @@ fn ending_of(cert: &Cert) -> Ending
 
 /// The answer of a certificate: its text.
 fn cert_answer(game: Box<Task>, cert: Cert) -> Answer
-    requires { IsRightCert game.value cert }
+    requires { IsGoodCert game.value cert }
     ensures { result ≡ record { text = spelling game.value cert; ending = cert_ending cert } }
 {
     let ending = ending_of(&cert);

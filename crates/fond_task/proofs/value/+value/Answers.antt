@@ -22,7 +22,7 @@ loop-part-preserved t c =
     let next = c.loop-part.part-index + 1 in
     record {
       within = first_of (search rules, grind (arith, common_steps));
-      value = ap (λ a. fold lesser a (map (value cube) (drop next items))) (c.lesser_of-least.ensures ∙ ap (lesser c.loop-part.least) c.value.ensures)
+      value = ap (λ a. fold lesser a (map (value cube) (drop next items))) (c.lesser-least.ensures ∙ ap (lesser c.loop-part.least) c.value.ensures)
           ∙ sym (fold_next lesser (value cube) c.loop-part.least items c.loop-part.part-index c.part-item.result c.loop-part-test.true c.part-item.is) ∙ c.loop-part.invariant.value;
     }
 
@@ -42,6 +42,6 @@ loop-part-2-preserved t c =
     let next = c.loop-part-2.part-index + 1 in
     record {
       within = first_of (search rules, grind (arith, common_steps));
-      value = ap (λ a. fold greater a (map (value cube) (drop next items))) (c.greater_of-greatest.ensures ∙ ap (greater c.loop-part-2.greatest) c.value-in-loop-part-2.ensures)
+      value = ap (λ a. fold greater a (map (value cube) (drop next items))) (c.greater-greatest.ensures ∙ ap (greater c.loop-part-2.greatest) c.value-in-loop-part-2.ensures)
           ∙ sym (fold_next greater (value cube) c.loop-part-2.greatest items c.loop-part-2.part-index c.part-item-in-loop-part-2.result c.loop-part-2-test.true c.part-item-in-loop-part-2.is) ∙ c.loop-part-2.invariant.value;
     }
