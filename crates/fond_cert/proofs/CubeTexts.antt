@@ -15,17 +15,15 @@ use Rattle.fond_task.specs.declared.task.Task.{Task}
 use Rattle.fond_task.specs.Texts.{atom_text, name_at}
 use Rattle.fond_task.specs.Numbers.{atom_number}
 use Rattle.fond_state.specs.Cubes.{literal_at}
-use Rattle.fond_form.specs.Lines.{group_text, spaced, WrittenLiteral, sign_text, literal_pieces}
+use Rattle.fond_form.specs.Lines.{group_text, spaced, WrittenLiteral, sign_text, literal_text, literals_text}
 use Rattle.fond_cert.specs.declared.code.TheConstants.{OUT_OF_FORM}
-use Rattle.fond_cert.specs.Words.{Refused, unknown, refused_or, first_refused, atom_numbers, is_increasing}
+use Rattle.fond_cert.specs.Words.{Refused, unknown, refused_or, literals_refusal, atom_numbers, is_increasing}
 use Rattle.fond_cert.specs.Spellings.{atom_leaves, written_literal, written_cube}
-use Rattle.fond_form.specs.Cutting.{literals_text}
-use Rattle.fond_cert.specs.Checked.{with_literal, cube_of, rises, IsCubeAt, IsLiteralRefused, ReadsCube, IsCubeRefused}
+use Rattle.fond_cert.specs.Checked.{with_literal, cube_of, rises, IsCubeAt, IsLiteralRefused, Means, IsValueRefused}
+use Rattle.fond_form.specs.declared.table.Sort.TheVariants.{Literals}
 use Rattle.fond_cert.specs.declared.error.LineError.{LineError}
 use Rattle.fond_cert.specs.declared.error.LineError.TheVariants.{Refused as RefusedLine, NoMemory}
 use Rattle.fond_cert.specs.Refusals.{LineRefuses}
-use Rattle.fond_form.specs.Parts.{literal_text}
-use Rattle.fond_form.proofs.Literals.{spelled}
 use Rattle.fond_cert.proofs.Cubes.{rises_from, rises_at_first}
 
 -- the literals of a cube, atom by atom
@@ -109,12 +107,9 @@ leaves_text labels atom =
 literal_last : (a : List WrittenLiteral) (wl lit : WrittenLiteral) (lits : List WrittenLiteral) → literal_text wl ≡ literal_text lit →
     literals_text (a ++ (wl ∷ [])) ++ literals_text lits ≡ literals_text a ++ literals_text (lit ∷ lits)
 literal_last a wl lit lits same =
-    ap (λ t. t ++ literals_text lits) (sym (spelled (a ++ (wl ∷ []))) ∙ flat_map-append literal_text a (wl ∷ []) ∙ ap (λ t. flat_map literal_text a ++ t) (append-nil (literal_text wl)))
-    ∙ append_assoc (flat_map literal_text a) (literal_text wl) (literals_text lits)
-    ∙ ap (λ t. flat_map literal_text a ++ (literal_text wl ++ t)) (sym (spelled lits))
-    ∙ ap (λ t. flat_map literal_text a ++ (t ++ flat_map literal_text lits)) same
-    ∙ ap (λ t. t ++ flat_map literal_text (lit ∷ lits)) (spelled a)
-    ∙ ap (λ t. literals_text a ++ t) (spelled (lit ∷ lits))
+    ap (λ t. t ++ literals_text lits) (flat_map-append literal_text a (wl ∷ []) ∙ ap (λ t. literals_text a ++ t) (append-nil (literal_text wl)))
+    ∙ append_assoc (literals_text a) (literal_text wl) (literals_text lits)
+    ∙ ap (λ t. literals_text a ++ (t ++ literals_text lits)) same
 
 pub no_atom : Atom
 no_atom = record { predicate = 0; objects = [] }
@@ -128,12 +123,12 @@ atom_there task text n e =
 abbrev Grows : Task → List WrittenLiteral → Type 0
 Grows task lits =
     (cube : List (Option Bool)) (last : Option ℕ) (at : ℕ) → length cube ≡ length task.atoms → IsNoneFrom (next_from last) cube →
-    first_refused task at (literal_pieces lits) ≡ None → rises_from last (atom_numbers task lits) ≡ true →
+    literals_refusal task at lits ≡ None → rises_from last (atom_numbers task lits) ≡ true →
     literals_text (zipped task.labels task.atoms (cube_of task cube lits)) ≡ literals_text (zipped task.labels task.atoms cube) ++ literals_text lits
 
 by_number : (task : Task) (lit : WrittenLiteral) (lits : List WrittenLiteral) → Grows task lits → (cube : List (Option Bool)) (last : Option ℕ) (p q : ℕ) → length cube ≡ length task.atoms →
     IsNoneFrom (next_from last) cube → (number : Option ℕ) → atom_number task (group_text lit.leaves) ≡ number →
-    refused_or (unknown 2 number) p (first_refused task q (literal_pieces lits)) ≡ None → rises_from last (cons_option number (atom_numbers task lits)) ≡ true →
+    refused_or (unknown 2 number) p (literals_refusal task q lits) ≡ None → rises_from last (cons_option number (atom_numbers task lits)) ≡ true →
     literals_text (zipped task.labels task.atoms (cube_of task (with_literal cube number lit.sign) lits)) ≡ literals_text (zipped task.labels task.atoms cube) ++ literals_text (lit ∷ lits)
 by_number task lit lits grows cube last p q long none None e right up = absurd (cc)
 by_number task lit lits grows cube last p q long none (Some n) e right up =
@@ -164,37 +159,38 @@ cube_long task cube [] = refl
 cube_long task cube (literal ∷ literals) =
     cube_long task (with_literal cube (atom_number task (group_text literal.leaves)) literal.sign) literals ∙ with_long cube (atom_number task (group_text literal.leaves)) literal.sign
 
-module _ (task : Task) (at : ℕ) (text : List ℕ) (cube : List (Option Bool)) (is_ordered : Bool) (h : IsCubeAt task at text cube is_ordered) where
-  pub cube_read : is_ordered ≡ true → ReadsCube task at text cube
-  cube_read e =
+module _ (task : Task) (at : ℕ) (text : List ℕ) (cube : List (Option Bool)) (ordered : Bool) (h : IsCubeAt task at text cube ordered) where
+  pub cube_means : ordered ≡ true → Means task at Literals text cube
+  cube_means e =
       let up : is_increasing (atom_numbers task h.literals) ≡ true = sym h.order_is ∙ e in
       let empty = replicate (length task.atoms) None in
       let none : IsNoneFrom 0 empty = λ j le. none_replicate (length task.atoms) j in
-      let grown = grow task h.literals empty None at (length-replicate (length task.atoms) None) none h.right (sym (rises_at_first (atom_numbers task h.literals)) ∙ up) in
+      let grown = grow task h.literals empty None at (length-replicate (length task.atoms) None) none h.clean (sym (rises_at_first (atom_numbers task h.literals)) ∙ up) in
       let start : literals_text (zipped task.labels task.atoms empty) ≡ [] = ap literals_text (none_zipped task.labels task.atoms empty none) in
       record {
-        literals = h.literals;
-        proper = h.proper;
-        spelled = h.spelled;
-        right = rw (h.right, up) refl;
-        long = ap length h.cube_is ∙ cube_long task empty h.literals ∙ length-replicate (length task.atoms) None;
+        value = h.literals;
+        right = h.proper;
+        text_is = h.text_is;
+        clean = h.clean;
+        ordered = up;
+        of = ap length h.cube_is ∙ cube_long task empty h.literals ∙ length-replicate (length task.atoms) None;
         same =
-            ap (λ t. t ++ literals_text h.literals) (sym start) ∙ sym grown
+            h.text_is ∙ ap (λ t. t ++ literals_text h.literals) (sym start) ∙ sym grown
             ∙ ap (λ c. literals_text (zipped task.labels task.atoms c)) (sym h.cube_is) ∙ ap literals_text (sym (cube_zipped task cube));
       }
 
-  pub order_refused : is_ordered ≡ false → IsCubeRefused task at text (record { code = OUT_OF_FORM; at = 0 })
+  pub order_refused : ordered ≡ false → IsValueRefused task at Literals text (record { code = OUT_OF_FORM; at = 0 })
   order_refused e =
       let down : is_increasing (atom_numbers task h.literals) ≡ false = sym h.order_is ∙ e in record {
-        literals = h.literals;
-        proper = h.proper;
-        spelled = h.spelled;
-        wrong = rw (h.right, down) refl;
+        value = h.literals;
+        right = h.proper;
+        text_is = h.text_is;
+        wrong = rw (h.clean, down) refl;
       }
 
-literal_refused : (task : Task) (at : ℕ) (text : List ℕ) (refused : Refused) → IsLiteralRefused task at text refused → IsCubeRefused task at text refused
-literal_refused task at text refused h = record { literals = h.literals; proper = h.proper; spelled = h.spelled; wrong = rw h.wrong refl }
+literal_refused : (task : Task) (at : ℕ) (text : List ℕ) (refused : Refused) → IsLiteralRefused task at text refused → IsValueRefused task at Literals text refused
+literal_refused task at text refused h = record { value = h.literals; right = h.proper; text_is = h.text_is; wrong = rw h.wrong refl }
 
-pub literal_error : (task : Task) (at : ℕ) (text : List ℕ) (error : LineError) → LineRefuses (IsLiteralRefused task at text) error → LineRefuses (IsCubeRefused task at text) error
+pub literal_error : (task : Task) (at : ℕ) (text : List ℕ) (error : LineError) → LineRefuses (IsLiteralRefused task at text) error → LineRefuses (IsValueRefused task at Literals text) error
 literal_error task at text (RefusedLine code byte) h = literal_refused task at text (record { code = code; at = byte }) h
 literal_error task at text NoMemory h = tt

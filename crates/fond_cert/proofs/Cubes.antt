@@ -8,12 +8,11 @@ use Rattle.fond_text.specs.declared.atom.Atom.{Atom}
 use Rattle.fond_task.specs.declared.task.Task.{Task}
 use Rattle.fond_task.specs.Texts.{atom_text}
 use Rattle.fond_task.specs.Numbers.{atom_number}
-use Rattle.fond_form.specs.Lines.{IsGroup, group_text, WrittenLiteral, sign_text, literal_pieces}
-use Rattle.fond_form.specs.Parts.{IsGroupText, HasNoLiteral, AreLiterals, literal_text}
+use Rattle.fond_form.specs.Lines.{IsGroup, group_text, WrittenLiteral, sign_text, literal_text}
+use Rattle.fond_form.specs.Parts.{IsGroupText, HasNoLiteral, AreLiterals}
 use Rattle.fond_cert.specs.declared.code.TheConstants.{UNKNOWN_ATOM}
-use Rattle.fond_cert.specs.Words.{unknown, refused_or, first_refused, atom_numbers, is_increasing}
+use Rattle.fond_cert.specs.Words.{unknown, refused_or, literals_refusal, atom_numbers, is_increasing}
 use Rattle.fond_cert.specs.Checked.{with_literal, cube_of, IsCubeAt, IsLiteralRefused, rises}
-use Rattle.fond_form.proofs.Literals.{spelled}
 use Rattle.fond_form.proofs.Nexts.{NextLiteral, next_literal, no_literal_left, sign_long}
 
 -- whether numbers rise, the first of them above the one before
@@ -47,7 +46,7 @@ pub record LeftLiterals (task : Task) (at : ℕ) (text rest : List ℕ) (cube : 
   pub left_is : rest ≡ flat_map literal_text left
   pub short : length rest ≤ length text
   pub long : length cube ≡ length task.atoms
-  pub refusal : first_refused task at (literal_pieces whole) ≡ first_refused task (at + (length text - length rest)) (literal_pieces left)
+  pub refusal : literals_refusal task at whole ≡ literals_refusal task (at + (length text - length rest)) left
   pub cube_is : cube_of task (replicate (length task.atoms) None) whole ≡ cube_of task cube left
   pub order_is : is_increasing (atom_numbers task whole) ≡ (is_ordered && rises_from last (atom_numbers task left))
 
@@ -82,20 +81,19 @@ module _ (task : Task) (at : ℕ) (text rest : List ℕ) (cube : List (Option Bo
   rest_long = omega (arith, ap length read.1, length-append (sign_text sign) (atom ++ further), sign_long sign, length-append atom further)
 
   over_literal : (found : Option ℕ) → found ≡ atom_number task atom →
-      first_refused task p (literal_pieces h.left) ≡ refused_or (unknown 2 found) (p + 2) (first_refused task (p + 2 + length atom) (literal_pieces next.more))
+      literals_refusal task p h.left ≡ refused_or (unknown 2 found) (p + 2) (literals_refusal task (p + 2 + length atom) next.more)
   over_literal found e =
-      let there : p + 1 + length (sign_text next.first.sign) ≡ p + 2 = omega (arith, sign_long next.first.sign) in
+      let past : p + length (literal_text next.first) ≡ p + 2 + length atom = omega (arith, sign_long next.first.sign, length-append (sign_text next.first.sign) (group_text next.first.leaves), ap length next.atom_is) in
       let same : atom_number task (group_text next.first.leaves) ≡ found = ap (λ t. atom_number task t) (sym next.atom_is) ∙ sym e in
-      ap (λ l. first_refused task p (literal_pieces l)) next.left_is
-      ∙ ap (λ q. refused_or (unknown 2 (atom_number task (group_text next.first.leaves))) q (first_refused task (q + length (group_text next.first.leaves)) (literal_pieces next.more))) there
-      ∙ ap (λ c. refused_or (unknown 2 c) (p + 2) (first_refused task (p + 2 + length (group_text next.first.leaves)) (literal_pieces next.more))) same
-      ∙ ap (λ t. refused_or (unknown 2 found) (p + 2) (first_refused task (p + 2 + length t) (literal_pieces next.more))) (sym next.atom_is)
+      ap (λ l. literals_refusal task p l) next.left_is
+      ∙ ap (λ c. refused_or (unknown 2 c) (p + 2) (literals_refusal task (p + length (literal_text next.first)) next.more)) same
+      ∙ ap (λ q. refused_or (unknown 2 found) (p + 2) (literals_refusal task q next.more)) past
 
   pub one_refused : atom_number task atom ≡ None → IsLiteralRefused task at text (record { code = UNKNOWN_ATOM; at = at + (length text - length rest) + 2 })
   one_refused none = record {
     literals = h.whole;
     proper = h.whole_right;
-    spelled = h.whole_is ∙ spelled h.whole;
+    text_is = h.whole_is;
     wrong = h.refusal ∙ over_literal None (sym none);
   }
 
@@ -117,7 +115,7 @@ module _ (task : Task) (at : ℕ) (text rest : List ℕ) (cube : List (Option Bo
         left_is = next.behind_is;
         short = omega (arith, rest_long, h.short);
         long = length-set cube number (Some sign) ∙ h.long;
-        refusal = h.refusal ∙ over_literal (Some number) some ∙ ap (λ q. first_refused task q (literal_pieces next.more)) past;
+        refusal = h.refusal ∙ over_literal (Some number) some ∙ ap (λ q. literals_refusal task q next.more) past;
         cube_is =
             h.cube_is ∙ ap (λ l. cube_of task cube l) next.left_is
             ∙ ap (λ n. cube_of task (with_literal cube n next.first.sign) next.more) named
@@ -134,8 +132,8 @@ all_read task at text rest cube last is_ordered h none =
     let end = no_literal_left h.left rest h.left_right none h.left_is in record {
       literals = h.whole;
       proper = h.whole_right;
-      spelled = h.whole_is ∙ spelled h.whole;
-      right = h.refusal ∙ ap (λ l. first_refused task (at + (length text - length rest)) (literal_pieces l)) end;
+      text_is = h.whole_is;
+      clean = h.refusal ∙ ap (λ l. literals_refusal task (at + (length text - length rest)) l) end;
       cube_is = sym (h.cube_is ∙ ap (λ l. cube_of task cube l) end);
       order_is = sym (h.order_is ∙ ap (λ l. is_ordered && rises_from last (atom_numbers task l)) end ∙ and_true is_ordered);
     }

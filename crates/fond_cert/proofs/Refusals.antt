@@ -1,82 +1,79 @@
--- Refusals of lines, piece by piece.
-use Rattle.std.proofs.Common.{Result, Ok, Err, IfErr, IsErrAnd, subst, sym, ◌≡◌, ℕ, ◌+◌, ◌≤◌, ◌<◌, nat_lt, Bool, true, false, List, [], ◌∷◌, ◌++◌, Option, Some, None, length, if◌then◌else◌, refl, ap, ◌∙◌, arith, length-append}
-use Rattle.std.specs.List.{flat_map}
-use Rattle.std.specs.Str.Parse.{digits_value}
-use Rattle.std.proofs.lemmas.Bool.Decides.{nat_tests}
+-- The bytes of refusals, and errors that are handed on.
+use Rattle.std.proofs.Common.{Result, Ok, Err, IfErr, IsErrAnd, subst, sym, ◌≡◌, ℕ, ◌+◌, ◌≤◌, Bool, true, false, List, [], ◌∷◌, ◌++◌, Option, Some, None, length, ap, arith, length-append}
 use Rattle.fond_task.specs.declared.task.Task.{Task}
-use Rattle.fond_form.specs.Lines.{WrittenLine, Piece, Below, piece_text, line_pieces, line_text}
-use Rattle.fond_cert.specs.declared.code.TheConstants.{TOO_LARGE}
-use Rattle.fond_cert.specs.Words.{Refused, piece_code, refused_or, first_refused, refusal_or_order, is_ordered, line_refusal}
+use Rattle.fond_form.specs.declared.table.Sort.{Sort}
+use Rattle.fond_form.specs.declared.table.Sort.TheVariants.{Nothing, Action, Short, Long, Target, Shorts, Targets, Literals}
+use Rattle.fond_form.specs.Lines.{spaced, group_text, sign_text, WrittenLiteral, literal_text, literals_text}
+use Rattle.fond_form.specs.Forms.{Field, text_of, form, Value, value_text, Values, fields_text, Line, line_text}
+use Rattle.fond_form.proofs.Nexts.{sign_long}
+use Rattle.fond_cert.specs.Words.{Refused, or_else, refused_or, words_refusal, literals_refusal, value_refusal, values_refusal, are_ordered, refusal_or_order, line_refusal}
 
-is_below : (value bound : ℕ) → value < bound → nat_lt value bound ≡ true
-is_below value bound h = grind (arith, nat_tests)
+abbrev at_of : Option Refused → ℕ
+at_of None = 0
+at_of (Some refused) = refused.at
 
-is_above : (value bound : ℕ) → bound ≤ value → nat_lt value bound ≡ false
-is_above value bound h = grind (arith, nat_tests)
+-- a refusal at a byte below a bound, or one that follows and is
+code_within : (code : Option ℕ) (at bound : ℕ) (more : Option Refused) (refused : Refused) → at ≤ bound → (more ≡ Some refused → refused.at ≤ bound) → refused_or code at more ≡ Some refused → refused.at ≤ bound
+code_within (Some code) at bound more refused le further e = let same : at ≡ refused.at = ap at_of e in omega (arith, same, le)
+code_within None at bound more refused le further e = further e
 
-pub below_right : (task : Task) (bound : ℕ) (digits : List ℕ) → digits_value 10 digits < bound → piece_code task (Below bound digits) ≡ None
-below_right task bound digits h = ap (λ v. if v then None else Some TOO_LARGE) (is_below (digits_value 10 digits) bound h)
+or_within : (first more : Option Refused) (bound : ℕ) (refused : Refused) → (first ≡ Some refused → refused.at ≤ bound) → (more ≡ Some refused → refused.at ≤ bound) → or_else first more ≡ Some refused → refused.at ≤ bound
+or_within (Some found) more bound refused here further e = here e
+or_within None more bound refused here further e = further e
 
-pub below_wrong : (task : Task) (bound : ℕ) (digits : List ℕ) → bound ≤ digits_value 10 digits → piece_code task (Below bound digits) ≡ Some TOO_LARGE
-below_wrong task bound digits h = ap (λ v. if v then None else Some TOO_LARGE) (is_above (digits_value 10 digits) bound h)
+no_more : (refused : Refused) (bound : ℕ) → None ≡ Some refused → refused.at ≤ bound
+no_more refused bound e = absurd (cc)
 
-over_right : (task : Task) (at : ℕ) (piece : Piece) (pieces more : List Piece) (code : Option ℕ) → piece_code task piece ≡ code →
-    (first_refused task (at + length (piece_text piece)) pieces ≡ None →
-    first_refused task (at + length (piece_text piece)) (pieces ++ more) ≡ first_refused task (at + length (piece_text piece) + length (flat_map piece_text pieces)) more) →
-    refused_or code at (first_refused task (at + length (piece_text piece)) pieces) ≡ None →
-    refused_or code at (first_refused task (at + length (piece_text piece)) (pieces ++ more)) ≡ first_refused task (at + length (flat_map piece_text (piece ∷ pieces))) more
-over_right task at piece pieces more (Some code) f onward e = absurd (cc)
-over_right task at piece pieces more None f onward e =
-    let there : at + length (piece_text piece) + length (flat_map piece_text pieces) ≡ at + length (flat_map piece_text (piece ∷ pieces)) = omega (arith, length-append (piece_text piece) (flat_map piece_text pieces)) in
-    onward e ∙ ap (λ p. first_refused task p more) there
+words_within : (code : List ℕ → Option ℕ) (at : ℕ) (words : List (List ℕ)) (refused : Refused) → words_refusal code at words ≡ Some refused → refused.at ≤ at + length (spaced words)
+words_within code at [] refused e = absurd (cc)
+words_within code at (word ∷ words) refused e =
+    let long = length-append word (spaced words) in
+    code_within (code word) (at + 1) (at + length (spaced (word ∷ words))) (words_refusal code (at + 1 + length word) words) refused (omega (arith, long))
+    (λ f. let h = words_within code (at + 1 + length word) words refused f in omega (arith, h, long)) e
 
--- pieces of which the first are not refused are refused as the others are
-pub behind_right : (task : Task) (at : ℕ) (pieces more : List Piece) → first_refused task at pieces ≡ None → first_refused task at (pieces ++ more) ≡ first_refused task (at + length (flat_map piece_text pieces)) more
-behind_right task at [] more e = ap (λ p. first_refused task p more) (omega arith)
-behind_right task at (piece ∷ pieces) more e = over_right task at piece pieces more (piece_code task piece) refl (behind_right task (at + length (piece_text piece)) pieces more) e
+literal_long : (literal : WrittenLiteral) → length (literal_text literal) ≡ 2 + length (group_text literal.leaves)
+literal_long literal = omega (arith, sign_long literal.sign, length-append (sign_text literal.sign) (group_text literal.leaves))
 
-over_wrong : (task : Task) (at : ℕ) (piece : Piece) (pieces more : List Piece) (refused : Refused) (code : Option ℕ) →
-    (first_refused task (at + length (piece_text piece)) pieces ≡ Some refused → first_refused task (at + length (piece_text piece)) (pieces ++ more) ≡ Some refused) →
-    refused_or code at (first_refused task (at + length (piece_text piece)) pieces) ≡ Some refused →
-    refused_or code at (first_refused task (at + length (piece_text piece)) (pieces ++ more)) ≡ Some refused
-over_wrong task at piece pieces more refused (Some code) onward e = e
-over_wrong task at piece pieces more refused None onward e = onward e
+literals_within : (task : Task) (at : ℕ) (literals : List WrittenLiteral) (refused : Refused) → literals_refusal task at literals ≡ Some refused → refused.at ≤ at + length (literals_text literals)
+literals_within task at [] refused e = absurd (cc)
+literals_within task at (literal ∷ literals) refused e =
+    let long = length-append (literal_text literal) (literals_text literals) in
+    let own = literal_long literal in
+    code_within _ (at + 2) (at + length (literals_text (literal ∷ literals))) (literals_refusal task (at + length (literal_text literal)) literals) refused (omega (arith, long, own))
+    (λ f. let h = literals_within task (at + length (literal_text literal)) literals refused f in omega (arith, h, long)) e
 
--- a refusal of the first pieces is one of them all
-pub among_first : (task : Task) (at : ℕ) (pieces more : List Piece) (refused : Refused) → first_refused task at pieces ≡ Some refused → first_refused task at (pieces ++ more) ≡ Some refused
-among_first task at [] more refused e = absurd (cc)
-among_first task at (piece ∷ pieces) more refused e = over_wrong task at piece pieces more refused (piece_code task piece) (among_first task (at + length (piece_text piece)) pieces more refused) e
+value_within : (task : Task) (at : ℕ) (sort : Sort) (value : Value sort) (refused : Refused) → value_refusal task at sort value ≡ Some refused → refused.at ≤ at + length (value_text sort value)
+value_within task at Nothing value refused e = absurd (cc)
+value_within task at Action value refused e = code_within _ at (at + length (group_text value)) None refused (omega arith) (no_more refused (at + length (group_text value))) e
+value_within task at Short value refused e = code_within _ at (at + length value) None refused (omega arith) (no_more refused (at + length value)) e
+value_within task at Long value refused e = code_within _ at (at + length value) None refused (omega arith) (no_more refused (at + length value)) e
+value_within task at Target value refused e = code_within _ at (at + length value) None refused (omega arith) (no_more refused (at + length value)) e
+value_within task at Shorts value refused e = words_within _ at value refused e
+value_within task at Targets value refused e = words_within _ at value refused e
+value_within task at Literals value refused e = literals_within task at value refused e
 
-over_within : (task : Task) (at : ℕ) (piece : Piece) (pieces : List Piece) (refused : Refused) (code : Option ℕ) →
-    (first_refused task (at + length (piece_text piece)) pieces ≡ Some refused → refused.at ≤ at + length (piece_text piece) + length (flat_map piece_text pieces)) →
-    refused_or code at (first_refused task (at + length (piece_text piece)) pieces) ≡ Some refused → refused.at ≤ at + length (flat_map piece_text (piece ∷ pieces))
-over_within task at piece pieces refused (Some code) onward e =
-    let same : at ≡ refused.at = ap at_of e in
-    omega (arith, same)
-  where
-    at_of : Option Refused → ℕ
-    at_of None = 0
-    at_of (Some found) = found.at
-over_within task at piece pieces refused None onward e = omega (arith, onward e, length-append (piece_text piece) (flat_map piece_text pieces))
-
-within : (task : Task) (at : ℕ) (pieces : List Piece) (refused : Refused) → first_refused task at pieces ≡ Some refused → refused.at ≤ at + length (flat_map piece_text pieces)
-within task at [] refused e = absurd (cc)
-within task at (piece ∷ pieces) refused e = over_within task at piece pieces refused (piece_code task piece) (within task (at + length (piece_text piece)) pieces refused) e
+values_within : (task : Task) (at : ℕ) (fields : List Field) (values : Values fields) (refused : Refused) → values_refusal task at fields values ≡ Some refused → refused.at ≤ at + length (fields_text fields values)
+values_within task at [] values refused e = absurd (cc)
+values_within task at (field ∷ fields) values refused e =
+    let start = at + length (text_of field.0) in
+    let own = value_text field.1 values.0 in
+    let rest = fields_text fields values.1 in
+    let long = length-append (text_of field.0) (own ++ rest) in
+    let own_long = length-append own rest in
+    or_within (value_refusal task start field.1 values.0) (values_refusal task (start + length own) fields values.1) (at + length (fields_text (field ∷ fields) values)) refused
+    (λ f. let h = value_within task start field.1 values.0 refused f in omega (arith, h, long, own_long))
+    (λ f. let h = values_within task (start + length own) fields values.1 refused f in omega (arith, h, long, own_long)) e
 
 order_within : (first : Option Refused) (ordered : Bool) (refused : Refused) (bound : ℕ) → (first ≡ Some refused → refused.at ≤ bound) → refusal_or_order first ordered ≡ Some refused → refused.at ≤ bound
 order_within (Some found) ordered refused bound h e = h e
 order_within None true refused bound h e = absurd (cc)
 order_within None false refused bound h e = let same : 0 ≡ refused.at = ap at_of e in omega (arith, same)
-  where
-    at_of : Option Refused → ℕ
-    at_of None = 0
-    at_of (Some found) = found.at
 
 -- the byte of a refusal is within its line
-pub refusal_within : (task : Task) (line : WrittenLine) (refused : Refused) → line_refusal task line ≡ Some refused → refused.at ≤ length (line_text line)
+pub refusal_within : (task : Task) (line : Line) (refused : Refused) → line_refusal task line ≡ Some refused → refused.at ≤ length (line_text line)
 refusal_within task line refused e =
-    order_within (first_refused task 0 (line_pieces line)) (is_ordered task line) refused (length (line_text line))
-    (λ first. let h = within task 0 (line_pieces line) refused first in omega (arith, h)) e
+    order_within (values_refusal task 0 (form line.kind) line.values) (are_ordered task (form line.kind) line.values) refused (length (line_text line))
+    (λ first. let h = values_within task 0 (form line.kind) line.values refused first in omega (arith, h)) e
 
 -- an error that a call hands on has what it had
 pub handed_on : {T E : Type 0} (r : Result T E) (error : E) (P : E → Type 0) → IsErrAnd r (λ e. e ≡ error) → P error → IfErr r P

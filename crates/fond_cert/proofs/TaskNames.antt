@@ -24,7 +24,7 @@ use Rattle.fond_form.specs.Lines.{is_plain_byte, IsPlainLeaf, IsGroup, group_tex
 use Rattle.fond_cert.specs.Spellings.{atom_leaves, action_leaves, act_leaves}
 use Rattle.fond_cert.proofs.Acts.{no_act, leaves_text as action_leaves_text}
 use Rattle.fond_cert.proofs.CubeTexts.{no_atom, leaves_text}
-use Rattle.fond_form.proofs.SameLines.{same_group}
+use Rattle.fond_form.proofs.Sames.{same_group}
 
 plain_by : (b : ℕ) (capital : Bool) → nat_le 65 b && nat_le b 90 ≡ capital → cond capital (b + 32) b ≡ b → not capital ≡ true
 plain_by b true is same = absurd (omega (arith, same))

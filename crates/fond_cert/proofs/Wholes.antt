@@ -1,9 +1,7 @@
 -- Texts that were read line by line.
-use Rattle.std.proofs.Common.{◌≡◌, ◌≢◌, inl, inr, ℕ, ◌+◌, ◌-◌, ◌≤◌, ◌<◌, ◌^◌, List, [], ◌∷◌, ◌++◌, All, Option, Some, None, length, map, codes, refl, sym, ap, ◌∙◌, subst, arith, length-append, append_assoc}
+use Rattle.std.proofs.Common.{◌≡◌, ◌≢◌, inl, inr, ℕ, ◌+◌, ◌-◌, ◌≤◌, ◌<◌, ◌^◌, List, [], ◌∷◌, ◌++◌, All, Option, Some, None, length, map, codes, refl, sym, ap, ◌∙◌, subst, arith, length-append}
 use Rattle.std.specs.List.{flat_map}
 use Rattle.std.specs.Prelude.{IfSome, slice_get}
-use Rattle.std.specs.Fmt.{decimal}
-use Rattle.std.proofs.lemmas.Grind.{flat_map-append}
 use Rattle.std.proofs.lemmas.List.{append-nil}
 use Rattle.std.proofs.lemmas.List.Elements.{All-nil}
 use Rattle.std.proofs.lemmas.Option.{get_or_from_slice_get, slice_get_within}
@@ -16,73 +14,34 @@ use Rattle.fond_cert.specs.declared.due.Due.{Due}
 use Rattle.fond_cert.specs.declared.error.CertError.{CertError}
 use Rattle.fond_cert.specs.declared.error.LineError.{LineError}
 use Rattle.fond_cert.specs.declared.error.LineError.TheVariants.{Refused as RefusedLine, NoMemory}
-use Rattle.fond_form.specs.declared.line.Line.{Line}
-use Rattle.fond_form.specs.declared.line.Line.TheVariants.{PolicyHeader as CutPolicy, RefusalHeader as CutRefusal, CoverHeader as CutCover, Layer, Cube, Pair, FairRule as CutFair, UnfairRule as CutUnfair, Reach, GoalItem as CutGoal, RuleItem as CutItem, Start, End}
+use Rattle.fond_form.specs.declared.table.LineKind.{LineKind}
+use Rattle.fond_form.specs.Forms.{form, HasForm, Line, line_text}
 use Rattle.fond_policy.specs.declared.cert.Cert.{Cert}
 use Rattle.fond_policy.specs.declared.cert.Cert.TheVariants.{Policy, Refusal, Covered}
 use Rattle.fond_policy.specs.Belongs.{Belongs, BelongAsLayers, BelongAsPairs, BelongAsRules, BelongAsItems}
-use Rattle.fond_form.specs.Cutting.{IsLineOf, IsCutOf}
 use Rattle.fond_cert.specs.Made.{IsRefusedBy}
 use Rattle.fond_cert.specs.Drafts.{all_layers, draft_lines, opened, last_lines, IsDraftOf, header, HasLayersAlone, IsWholeOf, FitsDue}
 use Rattle.fond_cert.specs.declared.due.Evidence.TheVariants.{Reach as ByReach, Cover as ByCover}
 use Rattle.fond_cert.specs.declared.due.Kind.{Kind}
 use Rattle.fond_cert.specs.declared.due.Kind.TheVariants.{Policy as OfPolicy, Refusal as OfRefusal}
 use Rattle.fond_cert.specs.declared.due.Due.TheVariants.{Header as HeaderDue, Nothing as NothingDue}
-use Rattle.fond_cert.specs.Faults.{due_after, Lead, IsRefusedLine, IsRefusedAt, IsCertFault}
+use Rattle.fond_cert.specs.Faults.{due_after, HasNoForm, Lead, IsRefusedLine, IsRefusedAt, IsCertFault}
 use Rattle.fond_form.specs.Feeds.{HasNoFeed}
 use Rattle.fond_cert.specs.Items.{IsReadPair, IsReadRule, IsReadItem}
-use Rattle.fond_form.specs.Lines.{WrittenLine, PolicyHeader, RefusalHeader, CoverHeader, ReachLine, EndLine, line_text}
 use Rattle.fond_cert.specs.Progress.{IsReady, IsTaken, IsWhole, cert_by, cert_of, IsPlaced}
 use Rattle.fond_cert.specs.Refusals.{LineRefuses, CertRefuses}
-use Rattle.fond_cert.specs.Spellings.{layer_lines, pair_line, rule_line, item_line, lines_text, spelling}
+use Rattle.fond_cert.specs.Spellings.{spelled_line, layer_lines, pair_line, rule_line, item_line, reach_line, end_line, lines_text, spelling}
 use Rattle.fond_policy.specs.Sizes.{HasSmallNumbers}
-use Rattle.fond_cert.specs.Stages.{like}
 use Rattle.fond_cert.specs.Words.{Refused}
-use Rattle.fond_cert.proofs.Dues.{like_due}
-use Rattle.fond_cert.proofs.FairRules.{fair_text}
-use Rattle.fond_cert.proofs.ItemLines.{rule_item_text}
-use Rattle.fond_cert.proofs.Pairs.{pair_text}
+use Rattle.fond_cert.proofs.Leads.{lead_more, lines_append, text_more, nothing_allowed}
 use Rattle.fond_cert.proofs.Refusals.{refusal_within}
 use Rattle.fond_cert.proofs.Steps.{step, grow5}
-use Rattle.fond_cert.proofs.UnfairRules.{unfair_text}
-
--- a line that is cut has one text
-pub same_text : (line : Line) (w v : WrittenLine) → IsLineOf line w → IsLineOf line v → line_text w ≡ line_text v
-same_text CutPolicy w v h k = ap line_text (h ∙ sym k)
-same_text CutRefusal w v h k = ap line_text (h ∙ sym k)
-same_text CutCover w v h k = ap line_text (h ∙ sym k)
-same_text Layer w v h k = ap line_text (h ∙ sym k)
-same_text (Cube literals) w v h k = ap line_text h.1 ∙ ap (λ t. codes "cube" ++ t) (sym h.2 ∙ k.2) ∙ ap line_text (sym k.1)
-same_text (Pair action outcome layer cube literals) w v h k = ap line_text h.2 ∙ pair_text h.0 k.0 _ _ _ _ _ _ h.1 k.1 (sym h.3 ∙ k.3) refl refl refl (sym h.4 ∙ k.4) ∙ ap line_text (sym k.2)
-same_text (CutFair action outcome target literals) w v h k =
-    ap line_text h.3 ∙ fair_text h.0 k.0 _ _ h.1 k.1 h.2 k.2 (sym h.4 ∙ k.4) refl (sym h.5 ∙ k.5) (sym h.6 ∙ k.6) ∙ ap line_text (sym k.3)
-same_text (CutUnfair action targets literals) w v h k =
-    ap line_text h.3 ∙ unfair_text h.0 k.0 h.1 k.1 h.2 k.2 (sym h.4 ∙ k.4) (sym h.5 ∙ k.5) (sym h.6 ∙ k.6) ∙ ap line_text (sym k.3)
-same_text (Reach count) w v h k = ap line_text (h.0 ∙ sym k.0)
-same_text (CutGoal literals) w v h k = ap line_text h.1 ∙ ap (λ t. codes "item goal :" ++ t) (sym h.2 ∙ k.2) ∙ ap line_text (sym k.1)
-same_text (CutItem rule items literals) w v h k =
-    ap line_text h.2 ∙ rule_item_text rule.text.now rule.text.now h.0 k.0 h.1 k.1 refl (sym h.3 ∙ k.3) (sym h.4 ∙ k.4) ∙ ap line_text (sym k.2)
-same_text (Start item) w v h k = ap line_text (h.0 ∙ sym k.0)
-same_text End w v h k = ap line_text (h ∙ sym k)
-
-pub lead_more : (task : Task) (lines more : List WrittenLine) (due between end : Due) → Lead task due lines between → Lead task between more end → Lead task due (lines ++ more) end
-lead_more task [] more due between end h k = rw (sym h) k
-lead_more task (line ∷ lines) more due between end h k = (h.0, h.1, (h.2.0, h.2.1, lead_more task lines more h.2.0 between end h.2.2 k))
-
-pub lines_append : (lines more : List WrittenLine) → lines_text (lines ++ more) ≡ lines_text lines ++ lines_text more
-lines_append lines more = flat_map-append (λ (line : WrittenLine). line_text line ++ codes "\n") lines more
-
--- the text of lines with one more, followed by a rest
-text_more : (lines : List WrittenLine) (line : WrittenLine) (further : List ℕ) → lines_text lines ++ (line_text line ++ (codes "\n" ++ further)) ≡ lines_text (lines ++ (line ∷ [])) ++ further
-text_more lines line further =
-    ap (λ t. lines_text lines ++ t) (sym (append_assoc (line_text line) (codes "\n") further) ∙ ap (λ t. t ++ further) (sym (append-nil (line_text line ++ codes "\n"))))
-    ∙ sym (append_assoc (lines_text lines) (lines_text (line ∷ [])) further)
-    ∙ ap (λ t. t ++ further) (sym (lines_append lines (line ∷ [])))
+use Rattle.fond_form.proofs.Apart.{same_kind}
 
 -- the lines before a rest, and the draft that they make
 pub record IsReadTo (task : Task) (text rest : List ℕ) (due : Due) (draft : Draft) : Type 0 where
-  pub lines : List WrittenLine
-  pub own : List WrittenLine
+  pub lines : List Line
+  pub own : List Line
   pub lead : Lead task HeaderDue lines due
   pub split : text ≡ lines_text lines ++ rest
   pub same : lines_text lines ≡ lines_text own
@@ -124,20 +83,20 @@ rest_short task text rest due draft h = omega (arith, ap length h.split, length-
 pub one_more_line : (task : Task) (text rest piece further : List ℕ) (due next : Due) (before after : Draft) → IsReadTo task text rest due before → rest ≡ piece ++ (codes "\n" ++ further) →
     IsTaken task due before piece next after → IsReadTo task text further next after
 one_more_line task text rest piece further due next before after h e taken =
-    let line = taken.0 in
-    let cut = taken.1 in
-    let s = step task due next before after h.own h.fits h.belongs line taken.2 taken.3 in
-    let w = s.made.written in
-    let piece_is : piece ≡ line_text w = cut.3 ∙ same_text line cut.0 w cut.2 s.made.cut in record {
+    let kind = taken.0 in
+    let m = taken.2.0 in
+    let made = taken.2.1 in
+    let own = spelled_line task kind m in
+    let s = step task due next before after h.own h.fits h.belongs kind m taken.1 made.of taken.2.2 in
+    let w : Line = record { kind = kind; values = made.values } in
+    let same : line_text w ≡ line_text own = sym made.text_is ∙ made.same in record {
       lines = h.lines ++ (w ∷ []);
-      own = h.own ++ (s.own ∷ []);
-      lead =
-          lead_more task h.lines (w ∷ []) HeaderDue due next h.lead
-          (s.made.proper, s.made.right, (next, like_due due line w s.made.cut ∙ taken.2, refl));
-      split = h.split ∙ ap (λ t. lines_text h.lines ++ t) (e ∙ ap (λ t. t ++ (codes "\n" ++ further)) piece_is) ∙ text_more h.lines w further;
+      own = h.own ++ (own ∷ []);
+      lead = lead_more task h.lines (w ∷ []) HeaderDue due next h.lead (made.right, made.clean, (next, taken.1, refl));
+      split = h.split ∙ ap (λ t. lines_text h.lines ++ t) (e ∙ ap (λ t. t ++ (codes "\n" ++ further)) made.text_is) ∙ text_more h.lines w further;
       same =
           lines_append h.lines (w ∷ []) ∙ ap (λ t. t ++ lines_text (w ∷ [])) h.same
-          ∙ ap (λ t. lines_text h.own ++ ((t ++ codes "\n") ++ [])) s.made.same ∙ sym (lines_append h.own (s.own ∷ []));
+          ∙ ap (λ t. lines_text h.own ++ ((t ++ codes "\n") ++ [])) same ∙ sym (lines_append h.own (own ∷ []));
       fits = s.fits;
       belongs = s.draft;
     }
@@ -167,16 +126,13 @@ pub within_rest : (task : Task) (rest piece further : List ℕ) (due : Due) (err
 within_rest task rest piece further due NoMemory e h = tt
 within_rest task rest piece further due (RefusedLine code at) e h = omega (arith, line_within task due piece code at h, ap length e, length-append piece (codes "\n" ++ further))
 
-pub nothing_allowed : (line : WrittenLine) (next : Due) → ¬ due_after NothingDue line ≡ Some next
-nothing_allowed line next e = absurd (cc)
-
 some_bytes : (rest piece further : List ℕ) → rest ≡ piece ++ (codes "\n" ++ further) → rest ≢ []
 some_bytes rest piece further e f = omega (arith, ap length e, ap length f, length-append piece (codes "\n" ++ further))
 
 refused_line : (task : Task) (due : Due) (rest piece further : List ℕ) (code at : ℕ) → HasNoFeed piece → rest ≡ piece ++ (codes "\n" ++ further) → IsRefusedLine task due piece code at →
     IsRefusedAt task due rest code at
 refused_line task NothingDue rest piece further code at whole e (inl h) = (some_bytes rest piece further e, h.1, h.2)
-refused_line task NothingDue rest piece further code at whole e (inr h) = absurd (nothing_allowed h.0 h.1 h.3)
+refused_line task NothingDue rest piece further code at whole e (inr h) = absurd (nothing_allowed h.0.kind h.1 h.3)
 refused_line task due rest piece further code at whole e h = inr (piece, further, e, whole, h)
 
 pub line_fault : (task : Task) (text rest piece further : List ℕ) (due : Due) (draft : Draft) (error : LineError) (result : CertError) → IsReadTo task text rest due draft → HasNoFeed piece →
@@ -218,7 +174,7 @@ module _ (task : Task) (text : List ℕ) (draft : Draft) (belongs : IsDraftOf ta
     targeted = λ k d lt. (belongs.rules k d lt).2;
   }
 
-  abbrev layers_text : List WrittenLine
+  abbrev layers_text : List Line
   layers_text = flat_map (layer_lines task) draft.layers
 
   item_at : (number : ℕ) (item : Item) → slice_get draft.items number ≡ Some item → IsReadItem task item
@@ -232,29 +188,29 @@ module _ (task : Task) (text : List ℕ) (draft : Draft) (belongs : IsDraftOf ta
   }
 
   -- the lines of a draft and the end line, if its reach number and its start number are these
-  ended : (reach start : Option ℕ) → draft.reach ≡ reach → draft.start ≡ start → draft_lines task draft ++ (EndLine ∷ [])
-      ≡ layers_text ++ (map (pair_line task) draft.pairs ++ (map (rule_line task) draft.rules ++ (map (item_line task) draft.items ++ (last_lines reach start ++ (EndLine ∷ [])))))
+  ended : (reach start : Option ℕ) → draft.reach ≡ reach → draft.start ≡ start → draft_lines task draft ++ (end_line task ∷ [])
+      ≡ layers_text ++ (map (pair_line task) draft.pairs ++ (map (rule_line task) draft.rules ++ (map (item_line task) draft.items ++ (last_lines task reach start ++ (end_line task ∷ [])))))
   ended reach start e f =
       rw (e, f, layers_are)
-      (sym (grow5 layers_text (map (pair_line task) draft.pairs) (map (rule_line task) draft.rules) (map (item_line task) draft.items) (last_lines reach start) (EndLine ∷ [])))
+      (sym (grow5 layers_text (map (pair_line task) draft.pairs) (map (rule_line task) draft.rules) (map (item_line task) draft.items) (last_lines task reach start) (end_line task ∷ [])))
 
-  refusal_lines : HasLayersAlone draft → draft_lines task draft ++ (EndLine ∷ []) ≡ layers_text ++ (EndLine ∷ [])
-  refusal_lines h = rw (h.0, h.1, h.2.0, h.2.1.0, h.2.1.1, layers_are) (ap (λ t. t ++ (EndLine ∷ [])) (append-nil layers_text))
+  refusal_lines : HasLayersAlone draft → draft_lines task draft ++ (end_line task ∷ []) ≡ layers_text ++ (end_line task ∷ [])
+  refusal_lines h = rw (h.0, h.1, h.2.0, h.2.1.0, h.2.1.1, layers_are) (ap (λ t. t ++ (end_line task ∷ [])) (append-nil layers_text))
 
   -- a certificate is read, and its numbers are small
   abbrev IsRead : Cert → Type 0
   IsRead cert = Belongs task cert × (text ≡ spelling task cert) × HasSmallNumbers cert
 
-  read_by : (kind : Kind) → IsWholeOf kind draft → text ≡ lines_text (header kind ∷ (draft_lines task draft ++ (EndLine ∷ []))) → IsRead (cert_of draft)
+  read_by : (kind : Kind) → IsWholeOf kind draft → text ≡ lines_text (header task kind ∷ (draft_lines task draft ++ (end_line task ∷ []))) → IsRead (cert_of draft)
   read_by (OfPolicy ByReach) h is =
       let cert : cert_of draft ≡ Policy draft.layers draft.pairs draft.rules h.0 = ap (λ r. cert_by draft r draft.start) h.1 in
-      let lines = ap (λ l. lines_text (PolicyHeader ∷ l)) (ended (Some h.0) None h.1 h.3) in
-      let without = ap (λ (l : List Item). lines_text (PolicyHeader ∷ (layers_text ++ (map (pair_line task) draft.pairs ++ (map (rule_line task) draft.rules ++ (map (item_line task) l ++ (ReachLine (decimal h.0) ∷ EndLine ∷ []))))))) h.2 in
+      let lines = ap (λ l. lines_text (header task (OfPolicy ByReach) ∷ l)) (ended (Some h.0) None h.1 h.3) in
+      let without = ap (λ (l : List Item). lines_text (header task (OfPolicy ByReach) ∷ (layers_text ++ (map (pair_line task) draft.pairs ++ (map (rule_line task) draft.rules ++ (map (item_line task) l ++ (reach_line task h.0 ∷ end_line task ∷ []))))))) h.2 in
       subst IsRead (sym cert)
       ((as_layers, as_pairs, as_rules), is ∙ lines ∙ without, ((λ k d lt. (belongs.pairs k d lt).2), (λ k d lt. (belongs.rules k d lt).3), subst (λ (r : Option ℕ). IfSome r (λ n. n < 2 ^ 64)) h.1 belongs.reach))
   read_by (OfPolicy ByCover) h is =
       let cert : cert_of draft ≡ Covered draft.layers draft.pairs draft.rules draft.items h.0 = ap (λ r. cert_by draft r draft.start) h.2 ∙ ap (λ s. cert_by draft None s) h.1 in
-      let lines = ap (λ l. lines_text (CoverHeader ∷ l)) (ended None (Some h.0) h.2 h.1) in
+      let lines = ap (λ l. lines_text (header task (OfPolicy ByCover) ∷ l)) (ended None (Some h.0) h.2 h.1) in
       subst IsRead (sym cert) (
         (as_layers, as_pairs, as_rules, as_items),
         is ∙ lines,
@@ -262,7 +218,7 @@ module _ (task : Task) (text : List ℕ) (draft : Draft) (belongs : IsDraftOf ta
       )
   read_by OfRefusal h is =
       let cert : cert_of draft ≡ Refusal draft.layers = ap (λ r. cert_by draft r draft.start) h.2.1.0 ∙ ap (λ s. cert_by draft None s) h.2.1.1 in
-      subst IsRead (sym cert) (as_layers, is ∙ ap (λ l. lines_text (RefusalHeader ∷ l)) (refusal_lines h), tt)
+      subst IsRead (sym cert) (as_layers, is ∙ ap (λ l. lines_text (header task OfRefusal ∷ l)) (refusal_lines h), tt)
 
   read : IsRead (cert_of draft)
   read = read_by whole.1.0 whole.1.1 whole.1.2
@@ -273,9 +229,15 @@ module _ (task : Task) (text : List ℕ) (draft : Draft) (belongs : IsDraftOf ta
   pub cert_read : Belongs task (cert_of draft) × (text ≡ spelling task (cert_of draft))
   cert_read = (read.0, read.1)
 
--- refusals of a line that is cut
-pub cut_refused : (task : Task) (due next : Due) (piece : List ℕ) (line : Line) (error : LineError) → IsCutOf piece line → due_after due (like line) ≡ Some next →
-    LineRefuses (IsRefusedBy task line) error → LineRefuses (λ (refused : Refused). IsRefusedLine task due piece refused.code refused.at) error
-cut_refused task due next piece line (RefusedLine code at) cut e h =
-    inr (h.written, next, h.proper, like_due due line h.written h.cut ∙ e, cut.3 ∙ same_text line cut.0 h.written cut.2 h.cut, h.wrong)
-cut_refused task due next piece line NoMemory cut e h = tt
+-- a text of a kind that is not allowed has no form
+pub not_allowed : (due : Due) (piece : List ℕ) (kind : LineKind) → HasForm (form kind) piece → due_after due kind ≡ None → HasNoForm due piece
+not_allowed due piece kind has none line next proper allowed e =
+    let same : line.kind ≡ kind = same_kind line kind proper (has.0, has.1, sym e ∙ has.2) in
+    let clash : Some next ≡ None = sym allowed ∙ ap (due_after due) same ∙ none in
+    absurd (cc)
+
+-- refusals of a line of a kind
+pub line_refused : (task : Task) (due next : Due) (piece : List ℕ) (kind : LineKind) (error : LineError) → due_after due kind ≡ Some next → LineRefuses (IsRefusedBy task kind piece) error →
+    LineRefuses (λ (refused : Refused). IsRefusedLine task due piece refused.code refused.at) error
+line_refused task due next piece kind (RefusedLine code at) e h = inr (record { kind = kind; values = h.values }, next, h.right, e, h.text_is, h.wrong)
+line_refused task due next piece kind NoMemory e h = tt

@@ -1,53 +1,66 @@
--- What is read from the parts of a line, and which of its parts is refused.
-use Rattle.std.specs.Prelude.{◌≡◌, ℕ, ◌<◌, ◌≤◌, ◌^◌, nat_lt, Bool, true, List, Option, Some, None, All, length, map, replicate, slice_set, [], ◌∷◌}
-use Rattle.std.specs.List.{flat_map}
+-- What is read from the value of a field, and how it is refused.
+use Rattle.std.specs.Prelude.{◌≡◌, ℕ, ◌<◌, ◌^◌, nat_lt, Bool, true, List, Option, Some, None, length, replicate, slice_set, [], ◌∷◌}
 use Rattle.std.specs.Fmt.{decimal}
 use Rattle.std.specs.Str.Parse.{digits_value}
 use Rattle.fond_task.specs.declared.task.Task.{Task}
-use Rattle.fond_task.specs.Numbers.{act_number, atom_number}
-use Rattle.fond_game.specs.declared.rule.Target.{Target}
-use Rattle.fond_cert.specs.declared.code.TheConstants.{UNKNOWN_ACTION, TOO_LARGE}
-use Rattle.fond_cert.specs.declared.error.LineError.{LineError}
-use Rattle.fond_cert.specs.declared.error.LineError.TheVariants.{Refused as RefusedLine}
-use Rattle.fond_form.specs.declared.part.Part.{Part}
-use Rattle.fond_form.specs.Cutting.{literals_text}
-use Rattle.fond_form.specs.Lines.{IsGroup, group_text, spaced, is_number, WrittenTarget, IsProperTarget, WrittenLiteral, AreProper, piece_text, target_piece, target_pieces, number_pieces, literal_pieces}
-use Rattle.fond_form.specs.Parts.{AreWords, as_target}
-use Rattle.fond_policy.specs.Sizes.{IsSmallTarget}
-use Rattle.fond_cert.specs.Spellings.{written_target, written_cube}
-use Rattle.fond_cert.specs.Words.{Refused, piece_code, first_refused, atom_numbers, is_increasing, refusal_or_order}
+use Rattle.fond_task.specs.Numbers.{atom_number}
+use Rattle.fond_cert.specs.declared.values.LineValues.{LineValues}
+use Rattle.fond_form.specs.declared.table.Sort.{Sort}
+use Rattle.fond_form.specs.Lines.{group_text, WrittenLiteral, AreProper, literals_text}
+use Rattle.fond_form.specs.Forms.{Field, Value, IsRight, value_text, Values, AreRight, fields_text}
+use Rattle.fond_cert.specs.Filled.{with_meaning, with_meanings}
+use Rattle.fond_cert.specs.Spellings.{Meaning, spelled, IsOfTask, Meanings, all_spelled, AreOfTask}
+use Rattle.fond_cert.specs.Words.{Refused, value_refusal, is_ordered, refusal_or_order, fields_refusal, literals_refusal, atom_numbers, is_increasing}
 
--- targets are read from a text that begins at this byte of a line, and none of them is refused
-pub record AreTargetsAt (task : Task) (at : ℕ) (text : List ℕ) (targets : List Target) : Type 0 where
-  pub written : List WrittenTarget
-  pub proper : All IsProperTarget written
-  pub spelled : text ≡ flat_map piece_text (target_pieces written)
-  pub right : first_refused task at (target_pieces written) ≡ None
-  pub named : written ≡ map written_target targets
-  pub small : All IsSmallTarget targets
+-- a text is that of a right value of a sort
+abbrev pub IsValueText : Sort → List ℕ → Type 0
+IsValueText sort text = (value : Value sort) × IsRight sort value × (text ≡ value_text sort value)
 
--- a text of targets that begins at this byte of a line has this first refusal
-pub record IsTargetRefused (task : Task) (at : ℕ) (text : List ℕ) (refused : Refused) : Type 0 where
-  pub written : List WrittenTarget
-  pub proper : All IsProperTarget written
-  pub spelled : text ≡ flat_map piece_text (target_pieces written)
-  pub wrong : first_refused task at (target_pieces written) ≡ Some refused
+-- a meaning is read from the text of a value that begins at this byte of a line: the value is not refused, the meaning belongs to the
+-- task, and the value that spells it has this text
+pub record Means (task : Task) (at : ℕ) (sort : Sort) (text : List ℕ) (meaning : Meaning sort) : Type 0 where
+  pub value : Value sort
+  pub right : IsRight sort value
+  pub text_is : text ≡ value_text sort value
+  pub clean : value_refusal task at sort value ≡ None
+  pub ordered : is_ordered task sort value ≡ true
+  pub of : IsOfTask task sort meaning
+  pub same : text ≡ value_text sort (spelled task sort meaning)
 
--- numbers are read from a text that begins at this byte of a line, and none of them is refused
-pub record AreNumbersAt (task : Task) (at : ℕ) (text : List ℕ) (numbers : List ℕ) : Type 0 where
-  pub written : List (List ℕ)
-  pub proper : AreWords is_number written
-  pub spelled : text ≡ spaced written
-  pub right : first_refused task at (number_pieces written) ≡ None
-  pub named : written ≡ map decimal numbers
-  pub small : All (λ number. number < 2 ^ 32) numbers
+-- the text of a value that begins at this byte of a line has this refusal, by the value or by the order of its atoms
+pub record IsValueRefused (task : Task) (at : ℕ) (sort : Sort) (text : List ℕ) (refused : Refused) : Type 0 where
+  pub value : Value sort
+  pub right : IsRight sort value
+  pub text_is : text ≡ value_text sort value
+  pub wrong : refusal_or_order (value_refusal task at sort value) (is_ordered task sort value) ≡ Some refused
 
--- a text of numbers that begins at this byte of a line has this first refusal, that of one of its numbers
-pub record IsOneNumberRefused (task : Task) (at : ℕ) (text : List ℕ) (refused : Refused) : Type 0 where
-  pub written : List (List ℕ)
-  pub proper : AreWords is_number written
-  pub spelled : text ≡ spaced written
-  pub wrong : first_refused task at (number_pieces written) ≡ Some refused
+-- values of a line are read with that of one more field
+abbrev pub IsFilled : Task → ℕ → Sort → List ℕ → LineValues → LineValues → Type 0
+IsFilled task at sort text before after = (meaning : Meaning sort) × Means task at sort text meaning × (after ≡ with_meaning before sort meaning)
+
+-- meanings are read from the text of fields that begins at this byte of a line
+pub record AllMean (task : Task) (at : ℕ) (fields : List Field) (text : List ℕ) (meanings : Meanings fields) : Type 0 where
+  pub values : Values fields
+  pub right : AreRight fields values
+  pub text_is : text ≡ fields_text fields values
+  pub clean : fields_refusal task at fields values ≡ None
+  pub of : AreOfTask task fields meanings
+  pub same : text ≡ fields_text fields (all_spelled task fields meanings)
+
+-- values of a line are read with those of further fields
+abbrev pub AreFilled : Task → ℕ → List Field → List ℕ → LineValues → LineValues → Type 0
+AreFilled task at fields text before after = (meanings : Meanings fields) × AllMean task at fields text meanings × (after ≡ with_meanings before fields meanings)
+
+-- the text of fields that begins at this byte of a line has this refusal
+pub record AreFieldsRefused (task : Task) (at : ℕ) (fields : List Field) (text : List ℕ) (refused : Refused) : Type 0 where
+  pub values : Values fields
+  pub right : AreRight fields values
+  pub text_is : text ≡ fields_text fields values
+  pub wrong : fields_refusal task at fields values ≡ Some refused
+
+-- a number is read from its digits: it is below 2^32
+abbrev pub ReadsNumber : List ℕ → ℕ → Type 0
+ReadsNumber digits number = (digits_value 10 digits < 2 ^ 32) × (digits ≡ decimal number) × (number < 2 ^ 32)
 
 -- a cube with a literal of an atom, or unchanged if the task does not have the atom
 abbrev pub with_literal : List (Option Bool) → Option ℕ → Bool → List (Option Bool)
@@ -61,68 +74,22 @@ cube_of task cube (literal ∷ literals) = cube_of task (with_literal cube (atom
 
 -- a cube is read from a text of literals that begins at this byte of a line, none of which is refused, together with
 -- whether their atoms strictly increase
-pub record IsCubeAt (task : Task) (at : ℕ) (text : List ℕ) (cube : List (Option Bool)) (is_ordered : Bool) : Type 0 where
+pub record IsCubeAt (task : Task) (at : ℕ) (text : List ℕ) (cube : List (Option Bool)) (ordered : Bool) : Type 0 where
   pub literals : List WrittenLiteral
-  pub proper : All (λ literal. IsGroup literal.leaves) literals
-  pub spelled : text ≡ flat_map piece_text (literal_pieces literals)
-  pub right : first_refused task at (literal_pieces literals) ≡ None
+  pub proper : AreProper literals
+  pub text_is : text ≡ literals_text literals
+  pub clean : literals_refusal task at literals ≡ None
   pub cube_is : cube ≡ cube_of task (replicate (length task.atoms) None) literals
-  pub order_is : is_ordered ≡ is_increasing (atom_numbers task literals)
+  pub order_is : ordered ≡ is_increasing (atom_numbers task literals)
 
 -- a text of literals that begins at this byte of a line has this first refusal
 pub record IsLiteralRefused (task : Task) (at : ℕ) (text : List ℕ) (refused : Refused) : Type 0 where
   pub literals : List WrittenLiteral
-  pub proper : All (λ literal. IsGroup literal.leaves) literals
-  pub spelled : text ≡ flat_map piece_text (literal_pieces literals)
-  pub wrong : first_refused task at (literal_pieces literals) ≡ Some refused
+  pub proper : AreProper literals
+  pub text_is : text ≡ literals_text literals
+  pub wrong : literals_refusal task at literals ≡ Some refused
 
 -- whether a number is greater than the one before it, if there is one
 abbrev pub rises : Option ℕ → ℕ → Bool
 rises None number = true
 rises (Some last) number = nat_lt last number
-
--- the refusal of literals that begin at this byte of a line: by the first atom that the task does not have, or else by
--- their order
-abbrev pub cube_refusal : Task → ℕ → List WrittenLiteral → Option Refused
-cube_refusal task at literals = refusal_or_order (first_refused task at (literal_pieces literals)) (is_increasing (atom_numbers task literals))
-
--- a cube is read from a text of literals that begins at this byte of a line and is not refused: it is over the atoms of
--- the task, and its literals have this text
-pub record ReadsCube (task : Task) (at : ℕ) (text : List ℕ) (cube : List (Option Bool)) : Type 0 where
-  pub literals : List WrittenLiteral
-  pub proper : AreProper literals
-  pub spelled : text ≡ literals_text literals
-  pub right : cube_refusal task at literals ≡ None
-  pub long : length cube ≡ length task.atoms
-  pub same : literals_text literals ≡ literals_text (written_cube task cube)
-
--- a text of literals that begins at this byte of a line has this refusal
-pub record IsCubeRefused (task : Task) (at : ℕ) (text : List ℕ) (refused : Refused) : Type 0 where
-  pub literals : List WrittenLiteral
-  pub proper : AreProper literals
-  pub spelled : text ≡ literals_text literals
-  pub wrong : cube_refusal task at literals ≡ Some refused
-
--- an action is read: the task has it under this number
-abbrev pub ReadsAct : Task → List ℕ → ℕ → Type 0
-ReadsAct task text act = act_number task text ≡ Some act
-
--- an error is the refusal of an action that the task does not have
-abbrev pub IsActRefused : Task → Part → LineError → Type 0
-IsActRefused task action error = (act_number task action.text.now ≡ None) × (error ≡ RefusedLine UNKNOWN_ACTION action.at)
-
--- a number below 2^32 is read from its digits
-abbrev pub ReadsNumber : List ℕ → ℕ → Type 0
-ReadsNumber digits number = (digits_value 10 digits < 2 ^ 32) × (digits ≡ decimal number) × (number < 2 ^ 32)
-
--- an error is the refusal of a number of 2^32 or more
-abbrev pub IsNumberRefused : Part → LineError → Type 0
-IsNumberRefused digits error = (2 ^ 32 ≤ digits_value 10 digits.text.now) × (error ≡ RefusedLine TOO_LARGE digits.at)
-
--- a target is read from its word
-abbrev pub ReadsTarget : List ℕ → Target → Type 0
-ReadsTarget word target = ((task : Task) → piece_code task (target_piece (as_target word)) ≡ None) × (as_target word ≡ written_target target) × IsSmallTarget target
-
--- an error is the refusal of a target whose number is 2^32 or more
-abbrev pub IsTargetTooLarge : Part → LineError → Type 0
-IsTargetTooLarge word error = ((task : Task) → piece_code task (target_piece (as_target word.text.now)) ≡ Some TOO_LARGE) × (error ≡ RefusedLine TOO_LARGE word.at)

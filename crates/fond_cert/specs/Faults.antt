@@ -2,7 +2,9 @@
 use Rattle.std.specs.Prelude.{◌≡◌, ◌≢◌, ◌⊎◌, ℕ, ◌+◌, ◌^◌, nat_lt, if◌then◌else◌, List, [], ◌∷◌, ◌++◌, Option, Some, None, length, codes}
 use Rattle.fond_cert.specs.declared.code.TheConstants.{OUT_OF_FORM}
 use Rattle.fond_task.specs.declared.task.Task.{Task}
-use Rattle.fond_form.specs.Lines.{WrittenLine, PolicyHeader, RefusalHeader, CoverHeader, LayerLine, CubeLine, PairLine, FairRule, UnfairRule, ReachLine, GoalItem, RuleItem, StartLine, EndLine, line_text, IsProper}
+use Rattle.fond_form.specs.declared.table.LineKind.{LineKind}
+use Rattle.fond_form.specs.declared.table.LineKind.TheVariants as k
+use Rattle.fond_form.specs.Forms.{Line, line_text, IsProper}
 use Rattle.fond_form.specs.Feeds.{HasNoFeed}
 use Rattle.fond_cert.specs.declared.due.Evidence.{Evidence}
 use Rattle.fond_cert.specs.declared.due.Evidence.TheVariants.{Reach as ByReach, Cover as ByCover}
@@ -17,64 +19,64 @@ use Rattle.fond_cert.specs.Spellings.{lines_text}
 abbrev pub if_few : ℕ → Due → Option Due
 if_few count due = if nat_lt count (2 ^ 32) then Some due else None
 
--- what is due after a line that may follow the rules of a policy
-abbrev pub after_rules : Evidence → WrittenLine → Option Due
-after_rules ByReach (ReachLine count) = Some EndDue
-after_rules ByCover (GoalItem literals) = Some (ItemsDue 1)
-after_rules ByCover (RuleItem rule items literals) = Some (ItemsDue 1)
-after_rules ByCover (StartLine item) = Some EndDue
-after_rules evidence line = None
+-- what is due after a line of a kind that may follow the rules of a policy
+abbrev pub after_rules : Evidence → LineKind → Option Due
+after_rules ByReach k.Reach = Some EndDue
+after_rules ByCover k.GoalItem = Some (ItemsDue 1)
+after_rules ByCover k.RuleItem = Some (ItemsDue 1)
+after_rules ByCover k.Start = Some EndDue
+after_rules evidence kind = None
 
--- what is due after a line that may follow the layers or a pair of a policy
-abbrev pub after_pairs : Evidence → WrittenLine → Option Due
-after_pairs evidence (PairLine action outcome layer cube literals) = Some (PairsDue evidence)
-after_pairs evidence (FairRule action outcome target literals) = Some (RulesDue evidence 1)
-after_pairs evidence (UnfairRule action targets literals) = Some (RulesDue evidence 1)
-after_pairs evidence line = after_rules evidence line
+-- what is due after a line of a kind that may follow the layers or a pair of a policy
+abbrev pub after_pairs : Evidence → LineKind → Option Due
+after_pairs evidence k.Pair = Some (PairsDue evidence)
+after_pairs evidence k.FairRule = Some (RulesDue evidence 1)
+after_pairs evidence k.UnfairRule = Some (RulesDue evidence 1)
+after_pairs evidence kind = after_rules evidence kind
 
--- what is due after a line that may follow the layers of a certificate
-abbrev pub after_layers : Kind → WrittenLine → Option Due
-after_layers (OfPolicy evidence) line = after_pairs evidence line
-after_layers OfRefusal EndLine = Some NothingDue
-after_layers OfRefusal line = None
+-- what is due after a line of a kind that may follow the layers of a certificate
+abbrev pub after_layers : Kind → LineKind → Option Due
+after_layers (OfPolicy evidence) kind = after_pairs evidence kind
+after_layers OfRefusal k.End = Some NothingDue
+after_layers OfRefusal kind = None
 
--- what is due after a line, if the line is allowed at its place
-abbrev pub due_after : Due → WrittenLine → Option Due
-due_after HeaderDue PolicyHeader = Some (LayersDue (OfPolicy ByReach))
-due_after HeaderDue CoverHeader = Some (LayersDue (OfPolicy ByCover))
-due_after HeaderDue RefusalHeader = Some (LayersDue OfRefusal)
-due_after (LayersDue kind) LayerLine = Some (CubesDue kind 1 0)
-due_after (LayersDue kind) line = after_layers kind line
-due_after (CubesDue kind layers cubes) LayerLine = if_few (layers + 1) (CubesDue kind (layers + 1) 0)
-due_after (CubesDue kind layers cubes) (CubeLine literals) = if_few (cubes + 1) (CubesDue kind layers (cubes + 1))
-due_after (CubesDue kind layers cubes) line = after_layers kind line
-due_after (PairsDue evidence) line = after_pairs evidence line
-due_after (RulesDue evidence rules) (FairRule action outcome target literals) = if_few (rules + 1) (RulesDue evidence (rules + 1))
-due_after (RulesDue evidence rules) (UnfairRule action targets literals) = if_few (rules + 1) (RulesDue evidence (rules + 1))
-due_after (RulesDue evidence rules) line = after_rules evidence line
-due_after (ItemsDue items) (GoalItem literals) = if_few (items + 1) (ItemsDue (items + 1))
-due_after (ItemsDue items) (RuleItem rule numbers literals) = if_few (items + 1) (ItemsDue (items + 1))
-due_after (ItemsDue items) line = after_rules ByCover line
-due_after EndDue EndLine = Some NothingDue
-due_after due line = None
+-- what is due after a line of a kind, if it is allowed at its place
+abbrev pub due_after : Due → LineKind → Option Due
+due_after HeaderDue k.PolicyHeader = Some (LayersDue (OfPolicy ByReach))
+due_after HeaderDue k.CoverHeader = Some (LayersDue (OfPolicy ByCover))
+due_after HeaderDue k.RefusalHeader = Some (LayersDue OfRefusal)
+due_after (LayersDue cert) k.Layer = Some (CubesDue cert 1 0)
+due_after (LayersDue cert) kind = after_layers cert kind
+due_after (CubesDue cert layers cubes) k.Layer = if_few (layers + 1) (CubesDue cert (layers + 1) 0)
+due_after (CubesDue cert layers cubes) k.Cube = if_few (cubes + 1) (CubesDue cert layers (cubes + 1))
+due_after (CubesDue cert layers cubes) kind = after_layers cert kind
+due_after (PairsDue evidence) kind = after_pairs evidence kind
+due_after (RulesDue evidence rules) k.FairRule = if_few (rules + 1) (RulesDue evidence (rules + 1))
+due_after (RulesDue evidence rules) k.UnfairRule = if_few (rules + 1) (RulesDue evidence (rules + 1))
+due_after (RulesDue evidence rules) kind = after_rules evidence kind
+due_after (ItemsDue items) k.GoalItem = if_few (items + 1) (ItemsDue (items + 1))
+due_after (ItemsDue items) k.RuleItem = if_few (items + 1) (ItemsDue (items + 1))
+due_after (ItemsDue items) kind = after_rules ByCover kind
+due_after EndDue k.End = Some NothingDue
+due_after due kind = None
 
 -- lines lead from what is due before them to what is due after them: each is proper, allowed at its place and not
 -- refused
-abbrev pub Lead : Task → Due → List WrittenLine → Due → Type 0
+abbrev pub Lead : Task → Due → List Line → Due → Type 0
 Lead task due [] end = end ≡ due
 Lead task due (line ∷ lines) end =
-    IsProper line × (line_refusal task line ≡ None) × ((next : Due) × (due_after due line ≡ Some next) × Lead task next lines end)
+    IsProper line × (line_refusal task line ≡ None) × ((next : Due) × (due_after due line.kind ≡ Some next) × Lead task next lines end)
 
 -- a piece of text has no form of a line that is allowed at its place
 abbrev pub HasNoForm : Due → List ℕ → Type 0
-HasNoForm due piece = (line : WrittenLine) (next : Due) → IsProper line → due_after due line ≡ Some next → piece ≢ line_text line
+HasNoForm due piece = (line : Line) (next : Due) → IsProper line → due_after due line.kind ≡ Some next → piece ≢ line_text line
 
 -- a line is refused with a code at one of its bytes: as out of form at the first if it has no allowed form, or else by
 -- its words or the order of its atoms
 abbrev pub IsRefusedLine : Task → Due → List ℕ → ℕ → ℕ → Type 0
 IsRefusedLine task due piece code at =
     (HasNoForm due piece × (code ≡ OUT_OF_FORM) × (at ≡ 0))
-    ⊎ ((line : WrittenLine) × (next : Due) × IsProper line × (due_after due line ≡ Some next) × (piece ≡ line_text line)
+    ⊎ ((line : Line) × (next : Due) × IsProper line × (due_after due line.kind ≡ Some next) × (piece ≡ line_text line)
     × (line_refusal task line ≡ Some (record { code = code; at = at })))
 
 -- the rest of a text is refused if a line is due: as out of form at its beginning if it has no line feed, or else by its
@@ -91,7 +93,7 @@ IsRefusedAt task due rest code at = IsRefusedRest task due rest code at
 
 -- a text has a fault at a byte: after lines that are right, the rest is refused there
 pub record IsCertFault (task : Task) (text : List ℕ) (code byte : ℕ) : Type 0 where
-  pub lines : List WrittenLine
+  pub lines : List Line
   pub due : Due
   pub lead : Lead task HeaderDue lines due
   pub rest : List ℕ

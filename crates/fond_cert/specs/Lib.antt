@@ -1,11 +1,12 @@
 pub mod Words
 pub mod Spellings
+pub mod Filled
 pub mod Faults
 pub mod Refusals
 pub mod Checked
 pub mod Made
 pub mod Items
-pub mod Stages
+pub mod Counts
 pub mod Drafts
 pub mod Progress
 pub mod Printed

@@ -15,9 +15,9 @@ use Rattle.fond_game.specs.declared.rule.Rule.{Rule}
 use Rattle.fond_cover.specs.declared.item.Item.{Item}
 use Rattle.fond_cover.specs.declared.item.Way.{Way}
 use Rattle.fond_cover.specs.declared.item.Way.TheVariants.{Goal as ToGoal, Rule as ByRule}
-use Rattle.fond_form.specs.Cutting.{target_text, targets_text, literals_text}
-use Rattle.fond_form.specs.Lines.{group_text, spaced, WrittenLine, ReachLine, StartLine, line_text, sign_text}
-use Rattle.fond_cert.specs.Spellings.{act_leaves, written_target, written_cube, layer_lines, lines_text}
+use Rattle.fond_form.specs.Lines.{group_text, spaced, sign_text, literals_text}
+use Rattle.fond_form.specs.Forms.{Line, line_text}
+use Rattle.fond_cert.specs.Spellings.{act_leaves, target_word, written_cube, layer_lines, lines_text}
 
 -- the text of an atom's literal, if there is one
 abbrev pub atom_literal_text : Labels → Atom → Option Bool → List ℕ
@@ -29,13 +29,13 @@ abbrev pub cube_text : Task → CubeView → List ℕ
 cube_text task cube = flat_map (λ item. atom_literal_text task.labels item.1 (literal_at cube item.0)) (enumerate_from 0 task.atoms)
 
 -- the text of a line with its line feed
-abbrev pub fed : WrittenLine → List ℕ
+abbrev pub fed : Line → List ℕ
 fed line = line_text line ++ codes "\n"
 
 -- the text of the targets of a rule, after its action
 abbrev pub chosen_text : Targets → List ℕ
-chosen_text (One outcome target) = codes " fair " ++ (decimal outcome ++ (codes " " ++ target_text (written_target target)))
-chosen_text (All targets) = codes " unfair" ++ targets_text (map written_target targets)
+chosen_text (One outcome target) = codes " fair " ++ (decimal outcome ++ (codes " " ++ target_word target))
+chosen_text (All targets) = codes " unfair" ++ spaced (map target_word targets)
 
 -- the text of the numbers of a pair, each after a space
 abbrev pub places_text : Pair → List ℕ
@@ -70,14 +70,22 @@ item_text task item = codes "item " ++ (way_text item.way ++ cond_text task item
 abbrev pub plan_text : Task → List (List CubeView) → List Pair → List Rule → List ℕ
 plan_text task layers pairs rules = flat_map (layer_text task) layers ++ (flat_map (pair_text task) pairs ++ flat_map (rule_text task) rules)
 
+-- the text of the reach line
+abbrev pub reach_text : ℕ → List ℕ
+reach_text reach = codes "reach " ++ (decimal reach ++ codes "\n")
+
+-- the text of the start line
+abbrev pub start_text : ℕ → List ℕ
+start_text start = codes "start " ++ (decimal start ++ codes "\n")
+
 -- the text of a policy with a reach number, part by part
 abbrev pub policy_text : Task → List (List CubeView) → List Pair → List Rule → ℕ → List ℕ
 policy_text task layers pairs rules reach =
-    codes "dualfond 1 policy\n" ++ (plan_text task layers pairs rules ++ (fed (ReachLine (decimal reach)) ++ codes "end\n"))
+    codes "dualfond 1 policy\n" ++ (plan_text task layers pairs rules ++ (reach_text reach ++ codes "end\n"))
 
 -- the text of items and the start line
 abbrev pub items_text : Task → List Item → ℕ → List ℕ
-items_text task items start = flat_map (item_text task) items ++ fed (StartLine (decimal start))
+items_text task items start = flat_map (item_text task) items ++ start_text start
 
 -- the text of a policy with a cover, part by part
 abbrev pub cover_text : Task → List (List CubeView) → List Pair → List Rule → List Item → ℕ → List ℕ

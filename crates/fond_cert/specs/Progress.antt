@@ -9,27 +9,25 @@ use Rattle.fond_cert.specs.declared.error.CertError.{CertError}
 use Rattle.fond_cert.specs.declared.error.CertError.TheVariants.{Refused as RefusedText, NoMemory as WithoutMemory}
 use Rattle.fond_cert.specs.declared.error.LineError.{LineError}
 use Rattle.fond_cert.specs.declared.error.LineError.TheVariants.{Refused as RefusedLine, NoMemory}
-use Rattle.fond_form.specs.declared.line.Line.{Line}
-use Rattle.fond_form.specs.Cutting.{IsCutOf}
+use Rattle.fond_form.specs.declared.table.LineKind.{LineKind}
+use Rattle.fond_form.specs.Forms.{Line}
 use Rattle.fond_cert.specs.Drafts.{draft_lines, IsDraftOf, IsGrown, header, IsWholeOf, FitsDue}
 use Rattle.fond_cert.specs.declared.due.Kind.{Kind}
 use Rattle.fond_cert.specs.Faults.{due_after}
-use Rattle.fond_form.specs.Lines.{WrittenLine, EndLine}
-use Rattle.fond_cert.specs.Spellings.{lines_text}
-use Rattle.fond_cert.specs.Stages.{like}
+use Rattle.fond_cert.specs.Spellings.{end_line, lines_text}
 
 -- a draft belongs to a task and fits what is due
 abbrev pub IsReady : Task → Due → Draft → Type 0
-IsReady task due draft = IsDraftOf task draft × ((lines : List WrittenLine) × FitsDue task due draft lines)
+IsReady task due draft = IsDraftOf task draft × ((lines : List Line) × FitsDue task due draft lines)
 
 -- a piece of text is a line that is allowed, and makes one draft of another
 abbrev pub IsTaken : Task → Due → Draft → List ℕ → Due → Draft → Type 0
 IsTaken task due before piece next after =
-    (line : Line) × IsCutOf piece line × (due_after due (like line) ≡ Some next) × IsGrown task line before after
+    (kind : LineKind) × (due_after due kind ≡ Some next) × IsGrown task kind piece before after
 
 -- a text is that of a draft to which nothing is missing
 abbrev pub IsWhole : Task → List ℕ → Draft → Type 0
-IsWhole task text draft = (draft.current ≡ None) × ((kind : Kind) × IsWholeOf kind draft × (text ≡ lines_text (header kind ∷ (draft_lines task draft ++ EndLine ∷ []))))
+IsWhole task text draft = (draft.current ≡ None) × ((kind : Kind) × IsWholeOf kind draft × (text ≡ lines_text (header task kind ∷ (draft_lines task draft ++ end_line task ∷ []))))
 
 -- the certificate of a draft with this reach number, or else with this start number, or else the refusal
 abbrev pub cert_by : Draft → Option ℕ → Option ℕ → Cert

@@ -1,188 +1,96 @@
-//! What the lines of a certificate make. The parts of a line are looked up from left to right; the order of its atoms
-//! comes last. Each call takes time in the length of the line and in the number of the task's atoms, and memory for what
-//! it makes.
+//! What the values of a line make. No call takes memory.
 
-ghost use Rattle.fond_cert.specs.Checked.{ReadsAct, IsActRefused};
-ghost use Rattle.fond_form.specs.Cutting.{IsRightCut};
-ghost use Rattle.fond_cert.specs.Made.{IsMade, IsRefusedBy};
-ghost use Rattle.fond_cert.specs.Items.{IsReadPair, IsReadRule, IsReadItem};
-ghost use Rattle.fond_cert.specs.Refusals.{LineRefuses};
-ghost use Rattle.fond_form.specs.Lines.{CubeLine, ReachLine, StartLine};
-ghost use Rattle.fond_cert.specs.Spellings.{written_cube, pair_line, rule_line, item_line};
-ghost use Rattle.fond_form.specs.declared.line.Line.TheVariants.{Cube as CubeParts, Reach as ReachParts, Pair as PairParts, FairRule as FairParts, UnfairRule as UnfairParts, GoalItem as GoalParts, RuleItem as ItemParts, Start as StartParts};
-ghost use Rattle.std.specs.Fmt.{decimal};
-ghost use Rattle.std.specs.Prelude.{◌≡◌, ◌<◌, ◌^◌, length, IfOk, IfErr};
+ghost use Rattle.fond_cert.specs.Filled.{Hold, pair_of as the_pair, fair_of as the_fair, unfair_of as the_unfair, goal_item_of as the_goal_item, rule_item_of as the_rule_item};
+ghost use Rattle.fond_cert.specs.Spellings.{Meanings, AreOfTask};
+ghost use Rattle.fond_form.specs.Forms.{form};
+ghost use Rattle.fond_form.specs.declared.table.LineKind.TheVariants as k;
+ghost use Rattle.fond_task.specs.declared.task.Task.{Task};
+ghost use Rattle.std.specs.Prelude.{◌≡◌, ◌≢◌, None};
 
-use crate::code::UNKNOWN_ACTION;
-use crate::error::LineError;
-use crate::literal::read_cube;
-use crate::target::{read_item_numbers, read_number, read_target, read_targets, too_large};
+use crate::values::LineValues;
 use fond_cover::item::{Item, Way};
-use fond_form::part::Part;
-use fond_form::word::number;
 use fond_game::rule::{Pair, Rule, Targets};
 use fond_state::cube::Cube;
-use fond_task::task_index::TaskIndex;
 use std::alloc::Global;
 
-/// The number of an action.
-fn read_act(index: &TaskIndex, action: Part) -> Result<u32, LineError>
-    ensures read { IfOk result (ReadsAct index.now action.entry.text.now) }
-    ensures wrong { IfErr result (IsActRefused index.now action.entry) }
+/// The cube of the line.
+pub(crate) fn cube_of(values: &mut LineValues) -> Cube
+    requires { values.old.cube ≢ None }
+    ensures cube { Some result ≡ values.old.cube }
+    ensures rest { values.new ≡ record values.old { cube = None } }
 {
-    match index.act(action.text) {
-        Some(act) => Ok(act),
-        None => Err(LineError::Refused {
-            code: UNKNOWN_ACTION,
-            at: action.at,
-        }),
+    let Some(cube) = values.cube.take() else {
+        unreachable!();
+    };
+    cube
+}
+
+/// The pair of the line.
+pub(crate) fn pair_of(values: &mut LineValues) -> Pair
+    requires { (meanings : Meanings (form k.Pair)) × Hold k.Pair values.old meanings }
+    ensures { (task : Task) (meanings : Meanings (form k.Pair)) → AreOfTask task (form k.Pair) meanings → Hold k.Pair values.old meanings → result ≡ the_pair meanings }
+{
+    Pair {
+        cond: cube_of(values),
+        act: values.act,
+        outcome: values.short(0),
+        layer: values.short(1),
+        cube: values.short(2),
     }
 }
 
-/// The cube of a line, by the line's part.
-pub(crate) fn read_layer_cube(
-    alloc: Global,
-    index: &TaskIndex,
-    literals: Part,
-) -> Result<Cube, LineError>
-    requires { IsRightCut (CubeParts literals) }
-    ensures read { IfOk result (λ cube. (length cube ≡ length index.now.atoms) × IsMade index.now (CubeParts literals.entry) (CubeLine (written_cube index.now cube))) }
-    ensures wrong { IfErr result (LineRefuses (IsRefusedBy index.now (CubeParts literals.entry))) }
+/// The rule of a fair action of the line.
+pub(crate) fn fair_of(values: &mut LineValues) -> Rule
+    requires { (meanings : Meanings (form k.FairRule)) × Hold k.FairRule values.old meanings }
+    ensures { (task : Task) (meanings : Meanings (form k.FairRule)) → AreOfTask task (form k.FairRule) meanings → Hold k.FairRule values.old meanings → result ≡ the_fair meanings }
 {
-    read_cube(alloc, index, literals)
-}
-
-/// The number of the reach line, by the line's part.
-pub(crate) fn read_reach(index: &TaskIndex, count: Part) -> Result<u64, LineError>
-    requires { IsRightCut (ReachParts count) }
-    ensures read { IfOk result (λ reach. IsMade index.now (ReachParts count.entry) (ReachLine (decimal reach))) }
-    ensures small { IfOk result (λ reach. reach < 2 ^ 64) }
-    ensures wrong { IfErr result (LineRefuses (IsRefusedBy index.now (ReachParts count.entry))) }
-{
-    match number(count.text) {
-        Some(reach) => Ok(reach),
-        None => Err(too_large(count)),
+    let cond = cube_of(values);
+    Rule {
+        cond,
+        act: values.act,
+        targets: Targets::One {
+            outcome: values.short(0),
+            target: values.target(),
+        },
     }
 }
 
-/// The number of the start line, by the line's part.
-pub(crate) fn read_start(index: &TaskIndex, item: Part) -> Result<u32, LineError>
-    requires { IsRightCut (StartParts item) }
-    ensures read { IfOk result (λ start. IsMade index.now (StartParts item.entry) (StartLine (decimal start))) }
-    ensures small { IfOk result (λ start. start < 2 ^ 32) }
-    ensures wrong { IfErr result (LineRefuses (IsRefusedBy index.now (StartParts item.entry))) }
+/// The rule of an unfair action of the line.
+pub(crate) fn unfair_of(alloc: Global, values: &mut LineValues) -> Rule
+    requires { (meanings : Meanings (form k.UnfairRule)) × Hold k.UnfairRule values.old meanings }
+    ensures { (task : Task) (meanings : Meanings (form k.UnfairRule)) → AreOfTask task (form k.UnfairRule) meanings → Hold k.UnfairRule values.old meanings → result ≡ the_unfair meanings }
 {
-    read_number(item)
-}
-
-/// The pair of a line, by the line's parts.
-pub(crate) fn read_pair(
-    alloc: Global,
-    index: &TaskIndex,
-    action: Part,
-    outcome: Part,
-    layer: Part,
-    cube: Part,
-    literals: Part,
-) -> Result<Pair, LineError>
-    requires { IsRightCut (PairParts action outcome layer cube literals) }
-    ensures read { IfOk result (λ pair. IsReadPair index.now pair × IsMade index.now (PairParts action.entry outcome.entry layer.entry cube.entry literals.entry) (pair_line index.now pair)) }
-    ensures wrong { IfErr result (LineRefuses (IsRefusedBy index.now (PairParts action.entry outcome.entry layer.entry cube.entry literals.entry))) }
-{
-    let act = read_act(index, action)?;
-    let outcome = read_number(outcome)?;
-    let layer = read_number(layer)?;
-    let cube = read_number(cube)?;
-    let cond = read_cube(alloc, index, literals)?;
-    Ok(Pair {
+    let cond = cube_of(values);
+    Rule {
         cond,
-        act,
-        outcome,
-        layer,
-        cube,
-    })
+        act: values.act,
+        targets: Targets::All(values.take_targets(alloc)),
+    }
 }
 
-/// The rule of a fair action, by the line's parts.
-pub(crate) fn read_fair(
-    alloc: Global,
-    index: &TaskIndex,
-    action: Part,
-    outcome: Part,
-    target: Part,
-    literals: Part,
-) -> Result<Rule, LineError>
-    requires { IsRightCut (FairParts action outcome target literals) }
-    ensures read { IfOk result (λ rule. IsReadRule index.now rule × IsMade index.now (FairParts action.entry outcome.entry target.entry literals.entry) (rule_line index.now rule)) }
-    ensures wrong { IfErr result (LineRefuses (IsRefusedBy index.now (FairParts action.entry outcome.entry target.entry literals.entry))) }
+/// The item of goals of the line.
+pub(crate) fn goal_item_of(values: &mut LineValues) -> Item
+    requires { (meanings : Meanings (form k.GoalItem)) × Hold k.GoalItem values.old meanings }
+    ensures { (task : Task) (meanings : Meanings (form k.GoalItem)) → AreOfTask task (form k.GoalItem) meanings → Hold k.GoalItem values.old meanings → result ≡ the_goal_item meanings }
 {
-    let act = read_act(index, action)?;
-    let outcome = read_number(outcome)?;
-    let target = read_target(target)?;
-    let cond = read_cube(alloc, index, literals)?;
-    Ok(Rule {
-        cond,
-        act,
-        targets: Targets::One { outcome, target },
-    })
-}
-
-/// The rule of an unfair action, by the line's parts.
-pub(crate) fn read_unfair(
-    alloc: Global,
-    index: &TaskIndex,
-    action: Part,
-    targets: Part,
-    literals: Part,
-) -> Result<Rule, LineError>
-    requires { IsRightCut (UnfairParts action targets literals) }
-    ensures read { IfOk result (λ rule. IsReadRule index.now rule × IsMade index.now (UnfairParts action.entry targets.entry literals.entry) (rule_line index.now rule)) }
-    ensures wrong { IfErr result (LineRefuses (IsRefusedBy index.now (UnfairParts action.entry targets.entry literals.entry))) }
-{
-    let act = read_act(index, action)?;
-    let targets = read_targets(alloc, targets)?;
-    let cond = read_cube(alloc, index, literals)?;
-    Ok(Rule {
-        cond,
-        act,
-        targets: Targets::All(targets),
-    })
-}
-
-/// The item of goals of a line, by the line's part.
-pub(crate) fn read_goal_item(
-    alloc: Global,
-    index: &TaskIndex,
-    literals: Part,
-) -> Result<Item, LineError>
-    requires { IsRightCut (GoalParts literals) }
-    ensures read { IfOk result (λ item. IsReadItem index.now item × IsMade index.now (GoalParts literals.entry) (item_line index.now item)) }
-    ensures wrong { IfErr result (LineRefuses (IsRefusedBy index.now (GoalParts literals.entry))) }
-{
-    let cube = read_cube(alloc, index, literals)?;
-    Ok(Item {
-        cube,
+    Item {
+        cube: cube_of(values),
         way: Way::Goal,
-    })
+    }
 }
 
-/// The item with a rule of a line, by the line's parts.
-pub(crate) fn read_rule_item(
-    alloc: Global,
-    index: &TaskIndex,
-    rule: Part,
-    items: Part,
-    literals: Part,
-) -> Result<Item, LineError>
-    requires { IsRightCut (ItemParts rule items literals) }
-    ensures read { IfOk result (λ item. IsReadItem index.now item × IsMade index.now (ItemParts rule.entry items.entry literals.entry) (item_line index.now item)) }
-    ensures wrong { IfErr result (LineRefuses (IsRefusedBy index.now (ItemParts rule.entry items.entry literals.entry))) }
+/// The item with a rule of the line.
+pub(crate) fn rule_item_of(alloc: Global, values: &mut LineValues) -> Item
+    requires { (meanings : Meanings (form k.RuleItem)) × Hold k.RuleItem values.old meanings }
+    ensures { (task : Task) (meanings : Meanings (form k.RuleItem)) → AreOfTask task (form k.RuleItem) meanings → Hold k.RuleItem values.old meanings → result ≡ the_rule_item meanings }
 {
-    let rule = read_number(rule)?;
-    let items = read_item_numbers(alloc, items)?;
-    let cube = read_cube(alloc, index, literals)?;
-    Ok(Item {
+    let cube = cube_of(values);
+    let rule = values.short(0);
+    Item {
         cube,
-        way: Way::Rule { rule, items },
-    })
+        way: Way::Rule {
+            rule,
+            items: values.take_items(alloc),
+        },
+    }
 }

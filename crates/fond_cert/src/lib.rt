@@ -17,6 +17,8 @@ mod place;
 pub mod print;
 mod put;
 pub mod read;
+mod reading;
 mod target;
 pub mod text;
 mod text_sink;
+mod values;

@@ -13,7 +13,7 @@ use crate::due::Due;
 use crate::error::{CertError, LineError};
 use crate::place::next_due;
 use fond_form::feed::line_of;
-use fond_form::form::cut_line;
+use fond_form::form::kind_of;
 use fond_task::task_index::TaskIndex;
 use std::alloc::Global;
 
@@ -35,13 +35,13 @@ fn take(
     ensures taken { IfOk result (λ next. IsTaken index.now due draft.old piece.now next draft.new) }
     ensures wrong { IfErr result (LineRefuses (λ refused. IsRefusedLine index.now due piece.now refused.code refused.at)) }
 {
-    let Some(line) = cut_line(piece) else {
+    let Some(kind) = kind_of(piece) else {
         return Err(FORMLESS);
     };
-    let Some(next) = next_due(due, &line) else {
+    let Some(next) = next_due(due, kind) else {
         return Err(FORMLESS);
     };
-    draft.add(alloc, index, line)?;
+    draft.add(alloc, index, kind, piece)?;
     Ok(next)
 }
 

@@ -1,8 +1,9 @@
 //! Reading the literals of a rule.
 
 ghost use Rattle.fond_cert.specs.Refusals.{LineRefuses};
-ghost use Rattle.fond_cert.specs.Checked.{rises, IsCubeAt, IsLiteralRefused, ReadsCube, IsCubeRefused};
+ghost use Rattle.fond_cert.specs.Checked.{rises, IsCubeAt, IsLiteralRefused, IsValueText, Means, IsValueRefused};
 ghost use Rattle.fond_form.specs.Parts.{AreLiterals};
+ghost use Rattle.fond_form.specs.declared.table.Sort.TheVariants.{Literals as LiteralsSort};
 ghost use Rattle.std.specs.Prelude.{◌≡◌, ◌+◌, ◌<◌, ◌^◌, ◌&&◌, None, Some, length, replicate, slice_set, IfOk, IfErr};
 
 use crate::code::{OUT_OF_FORM, UNKNOWN_ATOM};
@@ -88,9 +89,9 @@ fn read_literals(
 /// The cube of literals. Takes time in the length of their text and in the number of the task's atoms; memory for the
 /// cube.
 pub(crate) fn read_cube(alloc: Global, index: &TaskIndex, literals: Part) -> Result<Cube, LineError>
-    requires { AreLiterals literals.text.now }
-    ensures read { IfOk result (ReadsCube index.now literals.entry.at literals.entry.text.now) }
-    ensures wrong { IfErr result (LineRefuses (IsCubeRefused index.now literals.entry.at literals.entry.text.now)) }
+    requires { IsValueText LiteralsSort literals.text.now }
+    ensures read { IfOk result (Means index.now literals.entry.at LiteralsSort literals.entry.text.now) }
+    ensures wrong { IfErr result (LineRefuses (IsValueRefused index.now literals.entry.at LiteralsSort literals.entry.text.now)) }
 {
     let read = read_literals(alloc, index, literals.text, literals.at)?;
     if read.is_ordered {

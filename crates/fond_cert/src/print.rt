@@ -3,9 +3,8 @@
 
 ghost use Rattle.fond_policy.specs.Belongs.{Belongs};
 ghost use Rattle.fond_cert.specs.Items.{IsPairOf, IsRuleOf};
-ghost use Rattle.fond_form.specs.Lines.{CubeLine, ReachLine, StartLine};
-ghost use Rattle.fond_cert.specs.Printed.{fed, chosen_text, places_text, cond_text, pair_text, rule_text, layer_text, way_text, item_text, plan_text, items_text};
-ghost use Rattle.fond_cert.specs.Spellings.{written_cube, lines_text, spelling};
+ghost use Rattle.fond_cert.specs.Printed.{fed, reach_text, start_text, chosen_text, places_text, cond_text, pair_text, rule_text, layer_text, way_text, item_text, plan_text, items_text};
+ghost use Rattle.fond_cert.specs.Spellings.{cube_line, lines_text, spelling};
 ghost use Rattle.fond_edge.specs.Pens.{flow, IsPut, IsLost, Adds};
 ghost use Rattle.fond_game.specs.Layers.{CubeView};
 ghost use Rattle.std.specs.Fmt.{decimal};
@@ -34,7 +33,7 @@ use std::mem;
 /// Adds the line of a cube.
 fn put_cube_line<K: Sink>(task: &Task, cube: &Cube, pen: &mut Pen, sink: &mut K)
     ensures { Adds (flow (K.written sink.old) (K.faults sink.old) pen.old)
-        (flow (K.written sink.new) (K.faults sink.new) pen.new) (fed (CubeLine (written_cube task.now cube.now))) }
+        (flow (K.written sink.new) (K.faults sink.new) pen.new) (fed (cube_line task.now cube.now)) }
 {
     pen.add(sink, b"cube");
     put_cube(task, cube, pen, sink);
@@ -44,7 +43,7 @@ fn put_cube_line<K: Sink>(task: &Task, cube: &Cube, pen: &mut Pen, sink: &mut K)
 /// Adds the lines of a layer's cubes.
 fn put_cube_lines<K: Sink>(task: &Task, layer: &Layer, pen: &mut Pen, sink: &mut K)
     ensures { Adds (flow (K.written sink.old) (K.faults sink.old) pen.old)
-        (flow (K.written sink.new) (K.faults sink.new) pen.new) (lines_text (map (λ (cube : CubeView). CubeLine (written_cube task.now cube)) layer.now)) }
+        (flow (K.written sink.new) (K.faults sink.new) pen.new) (lines_text (map (cube_line task.now) layer.now)) }
 {
     for cube in layer.as_slice() {
         if pen.has_failed() {
@@ -170,7 +169,7 @@ fn put_rules<K: Sink>(task: &Task, rules: &Rules, pen: &mut Pen, sink: &mut K)
 /// Adds the reach line.
 fn put_reach<K: Sink>(reach: u64, pen: &mut Pen, sink: &mut K)
     ensures { Adds (flow (K.written sink.old) (K.faults sink.old) pen.old)
-        (flow (K.written sink.new) (K.faults sink.new) pen.new) (fed (ReachLine (decimal reach))) }
+        (flow (K.written sink.new) (K.faults sink.new) pen.new) (reach_text reach) }
 {
     pen.add(sink, b"reach ");
     put_number(reach, pen, sink);
@@ -180,7 +179,7 @@ fn put_reach<K: Sink>(reach: u64, pen: &mut Pen, sink: &mut K)
 /// Adds the start line.
 fn put_start<K: Sink>(start: u32, pen: &mut Pen, sink: &mut K)
     ensures { Adds (flow (K.written sink.old) (K.faults sink.old) pen.old)
-        (flow (K.written sink.new) (K.faults sink.new) pen.new) (fed (StartLine (decimal start))) }
+        (flow (K.written sink.new) (K.faults sink.new) pen.new) (start_text start) }
 {
     pen.add(sink, b"start ");
     put_number(start as u64, pen, sink);

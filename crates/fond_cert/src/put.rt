@@ -1,10 +1,9 @@
 //! Printing the parts of lines. Each call takes time in the length of what it adds, and in the number of the task's
 //! atoms for each cube, and no memory. A failure of the sink is remembered by the pen.
 
-ghost use Rattle.fond_form.specs.Cutting.{literals_text, target_text, targets_text};
-ghost use Rattle.fond_form.specs.Lines.{group_text, spaced, sign_text};
+ghost use Rattle.fond_form.specs.Lines.{group_text, spaced, sign_text, literals_text};
 ghost use Rattle.fond_cert.specs.Printed.{atom_literal_text, cube_text};
-ghost use Rattle.fond_cert.specs.Spellings.{act_leaves, written_cube, written_target};
+ghost use Rattle.fond_cert.specs.Spellings.{act_leaves, written_cube, target_word};
 ghost use Rattle.fond_edge.specs.Pens.{flow, Adds};
 ghost use Rattle.std.specs.Fmt.{decimal};
 ghost use Rattle.std.specs.Prelude.{◌++◌, ◌<◌, codes, length, map};
@@ -87,7 +86,7 @@ pub(crate) fn put_act<K: Sink>(task: &Task, act: u32, pen: &mut Pen, sink: &mut 
 /// Adds a target.
 pub(crate) fn put_target<K: Sink>(target: Target, pen: &mut Pen, sink: &mut K)
     ensures { Adds (flow (K.written sink.old) (K.faults sink.old) pen.old)
-        (flow (K.written sink.new) (K.faults sink.new) pen.new) (target_text (written_target target)) }
+        (flow (K.written sink.new) (K.faults sink.new) pen.new) (target_word target) }
 {
     match target {
         Target::Goal => pen.add(sink, b"goal"),
@@ -98,7 +97,7 @@ pub(crate) fn put_target<K: Sink>(target: Target, pen: &mut Pen, sink: &mut K)
 /// Adds a target after a space.
 fn put_next_target<K: Sink>(target: Target, pen: &mut Pen, sink: &mut K)
     ensures { Adds (flow (K.written sink.old) (K.faults sink.old) pen.old)
-        (flow (K.written sink.new) (K.faults sink.new) pen.new) (codes " " ++ target_text (written_target target)) }
+        (flow (K.written sink.new) (K.faults sink.new) pen.new) (codes " " ++ target_word target) }
 {
     pen.add(sink, b" ");
     put_target(target, pen, sink);
@@ -107,7 +106,7 @@ fn put_next_target<K: Sink>(target: Target, pen: &mut Pen, sink: &mut K)
 /// Adds targets, each after a space.
 pub(crate) fn put_targets<K: Sink>(targets: &TargetList, pen: &mut Pen, sink: &mut K)
     ensures { Adds (flow (K.written sink.old) (K.faults sink.old) pen.old)
-        (flow (K.written sink.new) (K.faults sink.new) pen.new) (targets_text (map written_target targets.now)) }
+        (flow (K.written sink.new) (K.faults sink.new) pen.new) (spaced (map target_word targets.now)) }
 {
     for target in targets.as_slice() {
         put_next_target(*target, pen, sink);

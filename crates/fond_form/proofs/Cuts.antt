@@ -8,8 +8,8 @@ use Rattle.std.proofs.lemmas.Bool.Decides.{nat_tests}
 use Rattle.std.proofs.lemmas.Slice.Eq.{bytes_eq-Decides}
 use Rattle.std.proofs.lemmas.List.Elements.{All-cons, All-nil, All-append}
 use borrow.Author.Tests.{eqb-true}
-use Rattle.fond_form.specs.Lines.{spaced, is_number}
-use Rattle.fond_form.specs.Parts.{is_in_word, EndsWord, IsCut, is_target, AreWords, HasNoWord}
+use Rattle.fond_form.specs.Lines.{spaced, is_number, is_target, AreWords}
+use Rattle.fond_form.specs.Parts.{is_in_word, EndsWord, IsCut, HasNoWord}
 use Rattle.fond_form.specs.WordTests.{test_of}
 use Rattle.fond_form.specs.declared.word.WordKind.{WordKind}
 use Rattle.fond_form.specs.declared.word.WordKind.TheVariants.{Target, Number}

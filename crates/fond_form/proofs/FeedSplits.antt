@@ -1,14 +1,21 @@
 -- Texts split into lines in one way.
 use Rattle.std.proofs.Common.{◌≡◌, ℕ, List, [], ◌∷◌, ◌++◌, All, Bool, true, false, IsTrue, codes, refl, sym, ap, ◌∙◌, arith}
-use Rattle.std.specs.Prelude.{⊤}
 use Rattle.std.specs.Char.{is_ascii_digit}
-use Rattle.std.specs.List.{flat_map, list_all}
+use Rattle.std.specs.List.{list_all}
 use Rattle.std.proofs.lemmas.Bool.{and_parts}
 use Rattle.std.proofs.lemmas.Bool.Decides.{nat_tests}
 use Rattle.std.proofs.lemmas.List.Elements.{All-head, All-tail}
 use Rattle.std.proofs.lemmas.List.Folds.{list_all-append}
 use Rattle.fond_form.specs.Feeds.{is_in_line, HasNoFeed}
-use Rattle.fond_form.specs.Lines.{is_plain_byte, IsPlainLeaf, IsGroup, spaced, group_text, is_number, WrittenTarget, GoalWord, NumberWord, IsProperTarget, WrittenLiteral, AreProper, sign_text, WrittenLine, PolicyHeader, RefusalHeader, CoverHeader, LayerLine, CubeLine, PairLine, FairRule, UnfairRule, ReachLine, GoalItem, RuleItem, StartLine, EndLine, Piece, Fixed, piece_text, target_piece, target_pieces, number_pieces, literal_pieces, line_pieces, line_text, IsProper}
+use Rattle.std.specs.Str.{bytes_eq}
+use Rattle.std.proofs.lemmas.Slice.Eq.{bytes_eq-Decides}
+use Rattle.fond_form.specs.Lines.{is_plain_byte, IsPlainLeaf, IsGroup, spaced, group_text, is_number, is_target, AreWords, WrittenLiteral, AreProper, sign_text, literal_text, literals_text}
+use Rattle.fond_form.specs.Forms.{Field, text_of, form, Value, IsRight, value_text, Values, AreRight, fields_text, Line, line_text, IsProper}
+use Rattle.fond_form.specs.declared.table.Sort.{Sort}
+use Rattle.fond_form.specs.declared.table.Sort.TheVariants.{Nothing, Action, Short, Long, Target, Shorts, Targets, Literals}
+use Rattle.fond_form.specs.declared.table.Text.{Text}
+use Rattle.fond_form.specs.declared.table.Text.TheVariants as t
+use Rattle.fond_form.proofs.Cuts.{either}
 use Rattle.fond_form.proofs.Literals.{same_head, same_tail}
 use Rattle.fond_form.proofs.Numbers.{number_digits}
 
@@ -52,53 +59,64 @@ sign_no_feed : (sign : Bool) → HasNoFeed (sign_text sign)
 sign_no_feed true = refl
 sign_no_feed false = refl
 
--- no piece has a line feed
-abbrev AreClean : List Piece → Type 0
-AreClean [] = ⊤
-AreClean (piece ∷ pieces) = HasNoFeed (piece_text piece) × AreClean pieces
-
-clean_text : (pieces : List Piece) → AreClean pieces → HasNoFeed (flat_map piece_text pieces)
-clean_text [] h = refl
-clean_text (piece ∷ pieces) h = no_feed_append (piece_text piece) (flat_map piece_text pieces) h.0 (clean_text pieces h.1)
-
-literals_clean : (literals : List WrittenLiteral) → AreProper literals → AreClean (literal_pieces literals)
-literals_clean [] h = tt
-literals_clean (literal ∷ literals) h =
+literals_no_feed : (literals : List WrittenLiteral) → AreProper literals → HasNoFeed (literals_text literals)
+literals_no_feed [] h = refl
+literals_no_feed (literal ∷ literals) h =
     let P = λ (literal : WrittenLiteral). IsGroup literal.leaves in
-    (refl, (sign_no_feed literal.sign, (group_no_feed literal.leaves (All-head P literal literals h), literals_clean literals (All-tail P literal literals h))))
+    no_feed_append (literal_text literal) (literals_text literals)
+    (no_feed_append (codes " ") (sign_text literal.sign ++ group_text literal.leaves) refl
+    (no_feed_append (sign_text literal.sign) (group_text literal.leaves) (sign_no_feed literal.sign) (group_no_feed literal.leaves (All-head P literal literals h))))
+    (literals_no_feed literals (All-tail P literal literals h))
 
-target_clean : (target : WrittenTarget) → IsProperTarget target → HasNoFeed (piece_text (target_piece target))
-target_clean GoalWord h = refl
-target_clean (NumberWord digits) h = number_no_feed digits h
+target_no_feed : (word : List ℕ) → IsTrue (is_target word) → HasNoFeed word
+target_no_feed word h =
+    either (bytes_eq word (codes "goal")) (is_number word) h (HasNoFeed word) (λ goal. rw ((bytes_eq-Decides word (codes "goal")).0 goal) refl) (number_no_feed word)
 
-targets_clean : (targets : List WrittenTarget) (more : List Piece) → All IsProperTarget targets → AreClean more → AreClean (target_pieces targets ++ more)
-targets_clean [] more h k = k
-targets_clean (target ∷ targets) more h k = (refl, (target_clean target (All-head IsProperTarget target targets h), targets_clean targets more (All-tail IsProperTarget target targets h) k))
+module _ (test : List ℕ → Bool) (each : (word : List ℕ) → IsTrue (test word) → HasNoFeed word) where
+  words_no_feed : (words : List (List ℕ)) → AreWords test words → HasNoFeed (spaced words)
+  words_no_feed [] h = refl
+  words_no_feed (word ∷ words) h =
+      let P = λ (word : List ℕ). IsTrue (test word) in
+      no_feed_append (codes " " ++ word) (spaced words) (no_feed_append (codes " ") word refl (each word (All-head P word words h))) (words_no_feed words (All-tail P word words h))
 
-numbers_clean : (numbers : List (List ℕ)) (more : List Piece) → All (λ digits. IsTrue (is_number digits)) numbers → AreClean more → AreClean (number_pieces numbers ++ more)
-numbers_clean [] more h k = k
-numbers_clean (digits ∷ numbers) more h k =
-    let P = λ (digits : List ℕ). IsTrue (is_number digits) in
-    (refl, (number_no_feed digits (All-head P digits numbers h), numbers_clean numbers more (All-tail P digits numbers h) k))
+value_no_feed : (sort : Sort) (value : Value sort) → IsRight sort value → HasNoFeed (value_text sort value)
+value_no_feed Nothing value h = refl
+value_no_feed Action value h = group_no_feed value h
+value_no_feed Short value h = number_no_feed value h
+value_no_feed Long value h = number_no_feed value h
+value_no_feed Target value h = target_no_feed value h
+value_no_feed Shorts value h = words_no_feed is_number number_no_feed value h.1
+value_no_feed Targets value h = words_no_feed is_target target_no_feed value h.1
+value_no_feed Literals value h = literals_no_feed value h
 
-line_clean : (line : WrittenLine) → IsProper line → AreClean (line_pieces line)
-line_clean PolicyHeader h = (refl, tt)
-line_clean RefusalHeader h = (refl, tt)
-line_clean CoverHeader h = (refl, tt)
-line_clean LayerLine h = (refl, tt)
-line_clean (CubeLine l) h = (refl, literals_clean l h)
-line_clean (PairLine a o n c l) h = (refl, (group_no_feed a h.0, (refl, (number_no_feed o h.1, (refl, (number_no_feed n h.2, (refl, (number_no_feed c h.3, (refl, literals_clean l h.4)))))))))
-line_clean (FairRule a o t l) h = (refl, (group_no_feed a h.0, (refl, (number_no_feed o h.1, (refl, (target_clean t h.2, (refl, literals_clean l h.3)))))))
-line_clean (UnfairRule a t l) h = (refl, (group_no_feed a h.0, (refl, targets_clean t (Fixed (codes " :") ∷ literal_pieces l) h.2 (refl, literals_clean l h.3))))
-line_clean (ReachLine n) h = (refl, (number_no_feed n h, tt))
-line_clean (GoalItem l) h = (refl, literals_clean l h)
-line_clean (RuleItem r n l) h = (refl, (number_no_feed r h.0, numbers_clean n (Fixed (codes " :") ∷ literal_pieces l) h.2 (refl, literals_clean l h.3)))
-line_clean (StartLine n) h = (refl, (number_no_feed n h, tt))
-line_clean EndLine h = (refl, tt)
+text_no_feed : (text : Text) → HasNoFeed (text_of text)
+text_no_feed t.PolicyHeader = refl
+text_no_feed t.RefusalHeader = refl
+text_no_feed t.CoverHeader = refl
+text_no_feed t.Layer = refl
+text_no_feed t.Cube = refl
+text_no_feed t.Pair = refl
+text_no_feed t.Rule = refl
+text_no_feed t.Fair = refl
+text_no_feed t.Unfair = refl
+text_no_feed t.Reach = refl
+text_no_feed t.GoalItem = refl
+text_no_feed t.Item = refl
+text_no_feed t.Start = refl
+text_no_feed t.End = refl
+text_no_feed t.Space = refl
+text_no_feed t.Colon = refl
+text_no_feed t.Empty = refl
+
+fields_no_feed : (fields : List Field) (values : Values fields) → AreRight fields values → HasNoFeed (fields_text fields values)
+fields_no_feed [] values h = refl
+fields_no_feed (field ∷ fields) values h =
+    no_feed_append (text_of field.0) (value_text field.1 values.0 ++ fields_text fields values.1) (text_no_feed field.0)
+    (no_feed_append (value_text field.1 values.0) (fields_text fields values.1) (value_no_feed field.1 values.0 h.0) (fields_no_feed fields values.1 h.1))
 
 -- a proper line has no line feed
-pub line_no_feed : (line : WrittenLine) → IsProper line → HasNoFeed (line_text line)
-line_no_feed line h = clean_text (line_pieces line) (line_clean line h)
+pub line_no_feed : (line : Line) → IsProper line → HasNoFeed (line_text line)
+line_no_feed line h = fields_no_feed (form line.kind) line.values h
 
 -- a text has one first line
 pub same_split : (a b s t : List ℕ) → HasNoFeed a → HasNoFeed b → a ++ (10 ∷ s) ≡ b ++ (10 ∷ t) → (a ≡ b) × (s ≡ t)

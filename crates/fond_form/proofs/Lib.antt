@@ -3,11 +3,11 @@ pub mod Groups
 pub mod Literals
 pub mod Cuts
 pub mod Numbers
-pub mod TargetTexts
 pub mod Nexts
-pub mod Afters
 pub mod Longest
-pub mod Shapes
-pub mod ItemShapes
-pub mod SameLines
+pub mod Values
+pub mod Sames
+pub mod Clear
+pub mod Apart
+pub mod EachKind
 pub mod FeedSplits

@@ -3,8 +3,8 @@ use borrow.Author.Tests.{eqb-true}
 use Rattle.std.proofs.Common.{◌≡◌, ◌≢◌, ℕ, ◌==◌, length, Bool, true, false, List, [], ◌∷◌, ◌++◌, All, refl, sym, ap, ◌∙◌, arith, append_assoc}
 use Rattle.std.specs.List.{flat_map}
 use Rattle.std.proofs.lemmas.List.Elements.{All-head, All-tail, All-cons, All-nil}
-use Rattle.fond_form.specs.Lines.{IsGroup, group_text, WrittenLiteral, sign_text, piece_text, literal_pieces}
-use Rattle.fond_form.specs.Parts.{IsGroupText, HasNoGroup, AreLiterals, HasNoLiteral, literal_text}
+use Rattle.fond_form.specs.Lines.{IsGroup, group_text, WrittenLiteral, sign_text, literal_text}
+use Rattle.fond_form.specs.Parts.{IsGroupText, HasNoGroup, AreLiterals, HasNoLiteral}
 use Rattle.fond_form.proofs.Groups.{same_rest}
 
 pub literal_apart : (literal : WrittenLiteral) (rest : List ℕ) → literal_text literal ++ rest ≡ 32 ∷ (sign_text literal.sign ++ (group_text literal.leaves ++ rest))
@@ -76,12 +76,6 @@ literals_decided text (b ∷ rest) r e none f g = (
   λ t. let z : length (b ∷ rest) ≡ 0 = eqb-true (length (b ∷ rest)) 0 (sym e ∙ t) in absurd (omega arith),
   λ h. let z = literals_end (b ∷ rest) none (g h) in absurd (cc),
 )
-
-pub spelled : (literals : List WrittenLiteral) → flat_map literal_text literals ≡ flat_map piece_text (literal_pieces literals)
-spelled [] = refl
-spelled (literal ∷ literals) =
-    literal_apart literal (flat_map literal_text literals)
-    ∙ ap (λ t. 32 ∷ (sign_text literal.sign ++ (group_text literal.leaves ++ t))) (spelled literals)
 
 pub same_sign : (a b : Bool) (s t : List ℕ) → sign_text a ++ s ≡ sign_text b ++ t → a ≡ b
 same_sign true true s t e = refl

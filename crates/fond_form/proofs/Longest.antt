@@ -1,16 +1,18 @@
 -- Words that pass a test, before a rest that begins with none.
-use Rattle.std.proofs.Common.{◌≡◌, ℕ, Bool, true, IsTrue, List, [], ◌∷◌, ◌++◌, All, map, codes, refl, sym, ap, ◌∙◌, arith, append_assoc}
+use Rattle.std.proofs.Common.{◌≡◌, ℕ, ◌||◌, Bool, true, false, IsTrue, List, [], ◌∷◌, ◌++◌, codes, refl, sym, ap, ◌∙◌, arith, append_assoc}
 use Rattle.std.proofs.lemmas.Bool.Decides.{nat_tests}
 use Rattle.std.specs.Char.{is_ascii_digit}
 use Rattle.std.specs.Str.{bytes_eq}
 use Rattle.std.proofs.lemmas.Slice.Eq.{bytes_eq-Decides}
-use Rattle.std.proofs.lemmas.List.Elements.{All-head, All-tail, All-cons, All-nil}
-use Rattle.fond_form.specs.Lines.{spaced, is_number, WrittenTarget, IsProperTarget}
-use Rattle.fond_form.specs.Parts.{is_target, AreWords, EndsWord, HasNoWord}
-use Rattle.fond_form.specs.Cutting.{target_text, targets_text}
+use Rattle.std.proofs.lemmas.List.Elements.{All-head, All-tail}
+use Rattle.fond_form.specs.Lines.{spaced, is_number, is_target, AreWords}
+use Rattle.fond_form.specs.Parts.{EndsWord, HasNoWord}
 use Rattle.fond_form.proofs.Literals.{same_head, same_tail}
 use Rattle.fond_form.proofs.Cuts.{same_word, HasNoSpaces, number_first, either}
-use Rattle.fond_form.proofs.Afters.{number_is_target, target_right, ends_words}
+
+pub ends_words : (words : List (List ℕ)) (more : List ℕ) → EndsWord more → EndsWord (spaced words ++ more)
+ends_words [] more h = h
+ends_words (word ∷ words) more h = refl
 
 module _ (test : List ℕ → Bool) (no_space : HasNoSpaces test) where
   abbrev Passes : List ℕ → Type 0
@@ -41,23 +43,17 @@ no_colon (b ∷ word) rest l h e =
     (λ g. let same = (bytes_eq-Decides (b ∷ word) (codes "goal")).0 g in let other = same_head b 103 word _ same in omega arith)
     (λ g. not_a_digit b (sym first) (number_first b word g).0)
 
+by_number : (v n : Bool) → n ≡ true → (v || n) ≡ true
+by_number true n e = refl
+by_number false n e = e
+
+pub number_is_target : (word : List ℕ) → is_number word ≡ true → is_target word ≡ true
+number_is_target word e = by_number (bytes_eq word (codes "goal")) (is_number word) e
+
 -- a colon begins no target
 pub colon_no_target : (l : List ℕ) → HasNoWord is_target (codes " :" ++ l)
 colon_no_target l word rest h ends e = no_colon word rest l h (same_tail 32 32 _ _ e)
 
 -- a colon begins no number
 pub colon_no_number : (l : List ℕ) → HasNoWord is_number (codes " :" ++ l)
-colon_no_number l word rest h ends e = colon_no_target l word rest (number_is_target word h (bytes_eq word (codes "goal"))) ends e
-
-abbrev pub words_of : List WrittenTarget → List (List ℕ)
-words_of targets = map (λ target. target_text target) targets
-
-pub words_right : (targets : List WrittenTarget) → All IsProperTarget targets → AreWords is_target (words_of targets)
-words_right [] h = All-nil (λ (word : List ℕ). IsTrue (is_target word))
-words_right (target ∷ targets) h =
-    All-cons (λ (word : List ℕ). IsTrue (is_target word)) (target_text target) (words_of targets)
-    (target_right target (All-head IsProperTarget target targets h)) (words_right targets (All-tail IsProperTarget target targets h))
-
-pub words_spaced : (targets : List WrittenTarget) → targets_text targets ≡ spaced (words_of targets)
-words_spaced [] = refl
-words_spaced (target ∷ targets) = ap (λ t. 32 ∷ (target_text target ++ t)) (words_spaced targets)
+colon_no_number l word rest h ends e = colon_no_target l word rest (number_is_target word h) ends e

@@ -3,8 +3,8 @@ use Rattle.std.proofs.Common.{◌≡◌, ◌≢◌, ℕ, Bool, true, false, IsTr
 use Rattle.std.specs.List.{flat_map}
 use Rattle.std.proofs.lemmas.List.{append_cancel_right}
 use Rattle.std.proofs.lemmas.List.Elements.{All-head, All-tail}
-use Rattle.fond_form.specs.Lines.{IsGroup, group_text, spaced, WrittenLiteral, sign_text}
-use Rattle.fond_form.specs.Parts.{IsGroupText, HasNoLiteral, literal_text, AreWords, IsCut, EndsWord}
+use Rattle.fond_form.specs.Lines.{IsGroup, group_text, spaced, AreWords, WrittenLiteral, sign_text, literal_text}
+use Rattle.fond_form.specs.Parts.{IsGroupText, HasNoLiteral, IsCut, EndsWord}
 use Rattle.fond_form.proofs.Groups.{same_rest}
 use Rattle.fond_form.proofs.Literals.{literal_apart, same_sign, same_tail, after_sign, after_space}
 use Rattle.fond_form.proofs.Cuts.{same_word, HasNoSpaces}

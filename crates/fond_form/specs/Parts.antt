@@ -1,8 +1,7 @@
--- The parts of a line at the beginning of a text, and the rest of the text.
-use Rattle.std.specs.Prelude.{◌≡◌, ◌≢◌, ℕ, ◌==◌, ◌&&◌, ◌||◌, not, Bool, true, false, List, [], ◌∷◌, ◌++◌, Option, Some, None, All, IsTrue, codes, ⊤, if◌then◌else◌}
-use Rattle.std.specs.Str.{bytes_eq}
-use Rattle.std.specs.List.{flat_map, list_all}
-use Rattle.fond_form.specs.Lines.{is_plain_byte, IsGroup, group_text, spaced, WrittenLiteral, sign_text, WrittenTarget, GoalWord, NumberWord, is_number}
+-- Values at the beginning of a text, and the rest of the text.
+use Rattle.std.specs.Prelude.{◌≡◌, ◌≢◌, ℕ, ◌==◌, ◌&&◌, not, Bool, true, false, List, [], ◌∷◌, ◌++◌, Option, Some, None, IsTrue, codes, ⊤, if◌then◌else◌}
+use Rattle.std.specs.List.{list_all}
+use Rattle.fond_form.specs.Lines.{is_plain_byte, IsGroup, group_text, WrittenLiteral, AreProper, literal_text, literals_text}
 
 -- a text is that of an atom or an action
 abbrev pub IsGroupText : List ℕ → Type 0
@@ -21,14 +20,9 @@ after_leaves is_open (b ∷ rest) =
     else if is_open && b == 41 then Some rest
     else None
 
--- a literal is a space, a sign and an atom
-abbrev pub literal_text : WrittenLiteral → List ℕ
-literal_text literal = codes " " ++ (sign_text literal.sign ++ group_text literal.leaves)
-
 -- a text is that of literals
 abbrev pub AreLiterals : List ℕ → Type 0
-AreLiterals text =
-    (literals : List WrittenLiteral) × All (λ literal. IsGroup literal.leaves) literals × (text ≡ flat_map literal_text literals)
+AreLiterals text = (literals : List WrittenLiteral) × AreProper literals × (text ≡ literals_text literals)
 
 -- a text begins with no literal
 abbrev pub HasNoLiteral : List ℕ → Type 0
@@ -46,22 +40,6 @@ EndsWord (b ∷ rest) = b ≡ 32
 -- a text is a word, which has no space and may be empty, followed by a rest that is empty or begins with a space
 abbrev pub IsCut : List ℕ → List ℕ → List ℕ → Type 0
 IsCut text word rest = (text ≡ word ++ rest) × IsTrue (list_all is_in_word word) × EndsWord rest
-
--- whether a text is that of a target: the word `goal`, or a number
-abbrev pub is_target : List ℕ → Bool
-is_target word = bytes_eq word (codes "goal") || is_number word
-
--- a word as a written target
-abbrev pub as_target : List ℕ → WrittenTarget
-as_target word = if bytes_eq word (codes "goal") then GoalWord else NumberWord word
-
--- words that pass a test
-abbrev pub AreWords : (List ℕ → Bool) → List (List ℕ) → Type 0
-AreWords test words = All (λ word. IsTrue (test word)) words
-
--- a text is that of words that pass a test, each after a space
-abbrev pub AreWordsText : (List ℕ → Bool) → List ℕ → Type 0
-AreWordsText test text = (words : List (List ℕ)) × AreWords test words × (text ≡ spaced words)
 
 -- a text does not begin with a space and a word that passes a test
 abbrev pub HasNoWord : (List ℕ → Bool) → List ℕ → Type 0

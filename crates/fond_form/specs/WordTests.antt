@@ -2,8 +2,7 @@
 use Rattle.std.specs.Prelude.{ℕ, Bool, List}
 use Rattle.fond_form.specs.declared.word.WordKind.{WordKind}
 use Rattle.fond_form.specs.declared.word.WordKind.TheVariants.{Target, Number}
-use Rattle.fond_form.specs.Lines.{is_number}
-use Rattle.fond_form.specs.Parts.{is_target}
+use Rattle.fond_form.specs.Lines.{is_number, is_target}
 
 -- the test of a kind of words
 abbrev pub test_of : WordKind → List ℕ → Bool

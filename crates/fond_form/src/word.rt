@@ -3,10 +3,10 @@
 ghost use Rattle.std.specs.Fmt.{decimal};
 ghost use Rattle.std.specs.Prelude.{◌≡◌, ◌≢◌, ◌^◌, ◌<◌, ◌≤◌, ◌++◌, List, ℕ, IsTrue, MatchOption, codes};
 ghost use Rattle.std.specs.Str.Parse.{digits_value};
-ghost use Rattle.fond_form.specs.Lines.{is_number, spaced};
+ghost use Rattle.fond_form.specs.Lines.{is_number, is_target, AreWords, spaced};
 ghost use Rattle.std.specs.Char.{is_ascii_digit};
 ghost use Rattle.std.specs.List.{list_all};
-ghost use Rattle.fond_form.specs.Parts.{is_target, AreWords, EndsWord, HasNoWord, IsCut};
+ghost use Rattle.fond_form.specs.Parts.{EndsWord, HasNoWord, IsCut};
 ghost use Rattle.fond_form.specs.WordTests.{test_of};
 
 use crate::scan::{after, len_before};

@@ -1,8 +1,8 @@
 use Rattle.std.proofs.Common.{ap, map, arith, ℕ, List}
 use Rattle.std.proofs.lemmas.List.{at_drop_more}
 use Rattle.fond_game.specs.declared.rule.Target.{Target}
-use Rattle.fond_form.specs.Cutting.{targets_text}
-use Rattle.fond_cert.specs.Spellings.{written_target}
+use Rattle.fond_form.specs.Lines.{spaced}
+use Rattle.fond_cert.specs.Spellings.{target_word}
 use Rattle.fond_cert.proofs.Adding.{adds_same, adding_all, adding_more, adding_none}
 use Rattle.fond_cert.proofs.Printed.{none_of}
 use Rattle.fond_cert.proofs.put.put_targets.Goals as goal
@@ -12,11 +12,11 @@ loop-target-init g c = adding_all _ _ _ _
 
 pub loop-target-preserved : goal.loop-target-preserved
 loop-target-preserved g c =
-    let text : List Target → List ℕ = λ targets. targets_text (map written_target targets) in
+    let text : List Target → List ℕ = λ targets. spaced (map target_word targets) in
     adding_more _ _ _ _ _ _ _ (at_drop_more text c.as_slice-target-items.result.now c.loop-target.target-index _ c.loop-target-test.true) c.loop-target.invariant c.put_next_target.ensures
 
 pub returns : goal.returns
 returns g c =
-    let text : List Target → List ℕ = λ targets. targets_text (map written_target targets) in
+    let text : List Target → List ℕ = λ targets. spaced (map target_word targets) in
     adds_same _ _ _ _ (ap text c.as_slice-target-items.ensures)
     (adding_none _ _ _ _ (none_of text c.as_slice-target-items.result.now c.loop-target.target-index (omega (arith, c.loop-target-test.false))) c.loop-target.invariant)

@@ -1,5 +1,5 @@
 use Rattle.std.proofs.Common.{length}
-use Rattle.fond_cert.proofs.ItemNumbers.{LeftNumbers}
+use Rattle.fond_cert.proofs.Words.{LeftNumbers}
 use Rattle.fond_cert.proofs.target.numbers_at.Given as goal
 
 abbrev pub invariant-loop-inner : goal.invariant-loop-inner

@@ -1,5 +1,5 @@
 use Rattle.std.proofs.Common.{length}
-use Rattle.fond_cert.proofs.Targets.{LeftTargets}
+use Rattle.fond_cert.proofs.Words.{LeftTargets}
 use Rattle.fond_cert.proofs.target.targets_at.Given as goal
 
 abbrev pub invariant-loop-inner : goal.invariant-loop-inner

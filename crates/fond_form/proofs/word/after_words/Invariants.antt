@@ -1,6 +1,6 @@
 use Rattle.std.proofs.Common.{◌≡◌, ℕ, List, ◌++◌, length}
-use Rattle.fond_form.specs.Lines.{spaced}
-use Rattle.fond_form.specs.Parts.{AreWords, EndsWord}
+use Rattle.fond_form.specs.Lines.{spaced, AreWords}
+use Rattle.fond_form.specs.Parts.{EndsWord}
 use Rattle.fond_form.specs.WordTests.{test_of}
 use Rattle.fond_form.proofs.word.after_words.Given as goal
 

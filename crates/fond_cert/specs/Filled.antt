@@ -1,0 +1,58 @@
+-- The values of a line, as they are read one after the other, and what a line makes of them.
+use Rattle.std.specs.Prelude.{◌≡◌, List, [], ◌∷◌, ◌++◌, Some, None}
+use Rattle.fond_game.specs.declared.rule.Pair.{Pair}
+use Rattle.fond_game.specs.declared.rule.Rule.{Rule}
+use Rattle.fond_game.specs.declared.rule.Targets.TheVariants.{One, All}
+use Rattle.fond_cover.specs.declared.item.Item.{Item}
+use Rattle.fond_cover.specs.declared.item.Way.TheVariants.{Goal as ToGoal, Rule as ByRule}
+use Rattle.fond_cert.specs.declared.values.LineValues.{LineValues}
+use Rattle.fond_cert.specs.Spellings.{Meaning, Meanings}
+use Rattle.fond_form.specs.declared.table.LineKind.{LineKind}
+use Rattle.fond_form.specs.declared.table.LineKind.TheVariants as k
+use Rattle.fond_form.specs.declared.table.Sort.{Sort}
+use Rattle.fond_form.specs.declared.table.Sort.TheVariants.{Nothing, Action, Short, Long, Target, Shorts, Targets, Literals}
+use Rattle.fond_form.specs.Forms.{Field, form}
+
+-- no values
+abbrev pub no_values : LineValues
+no_values = record { act = 0; numbers = []; targets = []; items = []; cube = None }
+
+-- values with the meaning of one more
+abbrev pub with_meaning : LineValues → (sort : Sort) → Meaning sort → LineValues
+with_meaning values Nothing meaning = values
+with_meaning values Action act = record values { act = act }
+with_meaning values Short number = record values { numbers = values.numbers ++ (number ∷ []) }
+with_meaning values Long number = record values { numbers = values.numbers ++ (number ∷ []) }
+with_meaning values Target target = record values { targets = values.targets ++ (target ∷ []) }
+with_meaning values Shorts numbers = record values { items = numbers }
+with_meaning values Targets targets = record values { targets = targets }
+with_meaning values Literals cube = record values { cube = Some cube }
+
+-- values with the meanings of further fields
+abbrev pub with_meanings : LineValues → (fields : List Field) → Meanings fields → LineValues
+with_meanings values [] meanings = values
+with_meanings values (field ∷ fields) meanings = with_meanings (with_meaning values field.1 meanings.0) fields meanings.1
+
+-- values hold those of a line of a kind, with these meanings
+abbrev pub Hold : (kind : LineKind) → LineValues → Meanings (form kind) → Type 0
+Hold kind values meanings = values ≡ with_meanings no_values (form kind) meanings
+
+-- the pair of a line
+abbrev pub pair_of : Meanings (form k.Pair) → Pair
+pair_of (act, (outcome, (layer, (cube, (cond, end))))) = record { cond = cond; act = act; outcome = outcome; layer = layer; cube = cube }
+
+-- the rule of a fair action of a line
+abbrev pub fair_of : Meanings (form k.FairRule) → Rule
+fair_of (act, (outcome, (target, (cond, end)))) = record { cond = cond; act = act; targets = One outcome target }
+
+-- the rule of an unfair action of a line
+abbrev pub unfair_of : Meanings (form k.UnfairRule) → Rule
+unfair_of (act, (targets, (cond, end))) = record { cond = cond; act = act; targets = All targets }
+
+-- the item of goals of a line
+abbrev pub goal_item_of : Meanings (form k.GoalItem) → Item
+goal_item_of (cube, end) = record { cube = cube; way = ToGoal }
+
+-- the item with a rule of a line
+abbrev pub rule_item_of : Meanings (form k.RuleItem) → Item
+rule_item_of (rule, (numbers, (cube, end))) = record { cube = cube; way = ByRule rule numbers }
