@@ -11,13 +11,16 @@ use Rattle.fond_ast.specs.declared.form.LCond.TheOpen.{LCond-F, Truth, Holds, Eq
 use Rattle.fond_ast.specs.declared.form.LCond.TheFolds.{fold-LCond, fold-roll-LCond, ind-LCond, map-LCond}
 use Rattle.fond_ast.specs.declared.task.LiftedTask.{LiftedTask}
 use Rattle.fond_meaning.specs.Conditions.{object_of, ground_atom, tuples}
+use Rattle.fond_task.specs.declared.form.Junction.{Junction}
+use Rattle.fond_task.specs.declared.form.Junction.TheVariants.{All, Any}
 use Rattle.fond_task.specs.declared.form.Kleene.{Kleene}
 use Rattle.fond_task.specs.declared.form.Kleene.TheVariants.{No, Unknown, Yes}
-use Rattle.fond_task.specs.Values.{greater, lesser}
+use Rattle.fond_task.specs.Junctions.{joined}
+use Rattle.fond_task.specs.Values.{greater, lesser, opposite}
 use Rattle.fond_join.specs.Agree.{Agree, TellsObject}
 use Rattle.fond_join.specs.Kept.{open_value, static_value}
-use Rattle.fond_join.specs.Partial.{all_known, joined, known_object, partial_atom, partial_equal, partial_step, partial_value, static_if_known}
-use Rattle.fond_join.specs.Values.{condition_step, condition_value, opposite}
+use Rattle.fond_join.specs.Partial.{all_known, known_object, partial_atom, partial_equal, partial_step, partial_value, static_if_known}
+use Rattle.fond_join.specs.Values.{condition_step, condition_value}
 
 -- a value is another, or it is Unknown and not all objects are known
 abbrev pub Tells : Bool → Kleene → Kleene → Type 0
@@ -73,9 +76,9 @@ Tells-greater full a b c d first second =
     subst (λ v. Tells full v (greater b d)) (turned a c) (subst (λ v. Tells full (opposite (lesser (opposite a) (opposite c))) v) (turned b d)
     (Tells-opposite full _ _ (Tells-lesser full (opposite a) (opposite b) (opposite c) (opposite d) (Tells-opposite full a b first) (Tells-opposite full c d second))))
 
-Tells-joined : (full some : Bool) (a b c d : Kleene) → Tells full a b → Tells full c d → Tells full (joined some a c) (joined some b d)
-Tells-joined full true a b c d first second = Tells-greater full a b c d first second
-Tells-joined full false a b c d first second = Tells-lesser full a b c d first second
+Tells-joined : (full : Bool) (junction : Junction) (a b c d : Kleene) → Tells full a b → Tells full c d → Tells full (joined junction a c) (joined junction b d)
+Tells-joined full All a b c d first second = Tells-lesser full a b c d first second
+Tells-joined full Any a b c d first second = Tells-greater full a b c d first second
 
 at_number : (full : Bool) (env : List (Option ℕ)) (objects : List ℕ) (number : ℕ) → Agree full env objects → TellsObject full (slice_index_or env number (Some 0)) (slice_index_or objects number 0)
 at_number full [] [] number h = refl
@@ -128,17 +131,17 @@ module _ (task : LiftedTask) (full : Bool) where
   abbrev conditions : List ((condition : LCond) × TellsCondition condition) → List LCond
   conditions parts = map (λ e. e.0) parts
 
-  parts_told : (some : Bool) (env : List (Option ℕ)) (objects : List ℕ) → Agree full env objects → (parts : List ((condition : LCond) × TellsCondition condition)) (a b : Kleene) → Tells full a b →
-      Tells full (fold (joined some) a (map (λ (part : List (Option ℕ) → Kleene). part env) (map (λ condition around. partial_value task around condition) (conditions parts))))
-      (fold (joined some) b (map (λ (part : List ℕ → Kleene). part objects) (map (λ condition around. condition_value (open_value task) around condition) (conditions parts))))
-  parts_told some env objects agree [] a b h = h
-  parts_told some env objects agree (part ∷ parts) a b h = parts_told some env objects agree parts _ _ (Tells-joined full some a b _ _ h (part.1 env objects agree))
+  parts_told : (junction : Junction) (env : List (Option ℕ)) (objects : List ℕ) → Agree full env objects → (parts : List ((condition : LCond) × TellsCondition condition)) (a b : Kleene) → Tells full a b →
+      Tells full (fold (joined junction) a (map (λ (part : List (Option ℕ) → Kleene). part env) (map (λ condition around. partial_value task around condition) (conditions parts))))
+      (fold (joined junction) b (map (λ (part : List ℕ → Kleene). part objects) (map (λ condition around. condition_value (open_value task) around condition) (conditions parts))))
+  parts_told junction env objects agree [] a b h = h
+  parts_told junction env objects agree (part ∷ parts) a b h = parts_told junction env objects agree parts _ _ (Tells-joined full junction a b _ _ h (part.1 env objects agree))
 
-  ranges_told : (some : Bool) (env : List (Option ℕ)) (objects : List ℕ) → Agree full env objects → (part : LCond) → TellsCondition part → (all : List (List ℕ)) (a b : Kleene) → Tells full a b →
-      Tells full (fold (joined some) a (map (λ more. partial_value task (env ++ map Some more) part) all)) (fold (joined some) b (map (λ more. condition_value (open_value task) (objects ++ more) part) all))
-  ranges_told some env objects agree part told [] a b h = h
-  ranges_told some env objects agree part told (more ∷ all) a b h =
-      ranges_told some env objects agree part told all _ _ (Tells-joined full some a b _ _ h (told (env ++ map Some more) (objects ++ more) (Agree-append full env objects more agree)))
+  ranges_told : (junction : Junction) (env : List (Option ℕ)) (objects : List ℕ) → Agree full env objects → (part : LCond) → TellsCondition part → (all : List (List ℕ)) (a b : Kleene) → Tells full a b →
+      Tells full (fold (joined junction) a (map (λ more. partial_value task (env ++ map Some more) part) all)) (fold (joined junction) b (map (λ more. condition_value (open_value task) (objects ++ more) part) all))
+  ranges_told junction env objects agree part told [] a b h = h
+  ranges_told junction env objects agree part told (more ∷ all) a b h =
+      ranges_told junction env objects agree part told all _ _ (Tells-joined full junction a b _ _ h (told (env ++ map Some more) (objects ++ more) (Agree-append full env objects more agree)))
 
   abbrev partial_layer : LCond-F LCond → List (Option ℕ) → Kleene
   partial_layer layer = partial_step task (map-LCond LCond (List (Option ℕ) → Kleene) (fold-LCond (List (Option ℕ) → Kleene) (partial_step task)) layer)
@@ -151,12 +154,12 @@ module _ (task : LiftedTask) (full : Bool) where
   layer_told Truth env objects agree = inl refl
   layer_told (Holds atom) env objects agree = atom_told atom env objects agree
   layer_told (Equal term other) env objects agree = equal_told (known_object env term) (known_object env other) _ _ (object_told full env objects agree term) (object_told full env objects agree other)
-  layer_told (And parts) env objects agree = parts_told false env objects agree parts.items Yes Yes (inl refl)
-  layer_told (Or parts) env objects agree = parts_told true env objects agree parts.items No No (inl refl)
+  layer_told (And parts) env objects agree = parts_told All env objects agree parts.items Yes Yes (inl refl)
+  layer_told (Or parts) env objects agree = parts_told Any env objects agree parts.items No No (inl refl)
   layer_told (Not part) env objects agree = Tells-opposite full _ _ (part.value.1 env objects agree)
   layer_told (Imply part other) env objects agree = Tells-greater full _ _ _ _ (Tells-opposite full _ _ (part.value.1 env objects agree)) (other.value.1 env objects agree)
-  layer_told (Forall ranges part) env objects agree = ranges_told false env objects agree part.value.0 part.value.1 (tuples (objects_of ranges)) Yes Yes (inl refl)
-  layer_told (Exists ranges part) env objects agree = ranges_told true env objects agree part.value.0 part.value.1 (tuples (objects_of ranges)) No No (inl refl)
+  layer_told (Forall ranges part) env objects agree = ranges_told All env objects agree part.value.0 part.value.1 (tuples (objects_of ranges)) Yes Yes (inl refl)
+  layer_told (Exists ranges part) env objects agree = ranges_told Any env objects agree part.value.0 part.value.1 (tuples (objects_of ranges)) No No (inl refl)
 
   pub told : (condition : LCond) → TellsCondition condition
   told = ind-LCond TellsCondition (λ x y is env objects agree.

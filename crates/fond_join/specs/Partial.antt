@@ -1,5 +1,5 @@
 -- The value of a condition while some variables around it have no object.
-use Rattle.std.specs.Prelude.{◌==◌, ℕ, Bool, true, false, List, [], ◌∷◌, ◌++◌, Option, Some, None, map, fold, option_map, slice_index_or, if◌then◌else◌}
+use Rattle.std.specs.Prelude.{◌==◌, ℕ, List, [], ◌∷◌, ◌++◌, Option, Some, None, map, option_map, slice_index_or, if◌then◌else◌}
 use Rattle.fond_ast.specs.Ranges.{objects_of}
 use Rattle.fond_ast.specs.Within.{is_fluent}
 use Rattle.fond_ast.specs.declared.form.LAtom.{LAtom}
@@ -10,10 +10,11 @@ use Rattle.fond_ast.specs.declared.form.LCond.TheOpen.{LCond-F, Truth, Holds, Eq
 use Rattle.fond_ast.specs.declared.form.LCond.TheFolds.{fold-LCond}
 use Rattle.fond_ast.specs.declared.task.LiftedTask.{LiftedTask}
 use Rattle.fond_meaning.specs.Conditions.{tuples}
+use Rattle.fond_task.specs.declared.form.Junction.TheVariants.{All, Any}
 use Rattle.fond_task.specs.declared.form.Kleene.{Kleene}
 use Rattle.fond_task.specs.declared.form.Kleene.TheVariants.{No, Unknown, Yes}
-use Rattle.fond_task.specs.Values.{greater, lesser}
-use Rattle.fond_join.specs.Values.{opposite}
+use Rattle.fond_task.specs.Junctions.{joined_all}
+use Rattle.fond_task.specs.Values.{greater, opposite}
 use Rattle.fond_join.specs.Kept.{static_value}
 
 -- the object of a term if it is known: an object is its own, and a variable has the one at its number; 0 stands for a
@@ -43,30 +44,18 @@ partial_equal None other = Unknown
 partial_equal (Some object) None = Unknown
 partial_equal (Some object) (Some other) = if object == other then Yes else No
 
--- the greater of two values, or the lesser
-abbrev pub joined : Bool → Kleene → Kleene → Kleene
-joined true = greater
-joined false = lesser
-
--- the greatest of no values, or the least
-abbrev pub joined_none : Bool → Kleene
-joined_none true = No
-joined_none false = Yes
-
--- the greatest of some values, or the least
-abbrev pub joined_all : Bool → List Kleene → Kleene
-joined_all is_some values = fold (joined is_some) (joined_none is_some) values
-
+-- the value of one layer of a condition, given the values of its parts: a quantified condition has the value of the
+-- conjunction or the disjunction over the lists of objects of its ranges
 abbrev pub partial_step : LiftedTask → LCond-F (List (Option ℕ) → Kleene) → List (Option ℕ) → Kleene
 partial_step task Truth env = Yes
 partial_step task (Holds atom) env = partial_atom task env atom
 partial_step task (Equal term other) env = partial_equal (known_object env term) (known_object env other)
-partial_step task (And parts) env = joined_all false (map (λ part. part env) parts.items)
-partial_step task (Or parts) env = joined_all true (map (λ part. part env) parts.items)
+partial_step task (And parts) env = joined_all All (map (λ part. part env) parts.items)
+partial_step task (Or parts) env = joined_all Any (map (λ part. part env) parts.items)
 partial_step task (Not part) env = opposite (part.value env)
 partial_step task (Imply part other) env = greater (opposite (part.value env)) (other.value env)
-partial_step task (Forall ranges part) env = joined_all false (map (λ objects. part.value (env ++ map Some objects)) (tuples (objects_of ranges)))
-partial_step task (Exists ranges part) env = joined_all true (map (λ objects. part.value (env ++ map Some objects)) (tuples (objects_of ranges)))
+partial_step task (Forall ranges part) env = joined_all All (map (λ objects. part.value (env ++ map Some objects)) (tuples (objects_of ranges)))
+partial_step task (Exists ranges part) env = joined_all Any (map (λ objects. part.value (env ++ map Some objects)) (tuples (objects_of ranges)))
 
 -- the value of a condition if nothing is known of the fluent atoms, and some variables around it have no object
 abbrev pub partial_value : LiftedTask → List (Option ℕ) → LCond → Kleene

@@ -7,14 +7,8 @@ use Rattle.fond_ast.specs.declared.form.LCond.TheOpen.{LCond-F, Truth, Holds, Eq
 use Rattle.fond_ast.specs.declared.form.LCond.TheFolds.{fold-LCond}
 use Rattle.fond_meaning.specs.Conditions.{object_of, ground_atom, tuples}
 use Rattle.fond_task.specs.declared.form.Kleene.{Kleene}
-use Rattle.fond_task.specs.declared.form.Kleene.TheVariants.{No, Unknown, Yes}
-use Rattle.fond_task.specs.Values.{greater, greatest, least}
-
--- the opposite of a value
-abbrev pub opposite : Kleene → Kleene
-opposite No = Yes
-opposite Unknown = Unknown
-opposite Yes = No
+use Rattle.fond_task.specs.declared.form.Kleene.TheVariants.{No, Yes}
+use Rattle.fond_task.specs.Values.{greater, greatest, least, opposite}
 
 abbrev pub condition_step : (Atom → Kleene) → LCond-F (List ℕ → Kleene) → List ℕ → Kleene
 condition_step known Truth env = Yes

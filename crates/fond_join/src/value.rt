@@ -3,17 +3,15 @@
 
 ghost use Rattle.fond_ast.specs.Ranges.{objects_of};
 ghost use Rattle.fond_ast.specs.Within.{is_fluent as is_fluent_predicate};
-ghost use Rattle.fond_join.specs.Partial.{all_known, known_object, joined as joined_values, joined_all, joined_none, partial_atom, partial_equal, partial_value};
-ghost use Rattle.fond_join.specs.Values.{opposite as opposite_value};
+ghost use Rattle.fond_join.specs.Partial.{all_known, known_object, partial_atom, partial_equal, partial_value};
 ghost use Rattle.fond_meaning.specs.Conditions.{tuples};
-ghost use Rattle.fond_task.specs.Values.{greater as greater_value, lesser as lesser_value};
+ghost use Rattle.fond_task.specs.Junctions.{joined, joined_all};
 ghost use Rattle.fond_task.specs.declared.form.Kleene.{Kleene};
-ghost use Rattle.fond_task.specs.declared.form.Kleene.TheVariants.{No, Yes};
 ghost use Rattle.std.specs.Prelude.{◌≡◌, ◌++◌, List, Some, None, true, map, fold, if◌then◌else◌, IfOk, OnOk};
 
 use crate::facts::Facts;
 use fond_ast::form::{LAtom, LCond, LTerm, Range};
-use fond_task::form::Kleene;
+use fond_task::form::{Junction, Kleene};
 use fond_text::fault::NoMemory;
 
 /// The objects of the variables around a condition as far as they are known, the outermost first, and room for the
@@ -24,73 +22,11 @@ pub(crate) struct Scope {
     pub key: Vec<u32>,
 }
 
-/// Yes if the test is true, and No if it is false.
-fn of_truth(truth: bool) -> Kleene
-    ensures { result ≡ (if truth then Yes else No) }
+/// Whether no further part changes a joined value: No decides a conjunction, and Yes a disjunction.
+fn is_decided(junction: Junction, value: Kleene) -> bool
+    ensures { result ≡ true → (values : List Kleene) → fold (joined junction) value values ≡ value }
 {
-    if truth { Kleene::Yes } else { Kleene::No }
-}
-
-/// The opposite of a value.
-fn opposite(value: Kleene) -> Kleene
-    ensures { result ≡ opposite_value value }
-{
-    match value {
-        Kleene::No => Kleene::Yes,
-        Kleene::Unknown => Kleene::Unknown,
-        Kleene::Yes => Kleene::No,
-    }
-}
-
-/// The lesser of two values.
-fn lesser(value: Kleene, other: Kleene) -> Kleene
-    ensures { result ≡ lesser_value value other }
-{
-    match (value, other) {
-        (Kleene::No, _) | (_, Kleene::No) => Kleene::No,
-        (Kleene::Yes, Kleene::Yes) => Kleene::Yes,
-        _ => Kleene::Unknown,
-    }
-}
-
-/// The greater of two values.
-fn greater(value: Kleene, other: Kleene) -> Kleene
-    ensures { result ≡ greater_value value other }
-{
-    match (value, other) {
-        (Kleene::Yes, _) | (_, Kleene::Yes) => Kleene::Yes,
-        (Kleene::No, Kleene::No) => Kleene::No,
-        _ => Kleene::Unknown,
-    }
-}
-
-/// The greater of two values if one true part is enough, and the lesser if all parts have to be true.
-fn joined(is_some: bool, value: Kleene, other: Kleene) -> Kleene
-    ensures { result ≡ joined_values is_some value other }
-{
-    if is_some {
-        greater(value, other)
-    } else {
-        lesser(value, other)
-    }
-}
-
-/// The value of no parts: No if one true part is enough, and Yes if all parts have to be true.
-fn none_joined(is_some: bool) -> Kleene
-    ensures { result ≡ joined_none is_some }
-{
-    of_truth(!is_some)
-}
-
-/// Whether no further part changes a joined value.
-fn is_decided(is_some: bool, value: Kleene) -> bool
-    ensures { result ≡ true → (values : List Kleene) → fold (joined_values is_some) value values ≡ value }
-{
-    match value {
-        Kleene::No => !is_some,
-        Kleene::Unknown => false,
-        Kleene::Yes => is_some,
-    }
+    value == junction.dual().neutral()
 }
 
 /// The object of a term, if it is known.
@@ -137,7 +73,7 @@ fn atom_value(facts: &Facts, scope: &mut Scope, atom: &LAtom) -> Result<Kleene, 
     if is_fluent(facts, atom.predicate) || !put_objects(scope, atom.terms.as_slice())? {
         return Ok(Kleene::Unknown);
     }
-    Ok(of_truth(facts.contains(atom.predicate, &scope.key)))
+    Ok(Kleene::of(facts.contains(atom.predicate, &scope.key)))
 }
 
 /// The value of an equality of these objects.
@@ -145,7 +81,7 @@ fn equal_value(object: Option<u32>, other: Option<u32>) -> Kleene
     ensures { result ≡ partial_equal object other }
 {
     match (object, other) {
-        (Some(object), Some(other)) => of_truth(object == other),
+        (Some(object), Some(other)) => Kleene::of(object == other),
         _ => Kleene::Unknown,
     }
 }
@@ -163,61 +99,65 @@ pub(crate) fn value(facts: &Facts, scope: &mut Scope, condition: &LCond) -> Resu
         LCond::Equal(term, other) => {
             Ok(equal_value(object_of(scope, *term), object_of(scope, *other)))
         }
-        LCond::And(parts) => parts_value(facts, scope, parts, false),
-        LCond::Or(parts) => parts_value(facts, scope, parts, true),
-        LCond::Not(part) => Ok(opposite(value(facts, scope, part)?)),
+        LCond::And(parts) => parts_value(facts, scope, parts, Junction::All),
+        LCond::Or(parts) => parts_value(facts, scope, parts, Junction::Any),
+        LCond::Not(part) => Ok(value(facts, scope, part)?.opposite()),
         LCond::Imply(part, other) => {
-            let first = opposite(value(facts, scope, part)?);
-            Ok(greater(first, value(facts, scope, other)?))
+            let first = value(facts, scope, part)?.opposite();
+            Ok(first.greater(value(facts, scope, other)?))
         }
-        LCond::Forall(ranges, part) => range_value(facts, scope, ranges.as_slice(), part, false),
-        LCond::Exists(ranges, part) => range_value(facts, scope, ranges.as_slice(), part, true),
+        LCond::Forall(ranges, part) => {
+            range_value(facts, scope, ranges.as_slice(), part, Junction::All)
+        }
+        LCond::Exists(ranges, part) => {
+            range_value(facts, scope, ranges.as_slice(), part, Junction::Any)
+        }
     }
 }
 
-/// The value of a conjunction, or of a disjunction if one true part is enough.
+/// The value of the junction of some conditions.
 #[cycle(evaluating)]
 fn parts_value(
     facts: &Facts,
     scope: &mut Scope,
     parts: &[LCond],
-    is_some: bool,
+    junction: Junction,
 ) -> Result<Kleene, NoMemory>
-    ensures value { IfOk result (λ value. value ≡ joined_all is_some (map (partial_value facts.now.task.now scope.old.env.items) parts.now)) }
+    ensures value { IfOk result (λ value. value ≡ joined_all junction (map (partial_value facts.now.task.now scope.old.env.items) parts.now)) }
     ensures same { OnOk result (scope.new.env.items ≡ scope.old.env.items) }
 {
-    let mut all = none_joined(is_some);
+    let mut all = junction.neutral();
     for part in parts {
-        all = joined(is_some, all, value(facts, scope, part)?);
-        if is_decided(is_some, all) {
+        all = junction.joined(all, value(facts, scope, part)?);
+        if is_decided(junction, all) {
             return Ok(all);
         }
     }
     Ok(all)
 }
 
-/// The value of a condition for all objects of some ranges, or for some objects of them.
+/// The value of the junction of a condition over the lists of objects of some ranges.
 #[cycle(evaluating)]
 fn range_value(
     facts: &Facts,
     scope: &mut Scope,
     ranges: &[Range],
     part: &LCond,
-    is_some: bool,
+    junction: Junction,
 ) -> Result<Kleene, NoMemory>
-    ensures value { IfOk result (λ value. value ≡ joined_all is_some (map (λ objects. partial_value facts.now.task.now (scope.old.env.items ++ map Some objects) part.now) (tuples (objects_of ranges.now)))) }
+    ensures value { IfOk result (λ value. value ≡ joined_all junction (map (λ objects. partial_value facts.now.task.now (scope.old.env.items ++ map Some objects) part.now) (tuples (objects_of ranges.now)))) }
     ensures same { OnOk result (scope.new.env.items ≡ scope.old.env.items) }
 {
     match ranges {
         [] => value(facts, scope, part),
         [range, rest @ ..] => {
-            let mut all = none_joined(is_some);
+            let mut all = junction.neutral();
             for object in range.as_slice() {
                 scope.env.push(Some(*object))?;
-                let one = range_value(facts, scope, rest, part, is_some)?;
+                let one = range_value(facts, scope, rest, part, junction)?;
                 scope.env.pop();
-                all = joined(is_some, all, one);
-                if is_decided(is_some, all) {
+                all = junction.joined(all, one);
+                if is_decided(junction, all) {
                     return Ok(all);
                 }
             }

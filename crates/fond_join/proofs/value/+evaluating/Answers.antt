@@ -1,11 +1,13 @@
-use Rattle.std.proofs.Common.{◌≡◌, ◌+◌, ◌-◌, ◌++◌, ◌∷◌, [], Some, length, map, take, drop, get_or, refl, sym, ap, subst, ◌∙◌, IfOk, true, false, vec_len, arith}
+use Rattle.std.proofs.Common.{◌≡◌, ◌+◌, ◌-◌, ◌++◌, ◌∷◌, [], Some, length, map, take, drop, get_or, refl, sym, ap, subst, ◌∙◌, IfOk, vec_len, arith}
 use Rattle.std.proofs.lemmas.Grind.{common_steps}
 use Rattle.std.specs.Prelude.{fold}
 use Rattle.std.proofs.lemmas.List.{get_or_default}
 use Rattle.fond_ast.specs.Ranges.{RangeList, objects_of}
 use Rattle.fond_ast.specs.declared.form.LCond.{LCond}
 use Rattle.fond_meaning.specs.Conditions.{tuples}
-use Rattle.fond_join.specs.Partial.{joined, joined_all, partial_value}
+use Rattle.fond_task.specs.Junctions.{joined, joined_all}
+use Rattle.fond_task.specs.declared.form.Junction.TheVariants.{All, Any}
+use Rattle.fond_join.specs.Partial.{partial_value}
 use Rattle.fond_join.proofs.Items.{first_item, rest_length, popped}
 use Rattle.fond_join.proofs.Joined.{at_exists, at_forall, joined_next, over_first, over_rest}
 use Rattle.fond_join.proofs.Weights.{total, weight, weight-And, weight-Or, weight-Not, weight-Imply, weight-Forall, weight-Exists, part_weight}
@@ -22,8 +24,8 @@ parts_value-loop-part-preserved t c =
     let one = c.in_ok-value.ensures.value ∙ ap (λ around. partial_value c.args.facts.now.task.now around c.part-item.result) c.loop-part.invariant.same in
     record {
       same = c.in_ok-value.ensures.same ∙ c.loop-part.invariant.same;
-      left = ap (λ v. fold (joined c.args.is_some) v (map of (drop (i + 1) c.args.parts.now))) (c.joined-all.ensures ∙ ap (joined c.args.is_some c.loop-part.all) one)
-          ∙ joined_next c.args.is_some of c.loop-part.all c.args.parts.now i c.part-item.result c.loop-part-test.true c.part-item.is
+      left = ap (λ v. fold (joined c.args.junction) v (map of (drop (i + 1) c.args.parts.now))) (c.joined-all.ensures ∙ ap (joined c.args.junction c.loop-part.all) one)
+          ∙ joined_next c.args.junction of c.loop-part.all c.args.parts.now i c.part-item.result c.loop-part-test.true c.part-item.is
           ∙ c.loop-part.invariant.left;
     }
 
@@ -34,8 +36,8 @@ parts_value-returns-then-is_decided-clause-value t c =
     let i = c.loop-part.part-index in
     let one = c.in_ok-value.ensures.value ∙ ap (λ around. partial_value c.args.facts.now.task.now around c.part-item.result) c.loop-part.invariant.same in
     sym (c.is_decided.ensures c.if-is_decided.true (map of (drop (i + 1) c.args.parts.now)))
-    ∙ ap (λ v. fold (joined c.args.is_some) v (map of (drop (i + 1) c.args.parts.now))) (c.joined-all.ensures ∙ ap (joined c.args.is_some c.loop-part.all) one)
-    ∙ joined_next c.args.is_some of c.loop-part.all c.args.parts.now i c.part-item.result c.loop-part-test.true c.part-item.is
+    ∙ ap (λ v. fold (joined c.args.junction) v (map of (drop (i + 1) c.args.parts.now))) (c.joined-all.ensures ∙ ap (joined c.args.junction c.loop-part.all) one)
+    ∙ joined_next c.args.junction of c.loop-part.all c.args.parts.now i c.part-item.result c.loop-part-test.true c.part-item.is
     ∙ c.loop-part.invariant.left
 
 pub range_value-range_value-requires : goal.range_value-range_value-requires
@@ -49,10 +51,10 @@ range_value-loop-object-init t c =
     let rest = objects_of (take (length c.args.ranges.now - 1) (drop 1 c.args.ranges.now)) in
     record {
       same = refl;
-      left = ap (λ v. fold (joined c.args.is_some) v (map (over_rest task env c.args.part.now c.args.is_some rest) c.as_slice-object-items.result.now)) c.none_joined-all.ensures
-          ∙ ap (λ objects. joined_all c.args.is_some (map (over_rest task env c.args.part.now c.args.is_some rest) objects)) (c.as_slice-object-items.ensures ∙ c.deref.ensures)
-          ∙ over_first task env c.args.part.now c.args.is_some c.range-item.result.value rest
-          ∙ ap (λ ranges. joined_all c.args.is_some (map (λ objects. partial_value task (env ++ map Some objects) c.args.part.now) (tuples (objects_of ranges)))) (sym whole);
+      left = ap (λ v. fold (joined c.args.junction) v (map (over_rest task env c.args.part.now c.args.junction rest) c.as_slice-object-items.result.now)) c.neutral-all.ensures
+          ∙ ap (λ objects. joined_all c.args.junction (map (over_rest task env c.args.part.now c.args.junction rest) objects)) (c.as_slice-object-items.ensures ∙ c.deref.ensures)
+          ∙ over_first task env c.args.part.now c.args.junction c.range-item.result.value rest
+          ∙ ap (λ ranges. joined_all c.args.junction (map (λ objects. partial_value task (env ++ map Some objects) c.args.part.now) (tuples (objects_of ranges)))) (sym whole);
     }
 
 pub range_value-loop-object-preserved : goal.range_value-loop-object-preserved
@@ -60,20 +62,20 @@ range_value-loop-object-preserved t c =
     let task = c.args.facts.now.task.now in
     let env = c.args.scope.now.env.items in
     let part = c.args.part.now in
-    let some = c.args.is_some in
+    let junction = c.args.junction in
     let i = c.loop-object.object-index in
     let objects = c.as_slice-object-items.result.now in
     let object = get_or objects i 0 in
     let rest = objects_of (take (length c.args.ranges.now - 1) (drop 1 c.args.ranges.now)) in
-    let of = over_rest task env part some rest in
+    let of = over_rest task env part junction rest in
     let grown = c.in_ok-push-in-len1-up.ensures.items ∙ ap (λ around. around ++ Some object ∷ []) c.loop-object.invariant.same in
     let inside = c.in_ok-one-in-len1-up.ensures.same ∙ grown in
-    let one = c.in_ok-one-in-len1-up.ensures.value ∙ ap (λ around. joined_all some (map (λ objects. partial_value task (around ++ map Some objects) part) (tuples rest))) grown in
+    let one = c.in_ok-one-in-len1-up.ensures.value ∙ ap (λ around. joined_all junction (map (λ objects. partial_value task (around ++ map Some objects) part) (tuples rest))) grown in
     let long : vec_len c.range_value.new.scope.env ≡ length c.range_value.new.scope.env.items = grind (arith, common_steps) in
     record {
       same = popped env c.range_value.new.scope.env.items c.pop.new.self.items (Some object) (vec_len c.range_value.new.scope.env) inside long c.pop.ensures.rest;
-      left = ap (λ v. fold (joined some) v (map of (drop (i + 1) objects))) (c.joined-all.ensures ∙ ap (joined some c.loop-object.all) one)
-          ∙ joined_next some of c.loop-object.all objects i object c.loop-object-test.true (get_or_default objects i 0 object c.loop-object-test.true)
+      left = ap (λ v. fold (joined junction) v (map of (drop (i + 1) objects))) (c.joined-all.ensures ∙ ap (joined junction c.loop-object.all) one)
+          ∙ joined_next junction of c.loop-object.all objects i object c.loop-object-test.true (get_or_default objects i 0 object c.loop-object-test.true)
           ∙ c.loop-object.invariant.left;
     }
 
@@ -82,17 +84,17 @@ range_value-returns-then-is_decided-clause-value t c =
     let task = c.args.facts.now.task.now in
     let env = c.args.scope.now.env.items in
     let part = c.args.part.now in
-    let some = c.args.is_some in
+    let junction = c.args.junction in
     let i = c.loop-object.object-index in
     let objects = c.as_slice-object-items.result.now in
     let object = get_or objects i 0 in
     let rest = objects_of (take (length c.args.ranges.now - 1) (drop 1 c.args.ranges.now)) in
-    let of = over_rest task env part some rest in
+    let of = over_rest task env part junction rest in
     let grown = c.in_ok-push-in-len1-up.ensures.items ∙ ap (λ around. around ++ Some object ∷ []) c.loop-object.invariant.same in
-    let one = c.in_ok-one-in-len1-up.ensures.value ∙ ap (λ around. joined_all some (map (λ objects. partial_value task (around ++ map Some objects) part) (tuples rest))) grown in
+    let one = c.in_ok-one-in-len1-up.ensures.value ∙ ap (λ around. joined_all junction (map (λ objects. partial_value task (around ++ map Some objects) part) (tuples rest))) grown in
     sym (c.is_decided.ensures c.if-is_decided.true (map of (drop (i + 1) objects)))
-    ∙ ap (λ v. fold (joined some) v (map of (drop (i + 1) objects))) (c.joined-all.ensures ∙ ap (joined some c.loop-object.all) one)
-    ∙ joined_next some of c.loop-object.all objects i object c.loop-object-test.true (get_or_default objects i 0 object c.loop-object-test.true)
+    ∙ ap (λ v. fold (joined junction) v (map of (drop (i + 1) objects))) (c.joined-all.ensures ∙ ap (joined junction c.loop-object.all) one)
+    ∙ joined_next junction of c.loop-object.all objects i object c.loop-object-test.true (get_or_default objects i 0 object c.loop-object-test.true)
     ∙ c.loop-object.invariant.left
 
 pub range_value-returns-then-is_decided-clause-same : goal.range_value-returns-then-is_decided-clause-same
@@ -107,7 +109,7 @@ pub value-returns-in-Forall-clause-value : goal.value-returns-in-Forall-clause-v
 value-returns-in-Forall-clause-value t c =
     let task = c.args.facts.now.task.now in
     let env = c.args.scope.now.env.items in
-    let all = λ (ranges : RangeList) (part : LCond). joined_all false (map (λ objects. partial_value task (env ++ map Some objects) part) (tuples (objects_of ranges))) in
+    let all = λ (ranges : RangeList) (part : LCond). joined_all All (map (λ objects. partial_value task (env ++ map Some objects) part) (tuples (objects_of ranges))) in
     subst (λ v. IfOk c.range_value.result (λ value. value ≡ v))
     (ap (λ ranges. all ranges c.deref-in-Forall.result.now) c.as_slice.ensures ∙ ap (all c.in-Forall.ranges) c.deref-in-Forall.ensures
     ∙ at_forall task env c.in-Forall.ranges c.in-Forall.part ∙ ap (partial_value task env) (sym c.in-Forall.is)) c.range_value.ensures.value
@@ -116,7 +118,7 @@ pub value-returns-in-Exists-clause-value : goal.value-returns-in-Exists-clause-v
 value-returns-in-Exists-clause-value t c =
     let task = c.args.facts.now.task.now in
     let env = c.args.scope.now.env.items in
-    let all = λ (ranges : RangeList) (part : LCond). joined_all true (map (λ objects. partial_value task (env ++ map Some objects) part) (tuples (objects_of ranges))) in
+    let all = λ (ranges : RangeList) (part : LCond). joined_all Any (map (λ objects. partial_value task (env ++ map Some objects) part) (tuples (objects_of ranges))) in
     subst (λ v. IfOk c.range_value-in-Exists.result (λ value. value ≡ v))
     (ap (λ ranges. all ranges c.deref-in-Exists.result.now) c.as_slice-in-Exists.ensures ∙ ap (all c.in-Exists.ranges) c.deref-in-Exists.ensures
     ∙ at_exists task env c.in-Exists.ranges c.in-Exists.part ∙ ap (partial_value task env) (sym c.in-Exists.is)) c.range_value-in-Exists.ensures.value

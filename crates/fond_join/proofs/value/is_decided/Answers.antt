@@ -1,8 +1,6 @@
-use Rattle.fond_join.proofs.Joined.{decided_no, decided_yes}
+use Rattle.std.proofs.Common.{rules, ◌≡◌}
+use Rattle.fond_join.proofs.Joined.{decided_stays}
 use Rattle.fond_join.proofs.value.is_decided.Goals as goal
 
-pub returns-in-No : goal.returns-in-No
-returns-in-No c = rw c.in-No.is (decided_no c.args.is_some)
-
-pub returns-in-Yes : goal.returns-in-Yes
-returns-in-Yes c = rw c.in-Yes.is (decided_yes c.args.is_some)
+pub returns : goal.returns
+returns c = λ e values. let same : c.args.value ≡ c.neutral.result = search rules in rw (same, c.neutral.ensures, c.dual.ensures) (decided_stays c.args.junction values)
