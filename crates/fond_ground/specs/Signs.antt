@@ -1,26 +1,21 @@
 -- Conditions and their negations, conjunctions and disjunctions.
-use Rattle.std.specs.Prelude.{Bool, true, false, not, List, Option, map, fold, if◌then◌else◌}
-use Rattle.fond_join.specs.Values.{opposite}
+use Rattle.std.specs.Prelude.{Bool, true, false, List, Option, map, if◌then◌else◌}
+use Rattle.fond_task.specs.declared.form.Junction.{Junction}
 use Rattle.fond_task.specs.declared.form.Kleene.{Kleene}
-use Rattle.fond_task.specs.declared.form.Kleene.TheVariants.{No, Yes}
-use Rattle.fond_task.specs.Values.{greater, lesser, value}
-use Rattle.fond_ground.specs.declared.junction.Junction.{Junction}
+use Rattle.fond_task.specs.Junctions.{dual, joined_all, neutral}
+use Rattle.fond_task.specs.Values.{opposite, value}
+use Rattle.fond_ground.specs.declared.junction.JunctionForm.{JunctionForm}
 
 -- a value, or its opposite if the sign is false
 abbrev pub signed : Bool → Kleene → Kleene
 signed true value = value
 signed false value = opposite value
 
--- the value of a conjunction of two values, which is the lesser, or of their disjunction, which is the greater
-abbrev pub joined : Bool → Kleene → Kleene → Kleene
-joined true value other = lesser value other
-joined false value other = greater value other
+-- a junction, or its dual if the sign is false
+abbrev pub signed_junction : Bool → Junction → Junction
+signed_junction true junction = junction
+signed_junction false junction = dual junction
 
--- the value of a conjunction, or a disjunction, without parts
-abbrev pub neutral : Bool → Kleene
-neutral true = Yes
-neutral false = No
-
--- the value of a conjunction, or a disjunction, that grows: it is decided, or has the value of its parts
-abbrev pub junction_value : List (Option Bool) → Junction → Kleene
-junction_value cube junction = if junction.decided then neutral (not junction.all) else fold (joined junction.all) (neutral junction.all) (map (value cube) junction.parts.items)
+-- the value of a junction that grows: that of the dual junction without parts if it is decided, and else that of its parts
+abbrev pub junction_value : List (Option Bool) → JunctionForm → Kleene
+junction_value cube form = if form.decided then neutral (dual form.junction) else joined_all form.junction (map (value cube) form.parts.items)

@@ -4,19 +4,20 @@
 
 ghost use Rattle.fond_ast.specs.Ranges.{objects_of};
 ghost use Rattle.fond_ground.specs.Atoms.{fluent_atoms};
-ghost use Rattle.fond_ground.specs.Signs.{joined, neutral, signed};
+ghost use Rattle.fond_ground.specs.Signs.{signed, signed_junction};
 ghost use Rattle.fond_ground.specs.Values.{atom_value, StandsFor};
 ghost use Rattle.fond_join.specs.Values.{condition_value};
 ghost use Rattle.fond_meaning.specs.Conditions.{ground_atom, tuples};
+ghost use Rattle.fond_task.specs.Junctions.{joined_all};
 ghost use Rattle.fond_task.specs.Values.{value};
 ghost use Rattle.fond_task.specs.Within.{is_form_within};
-ghost use Rattle.std.specs.Prelude.{◌≡◌, ◌++◌, List, Bool, Option, true, not, fold, map, length, IfOk, OnOk};
+ghost use Rattle.std.specs.Prelude.{◌≡◌, ◌++◌, List, Bool, Option, true, map, length, IfOk, OnOk};
 
-use crate::junction::{Junction, junction_of};
+use crate::junction::{JunctionForm, junction_of};
 use crate::table::{Table, ground_numbers, object};
 use crate::tuples::Tuples;
 use fond_ast::form::{LAtom, LCond, Range};
-use fond_task::form::Form;
+use fond_task::form::{Form, Junction};
 use fond_text::fault::NoMemory;
 use std::alloc::Global;
 
@@ -41,6 +42,13 @@ fn literal_form(
     }
 }
 
+/// A junction, or its dual if the sign is false.
+fn signed_junction(sign: bool, junction: Junction) -> Junction
+    ensures { result ≡ signed_junction sign junction }
+{
+    if sign { junction } else { junction.dual() }
+}
+
 /// A condition, or its negation if the sign is false. A false sign turns a conjunction into the disjunction of the
 /// negated parts.
 #[cycle(forming)]
@@ -62,24 +70,32 @@ fn signed_form(
             let is_same = object(*term, env) == object(*other, env);
             Ok(Form::Truth(is_same == sign))
         }
-        LCond::And(members) => members_form(alloc, table, members, env, sign, sign),
-        LCond::Or(members) => members_form(alloc, table, members, env, sign, !sign),
+        LCond::And(members) => {
+            let junction = signed_junction(sign, Junction::All);
+            members_form(alloc, table, members, env, sign, junction)
+        }
+        LCond::Or(members) => {
+            let junction = signed_junction(sign, Junction::Any);
+            members_form(alloc, table, members, env, sign, junction)
+        }
         LCond::Not(part) => signed_form(alloc, table, part, env, !sign),
         LCond::Imply(part, other) => {
             let first = signed_form(alloc, table, part, env, !sign)?;
             let second = signed_form(alloc, table, other, env, sign)?;
-            junction_of(alloc, first, second, !sign)
+            junction_of(alloc, first, second, signed_junction(sign, Junction::Any))
         }
         LCond::Forall(ranges, part) => {
-            instances_form(alloc, table, ranges.as_slice(), part, env, sign, sign)
+            let junction = signed_junction(sign, Junction::All);
+            instances_form(alloc, table, ranges.as_slice(), part, env, sign, junction)
         }
         LCond::Exists(ranges, part) => {
-            instances_form(alloc, table, ranges.as_slice(), part, env, sign, !sign)
+            let junction = signed_junction(sign, Junction::Any);
+            instances_form(alloc, table, ranges.as_slice(), part, env, sign, junction)
         }
     }
 }
 
-/// The conjunction (`all`) or the disjunction of the members, each with this sign.
+/// The junction of the members, each with this sign.
 #[cycle(forming)]
 fn members_form(
     alloc: Global,
@@ -87,24 +103,24 @@ fn members_form(
     members: &[LCond],
     env: &mut Vec<u32>,
     sign: bool,
-    all: bool,
+    junction: Junction,
 ) -> Result<Form, NoMemory>
     ensures within { IfOk result (λ form. is_form_within (length (fluent_atoms table.now.facts.task.now)) form ≡ true) }
     ensures value { IfOk result (λ form. (cube : List (Option Bool)) → value cube form
-        ≡ fold (joined all) (neutral all) (map (λ member. signed sign (condition_value (atom_value table.now.facts.task.now cube) env.old.items member)) members.now)) }
+        ≡ joined_all junction (map (λ member. signed sign (condition_value (atom_value table.now.facts.task.now cube) env.old.items member)) members.now)) }
     ensures env { OnOk result (env.new.items ≡ env.old.items) }
 {
-    let mut junction = Junction::new(alloc, all);
+    let mut whole = JunctionForm::new(alloc, junction);
     for member in members {
-        if junction.is_decided() {
-            return Ok(junction.form());
+        if whole.is_decided() {
+            return Ok(whole.form());
         }
-        junction.add(signed_form(alloc, table, member, env, sign)?)?;
+        whole.add(signed_form(alloc, table, member, env, sign)?)?;
     }
-    Ok(junction.form())
+    Ok(whole.form())
 }
 
-/// The conjunction (`all`) or the disjunction of the part, with this sign, over the lists of objects of the ranges.
+/// The junction of the part, with this sign, over the lists of objects of the ranges.
 #[cycle(forming)]
 fn instances_form(
     alloc: Global,
@@ -113,25 +129,25 @@ fn instances_form(
     part: &LCond,
     env: &mut Vec<u32>,
     sign: bool,
-    all: bool,
+    junction: Junction,
 ) -> Result<Form, NoMemory>
     ensures within { IfOk result (λ form. is_form_within (length (fluent_atoms table.now.facts.task.now)) form ≡ true) }
     ensures value { IfOk result (λ form. (cube : List (Option Bool)) → value cube form
-        ≡ fold (joined all) (neutral all) (map (λ objects. signed sign (condition_value (atom_value table.now.facts.task.now cube) (env.old.items ++ objects) part.now)) (tuples (objects_of ranges.now)))) }
+        ≡ joined_all junction (map (λ objects. signed sign (condition_value (atom_value table.now.facts.task.now cube) (env.old.items ++ objects) part.now)) (tuples (objects_of ranges.now)))) }
     ensures env { OnOk result (env.new.items ≡ env.old.items) }
 {
     let around = env.len();
-    let mut junction = Junction::new(alloc, all);
+    let mut whole = JunctionForm::new(alloc, junction);
     let mut tuples = Tuples::of(alloc, ranges)?;
     while !tuples.is_done() {
-        if junction.is_decided() {
-            return Ok(junction.form());
+        if whole.is_decided() {
+            return Ok(whole.form());
         }
         tuples.put_next(env)?;
-        junction.add(signed_form(alloc, table, part, env, sign)?)?;
+        whole.add(signed_form(alloc, table, part, env, sign)?)?;
         env.truncate(around);
     }
-    Ok(junction.form())
+    Ok(whole.form())
 }
 
 /// The ground condition of a condition, where these are the objects of the variables around it. Takes time in the size of
