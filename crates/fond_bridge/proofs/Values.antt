@@ -13,10 +13,10 @@ use Rattle.fond_ast.specs.declared.form.LCond.TheFolds.{fold-LCond, fold_out-LCo
 use Rattle.fond_meaning.specs.States.{State}
 use Rattle.fond_meaning.specs.Conditions.{object_of, ground_atom, tuples}
 use Rattle.fond_meaning.specs.Truths.{holds, holds_step}
-use Rattle.fond_join.specs.Values.{condition_step, condition_value, opposite}
+use Rattle.fond_join.specs.Values.{condition_step, condition_value}
 use Rattle.fond_task.specs.declared.form.Kleene.{Kleene}
 use Rattle.fond_task.specs.declared.form.Kleene.TheVariants.{No, Unknown, Yes}
-use Rattle.fond_task.specs.Values.{greater, greatest, least, lesser}
+use Rattle.fond_task.specs.Values.{greater, greatest, least, lesser, opposite}
 use Rattle.fond_task.proofs.Tells.{Tells, Tells-lesser, Tells-greater, and_assoc, or_assoc, or_none}
 
 -- Yes for true, and No for false

@@ -9,8 +9,8 @@ use Rattle.fond_ast.specs.declared.form.LCond.TheViews.{out-LCond, outs-And', ou
 use Rattle.fond_ast.specs.declared.form.LCond.TheFolds.{fold-LCond, fold_out-LCond, map-LCond}
 use Rattle.fond_meaning.specs.Conditions.{tuples}
 use Rattle.fond_task.specs.declared.form.Kleene.{Kleene}
-use Rattle.fond_task.specs.Values.{greater, greatest, least}
-use Rattle.fond_join.specs.Values.{condition_step, condition_value, opposite}
+use Rattle.fond_task.specs.Values.{greater, greatest, least, opposite}
+use Rattle.fond_join.specs.Values.{condition_step, condition_value}
 use Rattle.fond_same.specs.Lifted.{AreSameConditions, IsSameCondition}
 
 module _ (known : Atom → Kleene) where
