@@ -1,5 +1,6 @@
 -- What a search leaves out, and what it keeps.
-use Rattle.std.proofs.Common.{◌≡◌, ◌<◌, inl, inr, ℕ, zero, suc, ◌+◌, Bool, true, false, not, List, [], ◌∷◌, ◌++◌, Option, Some, None, map, length, refl, sym, ap, subst, ◌∙◌, true≢false, drop, get_or, set}
+use Rattle.std.proofs.Common.{◌≡◌, ◌<◌, inl, inr, ℕ, zero, suc, ◌+◌, Bool, true, false, not, List, [], ◌∷◌, ◌++◌, Option, Some, None, map, length, refl, sym, ap, subst, ◌∙◌, true≢false, drop, get_or, set, arith}
+use Rattle.std.proofs.lemmas.Grind.{common_steps}
 use Rattle.std.specs.Prelude.{filter, is_some, slice_get, if◌then◌else◌, IsTrue}
 use Rattle.std.specs.List.{flat_map, list_all}
 use Rattle.std.specs.declared.alloc.Global.{Global}
@@ -51,6 +52,9 @@ agree_at (known ∷ env) zero object [] none h = absurd h
 agree_at (known ∷ env) zero object (first ∷ objects) none h = sym h.0
 agree_at (known ∷ env) (suc parameter) object [] none h = absurd h
 agree_at (known ∷ env) (suc parameter) object (first ∷ objects) none h = agree_at env parameter object objects none h.1
+
+longer : {X : Type 0} (xs ys zs : List X) (most : ℕ) → most < length (xs ++ ys) → most < length (xs ++ (ys ++ zs))
+longer xs ys zs most more = grind (arith, common_steps)
 
 module _ (ranges : List (List ℕ)) (p : List ℕ → Bool) where
   -- the completions that pass a test
@@ -106,6 +110,17 @@ module _ (ranges : List (List ℕ)) (p : List ℕ → Bool) where
       ∙ append_assoc before (passing (set env parameter (Some object)) order) (passing_from env parameter order (drop (i + 1) objects))
       ∙ ap (λ all. before ++ all) (sym (ap (passing_from env parameter order) (drop_item objects i object within is) ∙ passing_first env parameter order object (drop (i + 1) objects)))
       ∙ left
+
+  -- there are too many completions if there are too many with the next object
+  pub too_many : (env : List (Option ℕ)) (parameter : ℕ) (order objects : List ℕ) (i object most : ℕ) (before whole : List (List ℕ)) → i < length objects → object ≡ get_or objects i object →
+      most < length (before ++ passing (set env parameter (Some object)) order) → before ++ passing_from env parameter order (drop i objects) ≡ whole → most < length whole
+  too_many env parameter order objects i object most before whole within is more left =
+      subst (λ all. most < length all) (ap (λ all. before ++ all) (sym (ap (passing_from env parameter order) (drop_item objects i object within is) ∙ passing_first env parameter order object (drop (i + 1) objects))) ∙ left)
+      (longer before (passing (set env parameter (Some object)) order) (passing_from env parameter order (drop (i + 1) objects)) most more)
+
+-- a parameter that has no object is one of those there are
+pub none_within : (env : List (Option ℕ)) (parameter : ℕ) → get_or env parameter (Some 0) ≡ None → parameter < length env
+none_within env parameter none = grind (arith, common_steps)
 
 -- the objects of a range
 pub range_at : (ranges : RangeList) (parameter : ℕ) (range : Rc (List ℕ) Global) → slice_get ranges parameter ≡ Some range → range.value ≡ get_or (objects_of ranges) parameter []

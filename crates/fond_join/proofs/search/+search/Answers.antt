@@ -1,14 +1,14 @@
-use Rattle.std.proofs.Common.{◌≡◌, ◌-◌, [], ◌∷◌, ◌++◌, Some, None, Option, List, ℕ, IfOk, true, length, not, take, drop, get_or, set, refl, sym, ap, subst, ◌∙◌, arith}
+use Rattle.std.proofs.Common.{◌≡◌, ◌<◌, ◌-◌, [], ◌∷◌, ◌++◌, Some, None, Option, List, ℕ, IfOk, true, length, not, take, drop, get_or, set, refl, sym, ap, subst, ◌∙◌, arith}
 use Rattle.std.proofs.lemmas.Grind.{common_steps}
-use Rattle.std.proofs.lemmas.List.{append-nil, get_or_default}
+use Rattle.std.proofs.lemmas.List.{append-nil, drop_all, get_or_default, length-set}
 use Rattle.std.specs.Bool.{OnTrue}
 use Rattle.fond_ast.specs.Ranges.{objects_of}
 use Rattle.fond_join.specs.Kept.{is_kept, is_no}
 use Rattle.fond_join.specs.Partial.{partial_value}
 use Rattle.fond_join.specs.Search.{arguments, IsOrder, kept_completions, Searched}
 use Rattle.fond_join.specs.Candidates.{AreCandidates}
-use Rattle.fond_join.proofs.Completed.{candidates_enough, next_found, none_kept, one_kept, restored}
-use Rattle.fond_join.proofs.Items.{first_item}
+use Rattle.fond_join.proofs.Completed.{candidates_enough, next_found, none_kept, none_within, one_kept, passing_from, restored, too_many}
+use Rattle.fond_join.proofs.Items.{first_item, rest_length}
 use Rattle.fond_join.proofs.search.+search.Goals as goal
 
 pub returns-then-not-branch-clause-found : goal.returns-then-not-branch-clause-found
@@ -71,3 +71,55 @@ returns-in-empty-clause-found t c =
     let one = ap (kept_completions task c.args.schema.now env) none ∙ one_kept task c.args.schema.now env all possible in
     subst (λ lists. IfOk c.keep.result (Searched c.args.most c.args.found.now lists c.keep.new.found))
     (ap (λ around. arguments around ∷ []) c.in_ok-is_possible.ensures.same ∙ sym one) c.keep.ensures
+
+pub returns-then-not-branch-clause-same : goal.returns-then-not-branch-clause-same
+returns-then-not-branch-clause-same t c = c.in_ok-is_possible.ensures.same
+
+pub candidates-requires : goal.candidates-requires
+candidates-requires t c =
+    let order = c.args.order.now in
+    let parameter = get_or order 0 0 in
+    let whole = first_item order parameter c.in-len1-up.len_at_least (get_or_default order 0 0 parameter c.in-len1-up.len_at_least) in
+    let is = subst (IsOrder c.args.scope.now.env.items) whole c.requires.order in
+    record { within = subst (λ n. parameter < n) c.requires.long (none_within c.args.scope.now.env.items parameter is.0); rising = c.requires.rising }
+
+pub returns-then-not-branch-2-clause-found : goal.returns-then-not-branch-2-clause-found
+returns-then-not-branch-2-clause-found t c =
+    let order = c.args.order.now in
+    let task = c.args.facts.now.task.now in
+    let env = c.is_possible.new.scope.env.items in
+    let parameter = get_or order 0 0 in
+    let rest = take (length order - 1) (drop 1 order) in
+    let objects = c.deref-object-items.result.now in
+    let i = c.loop-object.object-index in
+    let object = get_or objects i 0 in
+    let went = subst (Searched c.args.most c.loop-object.found (kept_completions task c.args.schema.now (set c.loop-object.scope.env.items parameter (Some object)) rest) c.search.new.found) c.if-not-branch-2.true c.in_ok-search-in-len1-up.ensures.found in
+    subst (λ around. c.args.most < length (c.args.found.now ++ kept_completions task c.args.schema.now around order)) c.in_ok-is_possible.ensures.same
+    (too_many (objects_of c.args.schema.now.ranges) (is_kept task c.args.schema.now) env parameter rest objects i object c.args.most c.loop-object.found _ c.loop-object-test.true
+    (get_or_default objects i 0 object c.loop-object-test.true) (subst (λ around. c.args.most < length (c.loop-object.found ++ kept_completions task c.args.schema.now (set around parameter (Some object)) rest)) c.loop-object.invariant.same went) c.loop-object.invariant.left)
+
+pub search-requires : goal.search-requires
+search-requires t c =
+    let order = c.args.order.now in
+    let parameter = get_or order 0 0 in
+    let rest = take (length order - 1) (drop 1 order) in
+    let object = Some (get_or c.deref-object-items.result.now c.loop-object.object-index 0) in
+    let whole = first_item order parameter c.in-len1-up.len_at_least (get_or_default order 0 0 parameter c.in-len1-up.len_at_least) in
+    let is = subst (IsOrder c.args.scope.now.env.items) whole c.requires.order in
+    let own = c.loop-object.invariant.same ∙ c.in_ok-is_possible.ensures.same in
+    let long = length-set c.loop-object.scope.env.items parameter object ∙ ap length own ∙ c.requires.long in
+    let order_left = subst (λ env. IsOrder (set env parameter object) rest) (sym own) (is.1 (get_or c.deref-object-items.result.now c.loop-object.object-index 0)) in
+    let shorter = rest_length order c.in-len1-up.len_at_least in
+    (omega (arith, shorter), (long, (order_left, (c.requires.rising, c.loop-object.invariant.room))))
+
+pub returns-after-loop-object-clause-found : goal.returns-after-loop-object-clause-found
+returns-after-loop-object-clause-found t c =
+    let order = c.args.order.now in
+    let task = c.args.facts.now.task.now in
+    let env = c.is_possible.new.scope.env.items in
+    let rest = take (length order - 1) (drop 1 order) in
+    let none = drop_all c.loop-object.object-index c.deref-object-items.result.now c.loop-object-test.false in
+    let found = sym (append-nil c.loop-object.found)
+    ∙ ap (λ left. c.loop-object.found ++ passing_from (objects_of c.args.schema.now.ranges) (is_kept task c.args.schema.now) env (get_or order 0 0) rest left) (sym none)
+    ∙ c.loop-object.invariant.left in
+    (found ∙ ap (λ around. c.args.found.now ++ kept_completions task c.args.schema.now around order) c.in_ok-is_possible.ensures.same, c.loop-object.invariant.room)
