@@ -1,4 +1,4 @@
--- The faults of names, F13 to F20.
+-- The faults of names; docs/FAULTS.md lists them under the codes that are printed, F13 to F20.
 use Rattle.std.specs.Prelude.{◌≡◌, ◌≢◌, ◌⊎◌, ℕ, true, false, List, [], ◌++◌, map, length, Contains, Option, Some, None, slice_get, find, if◌then◌else◌}
 use Rattle.std.specs.List.{AllZip, list_all}
 use Rattle.std.specs.Str.{bytes_eq}
@@ -22,7 +22,7 @@ use Rattle.fond_kinds.specs.Kinds.{only_kind, is_type, are_types, Fit}
 use Rattle.fond_names.specs.Names.{Declarations, is_among, first_of, all_objects, predicate_of, schema_of, schema_leaves, schema_names}
 use Rattle.fond_names.specs.Sites.{Scope, Site, AnAtom, AnEquality, AList, sites_within, variable_of, domain_sites, problem_sites}
 
--- a type of one of these names is not declared; the fault is at the type
+-- one of these declarations has a type that is not declared; the fault is at the type
 abbrev pub HasUnknownType : List TypedName → List TypedName → Place → ℕ → Type 0
 HasUnknownType types names place code =
     (name : TypedName) × Contains names name × ((kind : Kind) × Contains name.kinds kind × (is_type types kind.name ≡ false) × (place ≡ kind.place)) × (code ≡ UNKNOWN_TYPE)
@@ -88,44 +88,46 @@ pub record HasMismatch (files : Declarations) (around : Scope) (atom : ReadAtom)
   pub place_is : place ≡ argument.place
   pub coded : code ≡ TYPE_MISMATCH
 
--- a term is no declared object, or a variable that no list around it declares; the fault is at the term
+-- a term is the name of no object, or a variable that no list around it declares; the fault is at the term
 abbrev pub IsUnknownTerm : Declarations → Scope → Term → Place → ℕ → Type 0
 IsUnknownTerm files around term place code = (declaration_of files around term ≡ None) × (place ≡ term.place) × (code ≡ UNKNOWN_TERM)
 
--- a term of an atom is unknown
+-- a term of an atom is unknown; the fault is at the term
 abbrev pub HasUnknownTerm : Declarations → Scope → ReadAtom → Place → ℕ → Type 0
 HasUnknownTerm files around atom place code = (term : Term) × Contains atom.terms term × IsUnknownTerm files around term place code
 
--- a fault of names at a site
+-- a fault of names occurs at a site: an atom has an unknown predicate, the wrong number of terms, an argument that does not
+-- fit or an unknown term, an equality has an unknown term, or a list has an undeclared type or repeats a variable
 abbrev pub OccursAt : Declarations → Place → ℕ → Site → Type 0
 OccursAt files place code (AnAtom around atom) =
     HasUnknownPredicate files atom place code ⊎ HasWrongArity files atom place code ⊎ HasMismatch files around atom place code ⊎ HasUnknownTerm files around atom place code
 OccursAt files place code (AnEquality around term other) = IsUnknownTerm files around term place code ⊎ IsUnknownTerm files around other place code
 OccursAt files place code (AList names) = HasUnknownType files.domain.kinds names place code ⊎ IsRepeatedVariable names place code
 
--- a fault of names at one of these sites
+-- a fault of names occurs at one of the sites in a list of them
 abbrev pub OccursAmong : Declarations → List Site → Place → ℕ → Type 0
 OccursAmong files sites place code = (site : Site) × Contains sites site × OccursAt files place code site
 
--- the first fault of names at a site
+-- what was found is the first fault of names at this one site, or nothing if it has none
 abbrev pub IsFirstAt : Declarations → Site → Option Found → Type 0
 IsFirstAt files site found = IsFirst (λ place code. OccursAt files place code site) found
 
--- the first fault of names at some sites
+-- what was found is the first fault of names at all sites of a list, or nothing if none of them has one
 abbrev pub IsFirstIn : Declarations → List Site → Option Found → Type 0
 IsFirstIn files sites found = IsFirst (OccursAmong files sites) found
 
--- the first fault of names inside a list of variables: in the list itself, or in a part that it is around
+-- what was found is the first fault of names at a list of variables and at the sites of the part that it is around, or
+-- nothing if they have none
 abbrev pub IsFirstWithin : Declarations → List TypedName → (Scope → List Site) → Scope → Option Found → Type 0
 IsFirstWithin files names of around found = IsFirstIn files (sites_within names of around) found
 
--- if `all` is some objects, then these, and then some others: the first of these that is declared with another type than
--- at first, among the objects before it in `all`. If these are no part of `all`, this is true of any result
+-- wherever these objects are a part of `all`, what was found is the first of them that is declared again in `all` with
+-- another type than at first, or nothing if there is none
 abbrev pub IsFirstRepeated : List TypedName → List TypedName → Option Found → Type 0
 IsFirstRepeated all objects found =
     (before after : List TypedName) → all ≡ before ++ (objects ++ after) → IsFirst (IsRepeatedObject before objects) found
 
--- a type of a parameter of a predicate is not declared
+-- a parameter of some predicate has a type that is not declared; the fault is at the type
 abbrev pub HasUnknownParameter : Declarations → Place → ℕ → Type 0
 HasUnknownParameter files place code = (declared : Declared) × Contains files.domain.predicates declared × HasUnknownType files.domain.kinds declared.parameters place code
 
@@ -139,29 +141,31 @@ abbrev pub HasWrongCount : Domain → Pattern → Place → ℕ → Type 0
 HasWrongCount domain pattern place code =
     (schema : Schema) × (schema_of domain pattern.schema.name ≡ Some schema) × (length pattern.terms ≢ length schema.parameters) × (place ≡ pattern.place) × (code ≡ WRONG_ARITY)
 
--- a name among the terms of a pattern is no declared object; the fault is at the name
+-- a term of a pattern is the name of no object; the fault is at the term
 abbrev pub HasUnknownObject : Declarations → Pattern → Place → ℕ → Type 0
 HasUnknownObject files pattern place code =
     (term : Term) × Contains pattern.terms term × (term.variable ≡ false) × (first_of (all_objects files) term.name ≡ None) × (place ≡ term.place) × (code ≡ UNKNOWN_TERM)
 
--- a pattern has a fault in its terms
+-- a pattern has another number of terms than its schema has parameters, or one of its terms is the name of no object
 abbrev pub IsFaultyPattern : Declarations → Pattern → Place → ℕ → Type 0
 IsFaultyPattern files pattern place code = HasWrongCount files.domain pattern place code ⊎ HasUnknownObject files pattern place code
 
--- some pattern of the side list has a fault in its terms
+-- some pattern of the side list has another number of terms than its schema has parameters, or one of its terms is the name
+-- of no object
 abbrev pub HasFaultyPattern : Declarations → Place → ℕ → Type 0
 HasFaultyPattern files place code =
     (pattern : Pattern) × Contains files.side.patterns pattern × (HasWrongCount files.domain pattern place code ⊎ HasUnknownObject files pattern place code)
 
--- a predicate is declared again with other parameters, a schema has the name of an earlier one, or a fault of names occurs
--- at a site of a schema
+-- in the domain, a predicate is declared again with another number of parameters or other types, a schema has the name of an
+-- earlier one, or a fault of names occurs at a site of a schema
 abbrev pub HasLaterFault : Declarations → Place → ℕ → Type 0
 HasLaterFault files place code =
     IsRepeatedPredicate files.domain.predicates place code
     ⊎ IsRepeatedSchema files.domain.schemas place code
     ⊎ OccursAmong files (domain_sites files.domain) place code
 
--- a fault of names occurs in one of the files
+-- a fault of names occurs in this file: in the domain, among its types, constants, predicates and schemas; in the problem,
+-- among its objects, its initial atoms and its goal; in the side list, among its leaves and patterns
 abbrev pub StandsInNames : Declarations → FileKind → Place → ℕ → Type 0
 StandsInNames files kind.Domain place code =
     StandsInKinds files.domain.kinds place code

@@ -25,13 +25,13 @@ are_same_types [] [] = true
 are_same_types (one ∷ ones) (other ∷ others) = are_same_kinds one.kinds other.kinds && are_same_types ones others
 are_same_types ones others = false
 
--- whether the name of a declaration is that of a predicate, whose first declaration has another number of parameters or,
--- at some position, other types
+-- whether the first declaration of a predicate of this name, if there is one, has another number of parameters than this
+-- declaration or, at some position, other types
 abbrev pub has_other_types : Domain → Declared → Bool
 has_other_types domain declared =
     option_map_or (λ first. not (are_same_types first.parameters declared.parameters)) (predicate_of domain declared.name) false
 
--- whether the name of a declaration is that of an object, whose first declaration has another type
+-- whether the first declaration of an object of this name, if there is one, has another type than this declaration
 abbrev pub has_other_kind : Declarations → TypedName → Bool
 has_other_kind files declared =
     option_map_or (λ first. not (bytes_eq (only_kind first) (only_kind declared))) (first_of (all_objects files) declared.name) false

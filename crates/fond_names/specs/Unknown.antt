@@ -1,4 +1,4 @@
--- Unknown types, and arguments that do not fit, one by one.
+-- Undeclared types, arguments that do not fit and sound terms, for one list of types, one argument or one term.
 use Rattle.std.specs.Prelude.{◌≡◌, ◌||◌, ℕ, Bool, false, true, is_some, List, Contains, Some}
 use Rattle.fond_text.specs.declared.code.TheConstants.{UNKNOWN_TYPE, TYPE_MISMATCH}
 use Rattle.fond_text.specs.declared.place.Place.{Place}
@@ -14,7 +14,8 @@ use Rattle.fond_names.specs.Sites.{Scope}
 abbrev pub IsUnknownType : List TypedName → List Kind → Place → ℕ → Type 0
 IsUnknownType types kinds place code = (kind : Kind) × Contains kinds kind × (is_type types kind.name ≡ false) × (place ≡ kind.place) × (code ≡ UNKNOWN_TYPE)
 
--- an argument whose types are declared does not fit a parameter whose types are declared; the fault is at the argument
+-- an argument is declared, and so are all types of it and of a parameter, but these types do not fit; the fault is at the
+-- argument
 pub record IsMisfit (files : Declarations) (around : Scope) (argument : Term) (parameter : TypedName) (place : Place) (code : ℕ) : Type 0 where
   pub declared : TypedName
   pub known : declaration_of files around argument ≡ Some declared

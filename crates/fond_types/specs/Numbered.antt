@@ -1,4 +1,5 @@
--- Declarations whose names have numbers, and what is said of them over numbers.
+-- Declarations with predicates over numbers, and what is within them: each number in it is that of an object, a variable
+-- around it or a predicate, each argument lies in the range of its parameter, ranges rise, and each choice has a member.
 use Rattle.std.specs.Prelude.{◌≡◌, Bool, true, List, length, map}
 use Rattle.std.specs.List.{list_all}
 use Rattle.fond_text.specs.Lists.{are_distinct_texts, each_passes}
@@ -26,39 +27,40 @@ pub record AreWellNamed (files : Declarations) : Type 0 where
   pub schemas_distinct : are_distinct_texts (schema_names files.domain) ≡ true
   pub patterns_sound : list_all (is_sound_pattern files) files.side.patterns ≡ true
 
--- declarations, and their predicates over numbers
+-- declarations, and a list of predicates over numbers
 pub record Numbered : Type 0 where
   pub files : Declarations
   pub predicates : List LPredicate
 
--- the declarations are well named, and the predicates over numbers are theirs
+-- the declarations are well named, and the predicates over numbers are the declared ones, in order, each name once
 pub record AreNumbered (all : Numbered) : Type 0 where
   pub well_named : AreWellNamed all.files
   pub resolved : are_predicates all.files all.predicates ≡ true
 
--- whether a term over numbers names an object or a variable around it
+-- whether a term over numbers is an object or a variable of these lists around it, which declare fewer than 2^32 variables
 abbrev pub is_term_in : Declarations → Scope → LTerm → Bool
 is_term_in files around number = is_term_within (length (objects_declared files)) (ranges_around (meanings files).range around) number
 
--- whether numbers are those of terms with these lists of variables around them, one by one
+-- whether terms over numbers are these terms with their names replaced by numbers, in order, with these lists of variables
+-- around them
 abbrev pub are_terms : Declarations → Scope → List Term → List LTerm → Bool
 are_terms files around terms numbers = each_passes (map (is_term (meanings files) around) terms) numbers
 
--- whether an atom over numbers names only what there is, and its arguments fit
+-- whether an atom over numbers is within the declarations, with these lists of variables around it
 abbrev pub is_atom_in : Numbered → Scope → LAtom → Bool
 is_atom_in all around number =
     is_atom_within (length (objects_declared all.files)) all.predicates number (ranges_around (meanings all.files).range around)
 
--- whether a condition over numbers names only what there is, and all arguments in it fit
+-- whether a condition over numbers is within the declarations, with these lists of variables around it
 abbrev pub is_condition_in : Numbered → Scope → LCond → Bool
 is_condition_in all around number =
     is_condition_within (length (objects_declared all.files)) all.predicates number (ranges_around (meanings all.files).range around)
 
--- whether an effect over numbers names only what there is, and all arguments in it fit
+-- whether an effect over numbers is within the declarations, with these lists of variables around it
 abbrev pub is_effect_in : Numbered → Scope → LEffect → Bool
 is_effect_in all around number =
     is_effect_within (length (objects_declared all.files)) all.predicates number (ranges_around (meanings all.files).range around)
 
--- whether a schema over numbers names only what there is, and all arguments in it fit
+-- whether a schema over numbers is within the declarations
 abbrev pub is_schema_in : Numbered → LSchema → Bool
 is_schema_in all number = is_schema_within (length (objects_declared all.files)) all.predicates number

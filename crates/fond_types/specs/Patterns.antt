@@ -1,4 +1,4 @@
--- Patterns without a fault of names, the places of their variables, and patterns over numbers that are filed by schema.
+-- Patterns that are sound, the places of their variables, and patterns over numbers that are filed by schema.
 use Rattle.std.specs.Prelude.{◌≡◌, ◌==◌, ◌&&◌, ℕ, Bool, false, List, length, map, filter, position, Option, if◌then◌else◌}
 use Rattle.std.specs.List.{list_all}
 use Rattle.std.specs.Option.{option_map_or}
@@ -14,7 +14,8 @@ use Rattle.fond_names.specs.Unknown.{is_sound_term}
 use Rattle.fond_types.specs.Meanings.{meanings}
 use Rattle.fond_types.specs.Resolves.{Meanings, is_pattern, is_pattern_term}
 
--- whether a pattern names a schema, has as many terms as it has parameters, and has only variables and declared objects
+-- whether a pattern names a schema, has as many terms as that schema has parameters, and each term is a variable or the name of
+-- an object
 abbrev pub is_sound_pattern : Declarations → Pattern → Bool
 is_sound_pattern files pattern =
     option_map_or (λ schema. length pattern.terms == length schema.parameters) (schema_of files.domain pattern.schema.name) false && list_all (is_sound_term files) pattern.terms
@@ -39,14 +40,14 @@ are_patterns meanings patterns name numbers = each_passes (map (is_pattern meani
 abbrev pub are_patterns_of : Declarations → Schema → List (List LTerm) → Bool
 are_patterns_of files schema numbers = are_patterns (meanings files) files.side.patterns schema.name numbers
 
--- whether terms over numbers are those of a pattern with these terms
+-- whether terms over numbers are those of a pattern with these terms, in order
 abbrev pub are_pattern_terms : Declarations → List Term → List LTerm → Bool
 are_pattern_terms files terms numbers = each_passes (map (is_pattern_term (meanings files) terms) terms) numbers
 
--- the numbers of variables with one more, unless a term is none or has one
+-- the numbers of variables, and this one for a term if it is a variable that has none yet
 abbrev pub with_variable : List (List ℕ × ℕ) → Term → ℕ → List (List ℕ × ℕ)
 with_variable places term number = if term.variable then with_text places term.name number else places
 
--- whether there is a list for each schema, of the patterns over numbers that name it
+-- whether there is one list for each schema, in order, and it has the patterns that name the schema, over numbers and in order
 abbrev pub are_filed : Declarations → List Pattern → List (List (List LTerm)) → Bool
 are_filed files patterns filed = each_passes (map (λ schema. are_patterns (meanings files) patterns schema.name) files.domain.schemas) filed

@@ -37,17 +37,18 @@ use Rattle.fond_kinds.specs.Kinds.{only_kind, IsSubtype}
 use Rattle.fond_names.specs.Names.{Declarations, objects_declared, predicates_declared}
 use Rattle.fond_names.specs.Sites.{Scope, variables_of}
 
--- what names stand for: the names of predicates and of objects by their numbers, and the range of some types
+-- what names stand for: the names of predicates and of objects, each at the position that is its number, and the range of
+-- each list of types
 pub record Meanings : Type 0 where
   pub predicates : List (List ℕ)
   pub objects : List (List ℕ)
   pub range : List Kind → List ℕ
 
--- whether a number is that of a name
+-- whether this name is at the position of this number in a list of names
 abbrev pub is_number_of : List (List ℕ) → List ℕ → ℕ → Bool
 is_number_of names name number = nat_lt number (length names) && bytes_eq (slice_index_or names number []) name
 
--- a position in a list behind this many others, or the number that is found otherwise
+-- a position with this count added, or the other result if there is no position
 abbrev pub placed_or : Option ℕ → ℕ → Option ℕ → Option ℕ
 placed_or None count other = other
 placed_or (Some at) count other = Some (count + at)
@@ -59,20 +60,23 @@ variable_number [] name = None
 variable_number (names ∷ outer) name =
     placed_or (position (λ declared. bytes_eq declared.name name) names) (length (variables_of outer)) (variable_number outer name)
 
--- whether a number is that of a term
+-- whether a term over numbers is this term: the object of its name, or the variable that has its name among these lists around
+-- it
 abbrev pub is_term : Meanings → Scope → Term → LTerm → Bool
 is_term meanings around term (Object number) = not term.variable && is_number_of meanings.objects term.name number
 is_term meanings around term (Variable number) = term.variable && option_map_or (λ other. other == number) (variable_number around term.name) false
 
--- whether an atom over numbers is an atom of the files with its names replaced by numbers
+-- whether an atom over numbers is this atom with the names of its predicate and of its terms replaced by numbers, with these
+-- lists of variables around it
 abbrev pub is_atom : Meanings → Scope → ReadAtom → LAtom → Bool
 is_atom meanings around atom number = is_number_of meanings.predicates atom.name number.predicate && each_passes (map (is_term meanings around) atom.terms) number.terms
 
--- whether ranges are those of the types of variables, one by one
+-- whether these ranges are those of the types of these variables, in order
 abbrev pub are_ranges : Meanings → List TypedName → RangeList → Bool
 are_ranges meanings names ranges = each_passes (map (λ name. bytes_eq (meanings.range name.kinds)) names) (objects_of ranges)
 
--- whether one layer of a condition and of a condition over numbers have the same form, with parts in the same order
+-- whether a condition over numbers has the outermost operator of this condition, the same atom, terms or ranges over numbers,
+-- and parts that pass, in order, the tests in place of the parts of this condition
 abbrev pub condition_step : Meanings → condition.Cond-F (Scope → LCond → Bool) → Scope → numbered_condition.LCond-F LCond → Bool
 condition_step meanings condition.Truth around numbered_condition.Truth = true
 condition_step meanings (condition.Holds atom) around (numbered_condition.Holds number) = is_atom meanings around atom number
@@ -90,7 +94,8 @@ condition_step meanings form around number = false
 abbrev pub is_condition : Meanings → Cond → Scope → LCond → Bool
 is_condition meanings = fold-Cond (Scope → LCond → Bool) (λ form around number. condition_step meanings form around (out-LCond number))
 
--- whether one layer of an effect and of an effect over numbers have the same form, with parts in the same order
+-- whether an effect over numbers has the outermost operator of this effect, the same atom, ranges or condition over numbers,
+-- and parts that pass, in order, the tests in place of the parts of this effect
 abbrev pub effect_step : Meanings → effect.Effect-F (Scope → LEffect → Bool) → Scope → numbered_effect.LEffect-F LEffect → Bool
 effect_step meanings effect.Nothing around numbered_effect.Nothing = true
 effect_step meanings (effect.Add atom) around (numbered_effect.Add number) = is_atom meanings around atom number
@@ -119,19 +124,21 @@ mentions_step name (effect.OneOf parts) = list_any (λ part. part) parts.items
 abbrev pub mentions : List ℕ → Effect → Bool
 mentions name = fold-Effect Bool (mentions_step name)
 
--- a predicate over numbers is a declared one: it is fluent if and only if an effect of some schema has a literal of it
+-- a predicate over numbers has the name of this declaration and the ranges of its parameters, and it is fluent if and only if
+-- the effect of some schema has a literal of it
 pub record IsResolvedPredicate (meanings : Meanings) (schemas : List Schema) (declared : Declared) (number : LPredicate) : Type 0 where
   pub named : number.name ≡ declared.name
   pub ranges : are_ranges meanings declared.parameters number.ranges ≡ true
   pub fluent : number.fluent ≡ list_any (λ schema. mentions declared.name schema.effect) schemas
 
--- whether a number is that of a term among the terms of a pattern: a variable has the position where it occurs first
+-- whether a term over numbers is this term of a pattern with these terms: the object of its name, or the variable numbered by
+-- the position where it occurs first among them
 abbrev pub is_pattern_term : Meanings → List Term → Term → LTerm → Bool
 is_pattern_term meanings terms term (Object number) = not term.variable && is_number_of meanings.objects term.name number
 is_pattern_term meanings terms term (Variable number) =
     term.variable && option_map_or (λ at. at == number) (position (λ other. other.variable && bytes_eq other.name term.name) terms) false
 
--- whether a pattern over numbers is this pattern with its names replaced by numbers
+-- whether terms over numbers are those of this pattern with their names replaced by numbers, in order
 abbrev pub is_pattern : Meanings → Pattern → List LTerm → Bool
 is_pattern meanings pattern numbers = each_passes (map (is_pattern_term meanings pattern.terms) pattern.terms) numbers
 
@@ -180,7 +187,7 @@ pub record HasParts (meanings : Meanings) (files : Declarations) (task : LiftedT
   pub init : each_passes (map (is_ground_atom meanings) (positive files.problem.init)) task.init ≡ true
   pub goal : is_condition meanings files.problem.goal [] task.goal ≡ true
 
--- the task of three files
+-- a task is that of three files: it has their parts, by a test that decides which types are subtypes of which
 pub record IsResolved (files : Declarations) (task : LiftedTask) : Type 0 where
   pub is_subtype : List ℕ → List ℕ → Bool
   pub decides : (name other : List ℕ) → Decides (is_subtype name other) (IsSubtype files.domain.kinds name other)

@@ -1,4 +1,4 @@
--- Sites without a fault of names, by tests.
+-- Sites that are sound, which are those without an unknown name, a wrong arity or a mismatch, by tests.
 use Rattle.std.specs.Prelude.{ℕ, ◌&&◌, Bool, true, false, not, List, is_some, map}
 use Rattle.std.specs.List.{list_all, list_any}
 use Rattle.std.specs.Option.{option_map_or}
