@@ -47,10 +47,10 @@ pub(crate) fn numbered_effect(
             Ok(LEffect::Forall(ranges, part))
         }
         Effect::When(condition, part) => {
-            let condition = numbered_condition(alloc, context, kept, condition, around)?;
+            let part = numbered_boxed(alloc, context, kept, part, around)?;
             Ok(LEffect::When(
-                condition,
-                numbered_boxed(alloc, context, kept, part, around)?,
+                numbered_condition(alloc, context, kept, condition, around)?,
+                part,
             ))
         }
     }
