@@ -2,6 +2,7 @@ pub mod AtomLemmas
 pub mod BodyLemmas
 pub mod CleanLemmas
 pub mod Firsts
+pub mod FormLemmas
 pub mod GroundLemmas
 pub mod LiteralLemmas
 pub mod Passing

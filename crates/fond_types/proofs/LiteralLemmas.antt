@@ -17,7 +17,8 @@ mentions_by : (name : List ℕ) (effect : Effect) (layer : open_effect.Effect-F 
 mentions_by name effect layer is = fold_out-Effect Bool (mentions_step name) effect ∙ ap (λ x. mentions_step name (map-Effect Effect Bool (mentions name) x)) is
 
 module _ (passes : List ℕ → Bool) where
-  literals_by : (effect : Effect) (layer : open_effect.Effect-F Effect) → out-Effect effect ≡ layer → literals_pass passes effect ≡ literals_step passes (map-Effect Effect Bool (literals_pass passes) layer)
+  -- whether the literals of an effect pass, by its outermost form
+  pub literals_by : (effect : Effect) (layer : open_effect.Effect-F Effect) → out-Effect effect ≡ layer → literals_pass passes effect ≡ literals_step passes (map-Effect Effect Bool (literals_pass passes) layer)
   literals_by effect layer is = fold_out-Effect Bool (literals_step passes) effect ∙ ap (λ x. literals_step passes (map-Effect Effect Bool (literals_pass passes) x)) is
 
   mutual

@@ -1,8 +1,8 @@
-use Rattle.std.proofs.Common.{rules, ◌≡◌, ◌+◌, ◌∷◌, [], Bool, List, ℕ, length, map, take, sym, ap, ◌∙◌, subst, arith, length-append}
+use Rattle.std.proofs.Common.{rules, ◌≡◌, ◌≤◌, ◌+◌, ◌==◌, not, ◌∷◌, [], Bool, List, ℕ, length, map, take, sym, ap, ◌∙◌, subst, arith, length-append}
 use Rattle.std.specs.List.{list_all}
 use Rattle.std.proofs.lemmas.List.{take_all}
 use Rattle.std.proofs.lemmas.List.Folds.{list_all-map}
-use Rattle.fond_ast.specs.Read.{effect_variables, has_choices}
+use Rattle.fond_ast.specs.Read.{condition_variables, effect_variables, has_choices}
 use Rattle.fond_ast.specs.Within.{is_effect_fluent, is_effect_within}
 use Rattle.fond_ast.specs.declared.form.LEffect.TheOpen as open_effect
 use Rattle.fond_ast.specs.declared.form.LEffect.TheVariants as made_effect
@@ -10,16 +10,19 @@ use Rattle.fond_ast.specs.declared.names.TypedName.{TypedName}
 use Rattle.fond_ast.specs.declared.syntax.Effect.{Effect, out-Effect}
 use Rattle.fond_ast.specs.declared.syntax.Effect.TheOpen as open_written
 use Rattle.fond_ast.specs.declared.syntax.Effect.TheVariants as made_written
+use Rattle.fond_ast.specs.declared.syntax.Effect.TheViews.{size-Effect, sized-And, sized-Forall, sized-OneOf, sized-When}
 use Rattle.fond_text.specs.Lists.{each_passes}
 use Rattle.fond_types.specs.Meanings.{meanings, ranges_around}
 use Rattle.fond_names.specs.Names.{objects_declared}
-use Rattle.fond_types.specs.Bodies.{IsNumberedEffect, IsSoundEffect}
+use Rattle.fond_types.specs.Bodies.{AreSoundEffects, IsNumberedEffect, IsSoundEffect}
 use Rattle.fond_types.specs.Numbered.{is_effect_in}
 use Rattle.fond_types.specs.Resolves.{are_ranges, is_effect}
-use Rattle.fond_names.specs.Sites.{Scope, effect_sites}
+use Rattle.fond_names.specs.Sites.{AList, AnAtom, Scope, condition_sites, effect_sites, variables_of}
+use Rattle.fond_text.specs.declared.code.TheConstants.{LONGEST_TEXT}
 use Rattle.fond_types.specs.Sound.{are_sound, is_mentioned, literals_pass}
-use Rattle.fond_names.proofs.Members.{and_both}
+use Rattle.fond_names.proofs.Members.{and_both, and_parts}
 use Rattle.fond_types.proofs.BodyLemmas.{effect_read_by, fluent_by}
+use Rattle.fond_types.proofs.FormLemmas.{few_inside, sound_after, sound_both, sound_effect_form, typed_inside}
 use Rattle.fond_types.proofs.Passing.{passes_next, if_ok}
 use Rattle.fond_types.proofs.WithinLemmas.{effect_within_by, quantifier_within, sound_parts, map-map, next_read, rest_passes, all_more, sum_here}
 use Rattle.fond_types.proofs.effects.+numbering_effects.Goals as goal
@@ -108,3 +111,76 @@ pub numbered_inside-returns-clause-numbered : goal.numbered_inside-returns-claus
 numbered_inside-returns-clause-numbered t c =
     let lists : c.inside-within.result ≡ c.args.names.now ∷ c.args.around.now = c.inside-within.ensures ∙ ap (λ (list : List TypedName). list ∷ c.args.around.now) c.in_ok-variables.ensures in
     if_ok _ _ c.numbered_boxed.result (λ part is. subst (λ (around : Scope). IsNumberedEffect c.args.context.now around c.args.part.now part.value) lists is) c.numbered_boxed.ensures.numbered
+
+pub numbered_effect-numbered_effects-requires : goal.numbered_effect-numbered_effects-requires
+numbered_effect-numbered_effects-requires t c =
+    let files = c.args.context.now.files in
+    let around = c.args.around.now in
+    let parts = c.in-And.parts in
+    let form = sound_effect_form files around c.args.effect.now (open_written.And parts) (ap out-Effect c.in-And.is ∙ made_written.outs-And parts) c.requires.sound in
+    let sound : AreSoundEffects files around parts.items = record { sound = form.sound; choices = form.choices; literals = form.literals; typed = c.requires.sound.typed; few = form.few } in
+    ((let deep = ap (λ (one : Effect). size-Effect one) c.in-And.is ∙ sized-And parts in grind (arith, c.decreases, deep, c.deref.ensures.value)), (subst (λ (effects : List Effect). AreSoundEffects files around effects) (sym c.deref.ensures.value) sound, c.requires.kept))
+
+pub numbered_effect-numbered_effects-requires-in-OneOf : goal.numbered_effect-numbered_effects-requires-in-OneOf
+numbered_effect-numbered_effects-requires-in-OneOf t c =
+    let files = c.args.context.now.files in
+    let around = c.args.around.now in
+    let parts = c.in-OneOf.parts in
+    let form = sound_effect_form files around c.args.effect.now (open_written.OneOf parts) (ap out-Effect c.in-OneOf.is ∙ made_written.outs-OneOf parts) c.requires.sound in
+    let sound : AreSoundEffects files around parts.items = record { sound = form.sound; choices = (and_parts (not (length (map has_choices parts.items) == 0)) (list_all (λ (part : Bool). part) (map has_choices parts.items)) form.choices).1; literals = form.literals; typed = c.requires.sound.typed; few = form.few } in
+    ((let deep = ap (λ (one : Effect). size-Effect one) c.in-OneOf.is ∙ sized-OneOf parts in grind (arith, c.decreases, deep, c.deref-in-OneOf.ensures.value)), (subst (λ (effects : List Effect). AreSoundEffects files around effects) (sym c.deref-in-OneOf.ensures.value) sound, c.requires.kept))
+
+pub numbered_effect-numbered_atom-requires-clause-sound : goal.numbered_effect-numbered_atom-requires-clause-sound
+numbered_effect-numbered_atom-requires-clause-sound t c =
+    let files = c.args.context.now.files in
+    let around = c.args.around.now in
+    let atom = c.in-Add.atom in
+    let form = sound_effect_form files around c.args.effect.now (open_written.Add atom) (ap out-Effect c.in-Add.is ∙ made_written.outs-Add atom) c.requires.sound in
+    (sound_after files (AnAtom around atom) [] form.sound).0
+
+pub numbered_effect-numbered_atom-requires-in-Delete-clause-sound : goal.numbered_effect-numbered_atom-requires-in-Delete-clause-sound
+numbered_effect-numbered_atom-requires-in-Delete-clause-sound t c =
+    let files = c.args.context.now.files in
+    let around = c.args.around.now in
+    let atom = c.in-Delete.atom in
+    let form = sound_effect_form files around c.args.effect.now (open_written.Delete atom) (ap out-Effect c.in-Delete.is ∙ made_written.outs-Delete atom) c.requires.sound in
+    (sound_after files (AnAtom around atom) [] form.sound).0
+
+pub numbered_effect-numbered_part-requires : goal.numbered_effect-numbered_part-requires
+numbered_effect-numbered_part-requires t c =
+    let files = c.args.context.now.files in
+    let around = c.args.around.now in
+    let names = c.in-Forall.names in
+    let part = c.in-Forall.part in
+    let form = sound_effect_form files around c.args.effect.now (open_written.Forall names part) (ap out-Effect c.in-Forall.is ∙ made_written.outs-Forall names part) c.requires.sound in
+    let both = sound_after files (AList names) (effect_sites part.value (names ∷ around)) form.sound in
+    let sound : IsSoundEffect files (names ∷ around) part.value = record {
+      sound = both.1;
+      choices = form.choices;
+      literals = form.literals;
+      typed = typed_inside files around names both.0 c.requires.sound.typed;
+      few = few_inside files around names (effect_variables part.value) form.few;
+    } in
+    ((let deep = ap (λ (one : Effect). size-Effect one) c.in-Forall.is ∙ sized-Forall names part in grind (arith, c.decreases, deep, c.deref-in-Forall.ensures)), (subst (λ (effect : Effect). IsSoundEffect files (names ∷ around) effect) (sym c.deref-in-Forall.ensures) sound, c.requires.kept))
+
+pub numbered_effect-numbered_boxed-requires : goal.numbered_effect-numbered_boxed-requires
+numbered_effect-numbered_boxed-requires t c =
+    let files = c.args.context.now.files in
+    let around = c.args.around.now in
+    let condition = c.in-When.condition in
+    let part = c.in-When.part in
+    let form = sound_effect_form files around c.args.effect.now (open_written.When condition part) (ap out-Effect c.in-When.is ∙ made_written.outs-When condition part) c.requires.sound in
+    let both = sound_both files (condition_sites condition around) (effect_sites part.value around) form.sound in
+    let few : length (variables_of around) + (condition_variables condition + effect_variables part.value) ≤ LONGEST_TEXT = form.few in
+    let sound : IsSoundEffect files around part.value = record { sound = both.1; choices = form.choices; literals = form.literals; typed = c.requires.sound.typed; few = omega (arith, few) } in
+    ((let deep = ap (λ (one : Effect). size-Effect one) c.in-When.is ∙ sized-When condition part in grind (arith, c.decreases, deep, c.deref-in-When.ensures)), (subst (λ (effect : Effect). IsSoundEffect files around effect) (sym c.deref-in-When.ensures) sound, c.requires.kept))
+
+pub numbered_effect-numbered_condition-requires-clause-sound : goal.numbered_effect-numbered_condition-requires-clause-sound
+numbered_effect-numbered_condition-requires-clause-sound t c =
+    let files = c.args.context.now.files in
+    let around = c.args.around.now in
+    let condition = c.in-When.condition in
+    let part = c.in-When.part in
+    let form = sound_effect_form files around c.args.effect.now (open_written.When condition part) (ap out-Effect c.in-When.is ∙ made_written.outs-When condition part) c.requires.sound in
+    let few : length (variables_of around) + (condition_variables condition + effect_variables part.value) ≤ LONGEST_TEXT = form.few in
+    record { sound = (sound_both files (condition_sites condition around) (effect_sites part.value around) form.sound).0; typed = c.requires.sound.typed; few = omega (arith, few) }
