@@ -1,4 +1,4 @@
-use Rattle.std.proofs.Common.{rules, ◌≡◌, ◌+◌, ◌∷◌, [], Bool, List, ℕ, length, map, take, sym, ap, ◌∙◌, subst, arith}
+use Rattle.std.proofs.Common.{rules, ◌≡◌, ◌≤◌, ◌+◌, ◌∷◌, [], Bool, List, ℕ, length, map, take, sym, ap, ◌∙◌, subst, arith}
 use Rattle.std.specs.List.{list_all}
 use Rattle.std.proofs.lemmas.List.{take_all}
 use Rattle.std.proofs.lemmas.List.Folds.{list_all-map}
@@ -10,16 +10,19 @@ use Rattle.fond_ast.specs.declared.names.TypedName.{TypedName}
 use Rattle.fond_ast.specs.declared.syntax.Cond.{Cond, out-Cond}
 use Rattle.fond_ast.specs.declared.syntax.Cond.TheOpen as open_written
 use Rattle.fond_ast.specs.declared.syntax.Cond.TheVariants as made_written
+use Rattle.fond_ast.specs.declared.syntax.Cond.TheViews.{size-Cond, sized-And, sized-Or, sized-Not, sized-Imply, sized-Forall, sized-Exists}
 use Rattle.fond_text.specs.Lists.{each_passes}
 use Rattle.fond_types.specs.Meanings.{meanings, ranges_around}
 use Rattle.fond_names.specs.Names.{objects_declared}
-use Rattle.fond_types.specs.Bodies.{IsNumberedCondition, IsSoundCondition}
+use Rattle.fond_types.specs.Bodies.{AreSoundConditions, IsNumberedCondition, IsSoundCondition}
 use Rattle.fond_types.specs.Numbered.{is_condition_in}
 use Rattle.fond_types.specs.Resolves.{are_ranges, is_condition}
-use Rattle.fond_names.specs.Sites.{Scope, condition_sites}
-use Rattle.fond_types.specs.Sound.{are_sound}
-use Rattle.fond_names.proofs.Members.{and_both}
+use Rattle.fond_names.specs.Sites.{AList, AnAtom, AnEquality, Scope, condition_sites, variables_of}
+use Rattle.fond_text.specs.declared.code.TheConstants.{LONGEST_TEXT}
+use Rattle.fond_types.specs.Sound.{are_sound, is_known}
+use Rattle.fond_names.proofs.Members.{and_both, and_parts}
 use Rattle.fond_types.proofs.BodyLemmas.{condition_read_by}
+use Rattle.fond_types.proofs.FormLemmas.{few_inside, sound_after, sound_both, sound_form, typed_inside}
 use Rattle.fond_types.proofs.Passing.{passes_next, if_ok}
 use Rattle.fond_types.proofs.WithinLemmas.{condition_within_by, quantifier_within, sound_parts, map-map, next_read, rest_passes, all_more, sum_here}
 use Rattle.fond_types.proofs.conditions.+numbering_conditions.Goals as goal
@@ -113,3 +116,112 @@ pub numbered_inside-returns-clause-numbered : goal.numbered_inside-returns-claus
 numbered_inside-returns-clause-numbered t c =
     let lists : c.inside-within.result ≡ c.args.names.now ∷ c.args.around.now = c.inside-within.ensures ∙ ap (λ (list : List TypedName). list ∷ c.args.around.now) c.in_ok-variables.ensures in
     if_ok _ _ c.numbered_boxed.result (λ part is. subst (λ (around : Scope). IsNumberedCondition c.args.context.now around c.args.part.now part.value) lists is) c.numbered_boxed.ensures.numbered
+
+pub numbered_condition-numbered_atom-requires-clause-sound : goal.numbered_condition-numbered_atom-requires-clause-sound
+numbered_condition-numbered_atom-requires-clause-sound t c =
+    let files = c.args.context.now.files in
+    let around = c.args.around.now in
+    let atom = c.in-Holds.atom in
+    let form = sound_form files around c.args.condition.now (open_written.Holds atom) (ap out-Cond c.in-Holds.is ∙ made_written.outs-Holds atom) c.requires.sound in
+    (sound_after files (AnAtom around atom) [] form.sound).0
+
+pub numbered_condition-numbered_term-requires-clause-known : goal.numbered_condition-numbered_term-requires-clause-known
+numbered_condition-numbered_term-requires-clause-known t c =
+    let files = c.args.context.now.files in
+    let around = c.args.around.now in
+    let term = c.in-Equal.term in
+    let other = c.in-Equal.other in
+    let form = sound_form files around c.args.condition.now (open_written.Equal term other) (ap out-Cond c.in-Equal.is ∙ made_written.outs-Equal term other) c.requires.sound in
+    let both = sound_after files (AnEquality around term other) [] form.sound in
+    (and_parts (is_known files around term) (is_known files around other) both.0).0
+
+pub numbered_condition-numbered_term-requires-in-Equal-clause-known : goal.numbered_condition-numbered_term-requires-in-Equal-clause-known
+numbered_condition-numbered_term-requires-in-Equal-clause-known t c =
+    let files = c.args.context.now.files in
+    let around = c.args.around.now in
+    let term = c.in-Equal.term in
+    let other = c.in-Equal.other in
+    let form = sound_form files around c.args.condition.now (open_written.Equal term other) (ap out-Cond c.in-Equal.is ∙ made_written.outs-Equal term other) c.requires.sound in
+    let both = sound_after files (AnEquality around term other) [] form.sound in
+    (and_parts (is_known files around term) (is_known files around other) both.0).1
+
+pub numbered_condition-numbered_conditions-requires : goal.numbered_condition-numbered_conditions-requires
+numbered_condition-numbered_conditions-requires t c =
+    let files = c.args.context.now.files in
+    let around = c.args.around.now in
+    let parts = c.in-And.parts in
+    let form = sound_form files around c.args.condition.now (open_written.And parts) (ap out-Cond c.in-And.is ∙ made_written.outs-And parts) c.requires.sound in
+    let sound : AreSoundConditions files around parts.items = record { sound = form.sound; typed = c.requires.sound.typed; few = form.few } in
+    ((let deep = ap (λ (one : Cond). size-Cond one) c.in-And.is ∙ sized-And parts in grind (arith, c.decreases, deep, c.deref.ensures.value)), (subst (λ (conditions : List Cond). AreSoundConditions files around conditions) (sym c.deref.ensures.value) sound, c.requires.kept))
+
+pub numbered_condition-numbered_conditions-requires-in-Or : goal.numbered_condition-numbered_conditions-requires-in-Or
+numbered_condition-numbered_conditions-requires-in-Or t c =
+    let files = c.args.context.now.files in
+    let around = c.args.around.now in
+    let parts = c.in-Or.parts in
+    let form = sound_form files around c.args.condition.now (open_written.Or parts) (ap out-Cond c.in-Or.is ∙ made_written.outs-Or parts) c.requires.sound in
+    let sound : AreSoundConditions files around parts.items = record { sound = form.sound; typed = c.requires.sound.typed; few = form.few } in
+    ((let deep = ap (λ (one : Cond). size-Cond one) c.in-Or.is ∙ sized-Or parts in grind (arith, c.decreases, deep, c.deref-in-Or.ensures.value)), (subst (λ (conditions : List Cond). AreSoundConditions files around conditions) (sym c.deref-in-Or.ensures.value) sound, c.requires.kept))
+
+pub numbered_condition-numbered_boxed-requires : goal.numbered_condition-numbered_boxed-requires
+numbered_condition-numbered_boxed-requires t c =
+    let files = c.args.context.now.files in
+    let around = c.args.around.now in
+    let part = c.in-Not.part in
+    let form = sound_form files around c.args.condition.now (open_written.Not part) (ap out-Cond c.in-Not.is ∙ made_written.outs-Not part) c.requires.sound in
+    let sound : IsSoundCondition files around part.value = record { sound = form.sound; typed = c.requires.sound.typed; few = form.few } in
+    ((let deep = ap (λ (one : Cond). size-Cond one) c.in-Not.is ∙ sized-Not part in grind (arith, c.decreases, deep, c.deref-in-Not.ensures)), (subst (λ (condition : Cond). IsSoundCondition files around condition) (sym c.deref-in-Not.ensures) sound, c.requires.kept))
+
+pub numbered_condition-numbered_boxed-requires-in-Imply : goal.numbered_condition-numbered_boxed-requires-in-Imply
+numbered_condition-numbered_boxed-requires-in-Imply t c =
+    let files = c.args.context.now.files in
+    let around = c.args.around.now in
+    let part = c.in-Imply.part in
+    let other = c.in-Imply.other in
+    let form = sound_form files around c.args.condition.now (open_written.Imply part other) (ap out-Cond c.in-Imply.is ∙ made_written.outs-Imply part other) c.requires.sound in
+    let both = sound_both files (condition_sites part.value around) (condition_sites other.value around) form.sound in
+    let few : length (variables_of around) + (condition_variables part.value + condition_variables other.value) ≤ LONGEST_TEXT = form.few in
+    let sound : IsSoundCondition files around part.value = record { sound = both.0; typed = c.requires.sound.typed; few = omega (arith, few) } in
+    ((let deep = ap (λ (one : Cond). size-Cond one) c.in-Imply.is ∙ sized-Imply part other in grind (arith, c.decreases, deep, c.deref-in-Imply.ensures)), (subst (λ (condition : Cond). IsSoundCondition files around condition) (sym c.deref-in-Imply.ensures) sound, c.requires.kept))
+
+pub numbered_condition-numbered_boxed-requires-in-Imply-2 : goal.numbered_condition-numbered_boxed-requires-in-Imply-2
+numbered_condition-numbered_boxed-requires-in-Imply-2 t c =
+    let files = c.args.context.now.files in
+    let around = c.args.around.now in
+    let part = c.in-Imply.part in
+    let other = c.in-Imply.other in
+    let form = sound_form files around c.args.condition.now (open_written.Imply part other) (ap out-Cond c.in-Imply.is ∙ made_written.outs-Imply part other) c.requires.sound in
+    let both = sound_both files (condition_sites part.value around) (condition_sites other.value around) form.sound in
+    let few : length (variables_of around) + (condition_variables part.value + condition_variables other.value) ≤ LONGEST_TEXT = form.few in
+    let sound : IsSoundCondition files around other.value = record { sound = both.1; typed = c.requires.sound.typed; few = omega (arith, few) } in
+    ((let deep = ap (λ (one : Cond). size-Cond one) c.in-Imply.is ∙ sized-Imply part other in grind (arith, c.decreases, deep, c.deref-in-Imply-2.ensures)), (subst (λ (condition : Cond). IsSoundCondition files around condition) (sym c.deref-in-Imply-2.ensures) sound, c.in_ok-part-in-Imply.ensures.kept))
+
+pub numbered_condition-numbered_part-requires : goal.numbered_condition-numbered_part-requires
+numbered_condition-numbered_part-requires t c =
+    let files = c.args.context.now.files in
+    let around = c.args.around.now in
+    let names = c.in-Forall.names in
+    let part = c.in-Forall.part in
+    let form = sound_form files around c.args.condition.now (open_written.Forall names part) (ap out-Cond c.in-Forall.is ∙ made_written.outs-Forall names part) c.requires.sound in
+    let both = sound_after files (AList names) (condition_sites part.value (names ∷ around)) form.sound in
+    let sound : IsSoundCondition files (names ∷ around) part.value = record {
+      sound = both.1;
+      typed = typed_inside files around names both.0 c.requires.sound.typed;
+      few = few_inside files around names (condition_variables part.value) form.few;
+    } in
+    ((let deep = ap (λ (one : Cond). size-Cond one) c.in-Forall.is ∙ sized-Forall names part in grind (arith, c.decreases, deep, c.deref-in-Forall.ensures)), (subst (λ (condition : Cond). IsSoundCondition files (names ∷ around) condition) (sym c.deref-in-Forall.ensures) sound, c.requires.kept))
+
+pub numbered_condition-numbered_part-requires-in-Exists : goal.numbered_condition-numbered_part-requires-in-Exists
+numbered_condition-numbered_part-requires-in-Exists t c =
+    let files = c.args.context.now.files in
+    let around = c.args.around.now in
+    let names = c.in-Exists.names in
+    let part = c.in-Exists.part in
+    let form = sound_form files around c.args.condition.now (open_written.Exists names part) (ap out-Cond c.in-Exists.is ∙ made_written.outs-Exists names part) c.requires.sound in
+    let both = sound_after files (AList names) (condition_sites part.value (names ∷ around)) form.sound in
+    let sound : IsSoundCondition files (names ∷ around) part.value = record {
+      sound = both.1;
+      typed = typed_inside files around names both.0 c.requires.sound.typed;
+      few = few_inside files around names (condition_variables part.value) form.few;
+    } in
+    ((let deep = ap (λ (one : Cond). size-Cond one) c.in-Exists.is ∙ sized-Exists names part in grind (arith, c.decreases, deep, c.deref-in-Exists.ensures)), (subst (λ (condition : Cond). IsSoundCondition files (names ∷ around) condition) (sym c.deref-in-Exists.ensures) sound, c.requires.kept))
