@@ -4,6 +4,7 @@ use Rattle.std.specs.List.{flat_map}
 use Rattle.std.proofs.lemmas.List.{map-append, take_more, at_drop_more}
 use Rattle.std.proofs.lemmas.List.Sums.{sum_by-cons}
 use Rattle.std.proofs.lemmas.List.Concat.{flat_map-append}
+use Rattle.fond_ast.specs.Read.{condition_variables, condition_variables_step, effect_variables, effect_variables_step}
 use Rattle.fond_ast.specs.declared.syntax.Cond.{Cond, out-Cond}
 use Rattle.fond_ast.specs.declared.syntax.Cond.TheOpen as open_condition
 use Rattle.fond_ast.specs.declared.syntax.Cond.TheFolds.{fold_out-Cond, map-Cond}
@@ -31,6 +32,14 @@ effect_sites_by effect layer is around =
     let both : effect_sites effect ≡ effect_sites_step (map-Effect Effect (Scope → List Site) effect_sites layer) =
     fold_out-Effect (Scope → List Site) effect_sites_step effect ∙ ap (λ x. effect_sites_step (map-Effect Effect (Scope → List Site) effect_sites x)) is in
     λ i. both i around
+
+-- the variables that the quantifiers of a condition declare, by its outermost form
+pub condition_variables_by : (condition : Cond) (layer : open_condition.Cond-F Cond) → out-Cond condition ≡ layer → condition_variables condition ≡ condition_variables_step (map-Cond Cond ℕ condition_variables layer)
+condition_variables_by condition layer is = fold_out-Cond ℕ condition_variables_step condition ∙ ap (λ x. condition_variables_step (map-Cond Cond ℕ condition_variables x)) is
+
+-- the variables that the quantifiers of an effect declare, by its outermost form
+pub effect_variables_by : (effect : Effect) (layer : open_effect.Effect-F Effect) → out-Effect effect ≡ layer → effect_variables effect ≡ effect_variables_step (map-Effect Effect ℕ effect_variables layer)
+effect_variables_by effect layer is = fold_out-Effect ℕ effect_variables_step effect ∙ ap (λ x. effect_variables_step (map-Effect Effect ℕ effect_variables x)) is
 
 module _ (files : Declarations) where
   abbrev pub At : Site → Place → ℕ → Type 0

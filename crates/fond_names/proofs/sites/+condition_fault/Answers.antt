@@ -1,17 +1,18 @@
-use Rattle.std.proofs.Common.{◌≡◌, ◌++◌, ◌∷◌, inl, inr, IfOk, List, map, ap, ◌∙◌, sym, subst, arith}
+use Rattle.std.proofs.Common.{◌≡◌, ◌+◌, length, sum, ◌++◌, ◌∷◌, inl, inr, IfOk, List, map, ap, ◌∙◌, sym, subst, arith}
 use Rattle.std.specs.List.{flat_map}
 use Rattle.std.proofs.lemmas.List.{take_all}
 use Rattle.fond_ast.specs.Read.{condition_variables}
 use Rattle.fond_ast.specs.declared.syntax.Cond.{Cond, out-Cond}
 use Rattle.fond_ast.specs.declared.syntax.Cond.TheOpen as open_condition
 use Rattle.fond_ast.specs.declared.syntax.Cond.TheVariants as made
+use Rattle.fond_ast.specs.declared.syntax.Cond.TheViews.{size-Cond, sized-And, sized-Or, sized-Not, sized-Imply, sized-Forall, sized-Exists}
 use Rattle.fond_text.specs.declared.code.TheConstants.{LONGEST_TEXT}
 use Rattle.fond_text.specs.Firsts.{IsFirst}
 use Rattle.fond_ast.specs.declared.names.TypedName.{TypedName}
 use Rattle.fond_names.specs.Faults.{OccursAmong}
 use Rattle.fond_names.specs.Files.{declarations_of}
 use Rattle.fond_names.specs.Sites.{Site, AnAtom, AnEquality, AList, condition_sites}
-use Rattle.fond_names.proofs.SiteLemmas.{condition_sites_by, site_one, sites_both, site_then, sites_next, fewer_left}
+use Rattle.fond_names.proofs.SiteLemmas.{condition_sites_by, condition_variables_by, site_one, sites_both, site_then, sites_next, fewer_left}
 use Rattle.fond_names.proofs.sites.+condition_fault.Goals as goal
 
 pub condition_fault-returns-in-Holds : goal.condition_fault-returns-in-Holds
@@ -98,3 +99,67 @@ condition_fault-returns-in-And t c =
     let inner : flat_map (λ part. part around) (map condition_sites c.deref-in-And.result.now) ≡ flat_map (λ part. part around) (map condition_sites parts.items) =
     ap (λ (some : List Cond). flat_map (λ part. part around) (map condition_sites some)) c.deref-in-And.ensures.value in
     subst (λ (sites : List Site). IfOk c.conditions_fault.result (IsFirst (OccursAmong files sites))) (inner ∙ sym same) c.conditions_fault.ensures
+
+pub condition_fault-condition_fault-requires : goal.condition_fault-condition_fault-requires
+condition_fault-condition_fault-requires t c =
+    let part = c.in-Not.part in
+    let counted : condition_variables c.args.condition.now ≡ condition_variables part.value = condition_variables_by c.args.condition.now (open_condition.Not part) (ap out-Cond c.in-Not.is ∙ made.outs-Not part) in
+    let deep = ap (λ (one : Cond). size-Cond one) c.in-Not.is ∙ sized-Not part in
+    let same = ap condition_variables c.deref.ensures in
+    let few = c.requires in
+    (grind (arith, c.decreases, deep, c.deref.ensures), omega (arith, few, counted, same))
+
+pub condition_fault-condition_fault-requires-in-Imply : goal.condition_fault-condition_fault-requires-in-Imply
+condition_fault-condition_fault-requires-in-Imply t c =
+    let part = c.in-Imply.part in
+    let other = c.in-Imply.other in
+    let counted : condition_variables c.args.condition.now ≡ condition_variables part.value + condition_variables other.value =
+    condition_variables_by c.args.condition.now (open_condition.Imply part other) (ap out-Cond c.in-Imply.is ∙ made.outs-Imply part other) in
+    let deep = ap (λ (one : Cond). size-Cond one) c.in-Imply.is ∙ sized-Imply part other in
+    let same = ap condition_variables c.deref-in-Imply.ensures in
+    let few = c.requires in
+    (grind (arith, c.decreases, deep, c.deref-in-Imply.ensures), omega (arith, few, counted, same))
+
+pub condition_fault-condition_fault-requires-in-Imply-2 : goal.condition_fault-condition_fault-requires-in-Imply-2
+condition_fault-condition_fault-requires-in-Imply-2 t c =
+    let part = c.in-Imply.part in
+    let other = c.in-Imply.other in
+    let counted : condition_variables c.args.condition.now ≡ condition_variables part.value + condition_variables other.value =
+    condition_variables_by c.args.condition.now (open_condition.Imply part other) (ap out-Cond c.in-Imply.is ∙ made.outs-Imply part other) in
+    let deep = ap (λ (one : Cond). size-Cond one) c.in-Imply.is ∙ sized-Imply part other in
+    let same = ap condition_variables c.deref-in-Imply-2.ensures in
+    let few = c.requires in
+    (grind (arith, c.decreases, deep, c.deref-in-Imply-2.ensures), omega (arith, few, counted, same))
+
+pub condition_fault-quantified_fault-requires : goal.condition_fault-quantified_fault-requires
+condition_fault-quantified_fault-requires t c =
+    let names = c.in-Forall.names in
+    let part = c.in-Forall.part in
+    let few = c.requires in
+    let same = ap condition_variables c.deref-in-Forall.ensures in
+    elim c.in-Forall.is [
+      | inl e ↦
+          let deep = ap (λ (one : Cond). size-Cond one) e ∙ sized-Forall names part in
+          let counted : condition_variables c.args.condition.now ≡ length names + condition_variables part.value = condition_variables_by c.args.condition.now (open_condition.Forall names part) (ap out-Cond e ∙ made.outs-Forall names part) in
+          (grind (arith, c.decreases, deep, c.deref-in-Forall.ensures), omega (arith, few, counted, same))
+      | inr e ↦
+          let deep = ap (λ (one : Cond). size-Cond one) e ∙ sized-Exists names part in
+          let counted : condition_variables c.args.condition.now ≡ length names + condition_variables part.value = condition_variables_by c.args.condition.now (open_condition.Exists names part) (ap out-Cond e ∙ made.outs-Exists names part) in
+          (grind (arith, c.decreases, deep, c.deref-in-Forall.ensures), omega (arith, few, counted, same))
+    ]
+
+pub condition_fault-conditions_fault-requires : goal.condition_fault-conditions_fault-requires
+condition_fault-conditions_fault-requires t c =
+    let parts = c.in-And.parts in
+    let few = c.requires in
+    let same = ap (λ (some : List Cond). sum (map condition_variables some)) c.deref-in-And.ensures.value in
+    elim c.in-And.is [
+      | inl e ↦
+          let deep = ap (λ (one : Cond). size-Cond one) e ∙ sized-And parts in
+          let counted : condition_variables c.args.condition.now ≡ sum (map condition_variables parts.items) = condition_variables_by c.args.condition.now (open_condition.And parts) (ap out-Cond e ∙ made.outs-And parts) in
+          (grind (arith, c.decreases, deep, c.deref-in-And.ensures.value), omega (arith, few, counted, same))
+      | inr e ↦
+          let deep = ap (λ (one : Cond). size-Cond one) e ∙ sized-Or parts in
+          let counted : condition_variables c.args.condition.now ≡ sum (map condition_variables parts.items) = condition_variables_by c.args.condition.now (open_condition.Or parts) (ap out-Cond e ∙ made.outs-Or parts) in
+          (grind (arith, c.decreases, deep, c.deref-in-And.ensures.value), omega (arith, few, counted, same))
+    ]

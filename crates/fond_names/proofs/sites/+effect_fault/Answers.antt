@@ -1,17 +1,18 @@
-use Rattle.std.proofs.Common.{◌≡◌, ◌++◌, ◌∷◌, [], inl, inr, IfOk, List, map, ap, ◌∙◌, sym, subst, arith}
+use Rattle.std.proofs.Common.{◌≡◌, ◌+◌, length, sum, ◌++◌, ◌∷◌, [], inl, inr, IfOk, List, map, ap, ◌∙◌, sym, subst, arith}
 use Rattle.std.specs.List.{flat_map}
 use Rattle.std.proofs.lemmas.List.{take_all}
-use Rattle.fond_ast.specs.Read.{effect_variables}
+use Rattle.fond_ast.specs.Read.{condition_variables, effect_variables}
 use Rattle.fond_ast.specs.declared.syntax.Effect.{Effect, out-Effect}
 use Rattle.fond_ast.specs.declared.syntax.Effect.TheOpen as open_effect
 use Rattle.fond_ast.specs.declared.syntax.Effect.TheVariants as made
+use Rattle.fond_ast.specs.declared.syntax.Effect.TheViews.{size-Effect, sized-And, sized-OneOf, sized-Forall, sized-When}
 use Rattle.fond_text.specs.declared.code.TheConstants.{LONGEST_TEXT}
 use Rattle.fond_text.specs.Firsts.{IsFirst}
 use Rattle.fond_ast.specs.declared.names.TypedName.{TypedName}
 use Rattle.fond_names.specs.Faults.{OccursAmong}
 use Rattle.fond_names.specs.Files.{declarations_of}
 use Rattle.fond_names.specs.Sites.{Site, AnAtom, AList, condition_sites, effect_sites}
-use Rattle.fond_names.proofs.SiteLemmas.{effect_sites_by, site_one, sites_both, site_then, sites_next, fewer_left}
+use Rattle.fond_names.proofs.SiteLemmas.{effect_sites_by, effect_variables_by, site_one, sites_both, site_then, sites_next, fewer_left}
 use Rattle.fond_names.proofs.sites.+effect_fault.Goals as goal
 
 pub effect_fault-returns-in-Add : goal.effect_fault-returns-in-Add
@@ -95,3 +96,47 @@ effect_fault-returns-in-And t c =
     let inner : flat_map (λ part. part around) (map effect_sites c.deref-in-And.result.now) ≡ flat_map (λ part. part around) (map effect_sites parts.items) =
     ap (λ (some : List Effect). flat_map (λ part. part around) (map effect_sites some)) c.deref-in-And.ensures.value in
     subst (λ (sites : List Site). IfOk c.effects_fault.result (IsFirst (OccursAmong files sites))) (inner ∙ sym same) c.effects_fault.ensures
+
+pub effect_fault-universal_fault-requires : goal.effect_fault-universal_fault-requires
+effect_fault-universal_fault-requires t c =
+    let names = c.in-Forall.names in
+    let part = c.in-Forall.part in
+    let counted : effect_variables c.args.effect.now ≡ length names + effect_variables part.value = effect_variables_by c.args.effect.now (open_effect.Forall names part) (ap out-Effect c.in-Forall.is ∙ made.outs-Forall names part) in
+    let deep = ap (λ (one : Effect). size-Effect one) c.in-Forall.is ∙ sized-Forall names part in
+    let same = ap effect_variables c.deref.ensures in
+    let few = c.requires in
+    (grind (arith, c.decreases, deep, c.deref.ensures), omega (arith, few, counted, same))
+
+pub effect_fault-condition_fault-requires : goal.effect_fault-condition_fault-requires
+effect_fault-condition_fault-requires t c =
+    let condition = c.in-When.condition in
+    let part = c.in-When.part in
+    let counted : effect_variables c.args.effect.now ≡ condition_variables condition + effect_variables part.value = effect_variables_by c.args.effect.now (open_effect.When condition part) (ap out-Effect c.in-When.is ∙ made.outs-When condition part) in
+    let few = c.requires in
+    omega (arith, few, counted)
+
+pub effect_fault-effect_fault-requires : goal.effect_fault-effect_fault-requires
+effect_fault-effect_fault-requires t c =
+    let condition = c.in-When.condition in
+    let part = c.in-When.part in
+    let counted : effect_variables c.args.effect.now ≡ condition_variables condition + effect_variables part.value = effect_variables_by c.args.effect.now (open_effect.When condition part) (ap out-Effect c.in-When.is ∙ made.outs-When condition part) in
+    let deep = ap (λ (one : Effect). size-Effect one) c.in-When.is ∙ sized-When condition part in
+    let same = ap effect_variables c.deref-in-When.ensures in
+    let few = c.requires in
+    (grind (arith, c.decreases, deep, c.deref-in-When.ensures), omega (arith, few, counted, same))
+
+pub effect_fault-effects_fault-requires : goal.effect_fault-effects_fault-requires
+effect_fault-effects_fault-requires t c =
+    let parts = c.in-And.parts in
+    let few = c.requires in
+    let same = ap (λ (some : List Effect). sum (map effect_variables some)) c.deref-in-And.ensures.value in
+    elim c.in-And.is [
+      | inl e ↦
+          let deep = ap (λ (one : Effect). size-Effect one) e ∙ sized-And parts in
+          let counted : effect_variables c.args.effect.now ≡ sum (map effect_variables parts.items) = effect_variables_by c.args.effect.now (open_effect.And parts) (ap out-Effect e ∙ made.outs-And parts) in
+          (grind (arith, c.decreases, deep, c.deref-in-And.ensures.value), omega (arith, few, counted, same))
+      | inr e ↦
+          let deep = ap (λ (one : Effect). size-Effect one) e ∙ sized-OneOf parts in
+          let counted : effect_variables c.args.effect.now ≡ sum (map effect_variables parts.items) = effect_variables_by c.args.effect.now (open_effect.OneOf parts) (ap out-Effect e ∙ made.outs-OneOf parts) in
+          (grind (arith, c.decreases, deep, c.deref-in-And.ensures.value), omega (arith, few, counted, same))
+    ]
