@@ -40,13 +40,19 @@ fn are_indexed(index: &TextIndex, kinds: &Kinds) -> bool
         .all(|kind| index.find(kind.name.bytes()).is_some())
 }
 
+/// Whether each of these types is among others.
+fn are_among(alloc: Global, kinds: &Kinds, others: &Kinds) -> Result<bool, NoMemory>
+    ensures { IfOk result (λ all. all ≡ list_all (λ kind. is_among (kind_names others.now) kind.name) kinds.now) }
+{
+    let index = index_kinds(alloc, others)?;
+    Ok(are_indexed(&index, kinds))
+}
+
 /// Whether two lists of types have the same members.
 fn are_same_kinds(alloc: Global, one: &Kinds, other: &Kinds) -> Result<bool, NoMemory>
     ensures { IfOk result (λ same. same ≡ are_same_kinds one.now other.now) }
 {
-    let ones = index_kinds(alloc, one)?;
-    let others = index_kinds(alloc, other)?;
-    Ok(are_indexed(&others, one) && are_indexed(&ones, other))
+    Ok(are_among(alloc, one, other)? && are_among(alloc, other, one)?)
 }
 
 /// Whether two lists have as many variables, of the same types place by place.
