@@ -105,28 +105,22 @@ pub fn indexed<'a>(
 pub fn find_predicate<'f>(files: &'f Files, name: &Name) -> Option<&'f Declared>
     ensures { option_copied result ≡ predicate_of files.now.domain.now name.now }
 {
-    match files.predicates.find(name.bytes()) {
-        Some(at) => Some(files.domain.predicates.get(at as usize)),
-        None => None,
-    }
+    let at = files.predicates.find(name.bytes())? as usize;
+    Some(files.domain.predicates.get(at))
 }
 
 /// The first schema of a name.
 pub fn find_schema<'f>(files: &'f Files, name: &Name) -> Option<&'f Schema>
     ensures { option_copied result ≡ schema_of files.now.domain.now name.now }
 {
-    match files.schemas.find(name.bytes()) {
-        Some(at) => Some(files.domain.schemas.get(at as usize)),
-        None => None,
-    }
+    let at = files.schemas.find(name.bytes())? as usize;
+    Some(files.domain.schemas.get(at))
 }
 
 /// The first declaration of an object.
 pub fn find_object<'f>(files: &'f Files, name: &Name) -> Option<&'f TypedName>
     ensures { option_copied result ≡ first_of (all_objects (declarations_of files.now)) name.now }
 {
-    match files.objects.find(name.bytes()) {
-        Some(at) => Some(joined_get(&files.domain.constants, &files.problem.objects, at as usize)),
-        None => None,
-    }
+    let at = files.objects.find(name.bytes())? as usize;
+    Some(joined_get(&files.domain.constants, &files.problem.objects, at))
 }
