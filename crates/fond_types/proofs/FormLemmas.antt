@@ -17,7 +17,7 @@ use Rattle.fond_types.specs.Bodies.{IsSoundCondition, IsSoundEffect}
 use Rattle.fond_types.specs.Meanings.{are_typed, are_typed_around}
 use Rattle.fond_types.specs.Sound.{are_sound, is_mentioned, is_sound, literals_pass, literals_step}
 use Rattle.fond_names.proofs.Members.{and_both, and_parts}
-use Rattle.fond_names.proofs.SiteLemmas.{condition_sites_by, effect_sites_by}
+use Rattle.fond_names.proofs.SiteLemmas.{condition_sites_by, condition_variables_by, effect_sites_by, effect_variables_by}
 use Rattle.fond_types.proofs.LiteralLemmas.{literals_by}
 
 module _ (files : Declarations) where
@@ -25,7 +25,7 @@ module _ (files : Declarations) where
   pub sound_both : (sites others : List Site) → are_sound files (sites ++ others) ≡ true → (are_sound files sites ≡ true) × (are_sound files others ≡ true)
   sound_both sites others sound = and_parts (are_sound files sites) (are_sound files others) (sym (list_all-append (is_sound files) sites others) ∙ sound)
 
-  -- a list of variables in front of sites is typed, and these are sound
+  -- the first site of a list is sound, and so are the others, if all are
   pub sound_after : (site : Site) (sites : List Site) → are_sound files (site ∷ sites) ≡ true → (is_sound files site ≡ true) × (are_sound files sites ≡ true)
   sound_after site sites sound = and_parts (is_sound files site) (are_sound files sites) sound
 
@@ -40,21 +40,19 @@ module _ (files : Declarations) where
         let all : length (variables_of (names ∷ around)) ≡ length names + length (variables_of around) = length-append names (variables_of around) in
         omega (arith, few, all)
 
-    -- a sound condition by its outermost form
+    -- what a sound condition has, by its outermost form: sound sites, and few variables with those around it
     pub record IsSoundForm (layer : open_condition.Cond-F Cond) : Type 0 where
       pub sound : are_sound files (condition_sites_step (map-Cond Cond (Scope → List Site) condition_sites layer) around) ≡ true
       pub few : length (variables_of around) + condition_variables_step (map-Cond Cond ℕ condition_variables layer) ≤ LONGEST_TEXT
 
     pub sound_form : (condition : Cond) (layer : open_condition.Cond-F Cond) → out-Cond condition ≡ layer → IsSoundCondition files around condition → IsSoundForm layer
     sound_form condition layer is sound =
-        let counted : condition_variables condition ≡ condition_variables_step (map-Cond Cond ℕ condition_variables layer) =
-        fold_out-Cond ℕ condition_variables_step condition ∙ ap (λ x. condition_variables_step (map-Cond Cond ℕ condition_variables x)) is in
         record {
           sound = ap (are_sound files) (sym (condition_sites_by condition layer is around)) ∙ sound.sound;
-          few = subst (λ (count : ℕ). length (variables_of around) + count ≤ LONGEST_TEXT) counted sound.few;
+          few = subst (λ (count : ℕ). length (variables_of around) + count ≤ LONGEST_TEXT) (condition_variables_by condition layer is) sound.few;
         }
 
-    -- a sound effect by its outermost form
+    -- what a sound effect has, by its outermost form: also a member in each choice, and literals that are mentioned
     pub record IsSoundEffectForm (layer : open_effect.Effect-F Effect) : Type 0 where
       pub sound : are_sound files (effect_sites_step (map-Effect Effect (Scope → List Site) effect_sites layer) around) ≡ true
       pub choices : chooses_step (map-Effect Effect Bool has_choices layer) ≡ true
@@ -63,13 +61,11 @@ module _ (files : Declarations) where
 
     pub sound_effect_form : (effect : Effect) (layer : open_effect.Effect-F Effect) → out-Effect effect ≡ layer → IsSoundEffect files around effect → IsSoundEffectForm layer
     sound_effect_form effect layer is sound =
-        let counted : effect_variables effect ≡ effect_variables_step (map-Effect Effect ℕ effect_variables layer) =
-        fold_out-Effect ℕ effect_variables_step effect ∙ ap (λ x. effect_variables_step (map-Effect Effect ℕ effect_variables x)) is in
         let chosen : has_choices effect ≡ chooses_step (map-Effect Effect Bool has_choices layer) =
         fold_out-Effect Bool chooses_step effect ∙ ap (λ x. chooses_step (map-Effect Effect Bool has_choices x)) is in
         record {
           sound = ap (are_sound files) (sym (effect_sites_by effect layer is around)) ∙ sound.sound;
           choices = sym chosen ∙ sound.choices;
           literals = sym (literals_by (is_mentioned files.domain) effect layer is) ∙ sound.literals;
-          few = subst (λ (count : ℕ). length (variables_of around) + count ≤ LONGEST_TEXT) counted sound.few;
+          few = subst (λ (count : ℕ). length (variables_of around) + count ≤ LONGEST_TEXT) (effect_variables_by effect layer is) sound.few;
         }
