@@ -1,13 +1,12 @@
 -- Parts of sound conditions and effects are sound.
-use Rattle.std.proofs.Common.{◌≡◌, ◌≤◌, ℕ, ◌+◌, ◌&&◌, Bool, true, List, [], ◌∷◌, ◌++◌, length, map, sym, ap, ◌∙◌, subst, arith, length-append}
-use Rattle.std.specs.List.{flat_map}
+use Rattle.std.proofs.Common.{◌≡◌, ◌≤◌, ℕ, ◌+◌, Bool, true, List, ◌∷◌, ◌++◌, length, sym, ap, ◌∙◌, subst, arith, length-append}
 use Rattle.std.proofs.lemmas.List.Folds.{list_all-append}
 use Rattle.fond_text.specs.declared.code.TheConstants.{LONGEST_TEXT}
 use Rattle.fond_ast.specs.Read.{chooses_step, condition_variables, condition_variables_step, effect_variables, effect_variables_step, has_choices}
 use Rattle.fond_ast.specs.declared.names.TypedName.{TypedName}
 use Rattle.fond_ast.specs.declared.syntax.Cond.{Cond, out-Cond}
 use Rattle.fond_ast.specs.declared.syntax.Cond.TheOpen as open_condition
-use Rattle.fond_ast.specs.declared.syntax.Cond.TheFolds.{fold_out-Cond, map-Cond}
+use Rattle.fond_ast.specs.declared.syntax.Cond.TheFolds.{map-Cond}
 use Rattle.fond_ast.specs.declared.syntax.Effect.{Effect, out-Effect}
 use Rattle.fond_ast.specs.declared.syntax.Effect.TheOpen as open_effect
 use Rattle.fond_ast.specs.declared.syntax.Effect.TheFolds.{fold_out-Effect, map-Effect}
