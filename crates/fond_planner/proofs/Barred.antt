@@ -13,9 +13,9 @@ use Rattle.fond_layers.specs.Deads.{IsFirstDead}
 use Rattle.fond_layers.specs.Over.{AreOver}
 use Rattle.fond_planner.specs.Walks.{IsStep}
 use Rattle.fond_planner.specs.declared.walk.Step.{Step}
-use Rattle.fond_planner.proofs.Full.{full_lies}
-use Rattle.fond_planner.proofs.Lists.{over_cube}
-use Rattle.fond_planner.proofs.Sure.{full_image}
+use Rattle.fond_draft.proofs.Full.{full_lies}
+use Rattle.fond_draft.proofs.Lists.{over_cube}
+use Rattle.fond_draft.proofs.Sure.{full_image}
 use Rattle.fond_planner.proofs.Walked.{state_long}
 
 -- the pair of a step's whole state is sure, if its next state lies in the cube that it names

@@ -1,16 +1,3 @@
-pub mod Lists
-pub mod Full
-pub mod Listed
-pub mod Rules
-pub mod Sure
-pub mod Ready
-pub mod Plans
-pub mod Fitting
-pub mod Unlost
-pub mod Made
-pub mod Provided
-pub mod Appended
 pub mod Walked
 pub mod Barred
 pub mod Right
-pub mod Turned

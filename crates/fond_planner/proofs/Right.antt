@@ -26,10 +26,10 @@ use Rattle.fond_policy.specs.Parts.{AreSureRules}
 use Rattle.fond_relax.specs.Stable.{IsHopelessBy}
 use Rattle.fond_relax.proofs.Hopeless.{stable_sure}
 use Rattle.fond_planner.specs.Decisions.{IsGoodCert}
-use Rattle.fond_planner.specs.Drafts.{IsDraft, IsFitting}
-use Rattle.fond_planner.specs.declared.draft.Draft.{Draft}
-use Rattle.fond_planner.proofs.Lists.{all_numbered, element_at, only_one}
-use Rattle.fond_planner.proofs.Sure.{has_outcome}
+use Rattle.fond_draft.specs.Drafts.{IsDraft, IsFitting}
+use Rattle.fond_draft.specs.declared.draft.Draft.{Draft}
+use Rattle.fond_draft.proofs.Lists.{all_numbered, element_at, only_one}
+use Rattle.fond_draft.proofs.Sure.{has_outcome}
 
 -- an action has an outcome, so targets that are met are at least one
 has_target : (task : Task) (rules : List Rule) (number : ℕ) (cond : CubeView) (act : Act) (act_number : ℕ) (targets : Targets) → slice_get task.acts act_number ≡ Some act → AreMet task rules number cond act targets → HasTarget targets

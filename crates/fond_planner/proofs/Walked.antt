@@ -9,10 +9,11 @@ use Rattle.fond_explicit.specs.Answers.{IsPast as IsPastFrom, IsReachable}
 use Rattle.fond_planner.specs.Decisions.{IsPast}
 use Rattle.fond_policy.proofs.Walking.{added_grows, grown_cases}
 use Rattle.fond_store.specs.Stores.{Adds}
-use Rattle.fond_planner.specs.Walks.{AreReachable, IsStep, IsTrail}
+use Rattle.fond_draft.specs.Turns.{AreReachable}
+use Rattle.fond_planner.specs.Walks.{IsStep, IsTrail}
 use Rattle.fond_planner.specs.declared.sketched.Trail.{Trail}
 use Rattle.fond_planner.specs.declared.walk.Step.{Step}
-use Rattle.fond_planner.proofs.Ready.{reachable_long}
+use Rattle.fond_draft.proofs.Ready.{reachable_long}
 
 -- what is reachable from a reachable state is reachable
 reach_through : (task : Task) (from : List Bool) → IsReachable task task.init from → (state : List Bool) → IsReachable task from state → IsReachable task task.init state

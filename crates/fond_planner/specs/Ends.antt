@@ -6,7 +6,7 @@ use Rattle.fond_covering.specs.Coverings.{IsCovering}
 use Rattle.fond_planner.specs.Decisions.{IsPast}
 use Rattle.fond_planner.specs.declared.decide.End.{End}
 use Rattle.fond_planner.specs.declared.decide.End.TheVariants.{Policy, Refusal, Past}
-use Rattle.fond_planner.specs.declared.draft.Draft.{Draft}
+use Rattle.fond_draft.specs.declared.draft.Draft.{Draft}
 
 -- an end is right: the items cover what the rules reach; or the initial state lies in a layer; or more states are reachable than
 -- the budget

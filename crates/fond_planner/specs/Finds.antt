@@ -3,8 +3,8 @@ use Rattle.std.specs.Prelude.{ℕ, List, Bool, ⊤}
 use Rattle.fond_task.specs.declared.task.Task.{Task}
 use Rattle.fond_game.specs.Certificates.{LiesInLayers}
 use Rattle.fond_planner.specs.Decisions.{IsPast}
-use Rattle.fond_planner.specs.Targets.{HasRule}
-use Rattle.fond_planner.specs.declared.draft.Draft.{Draft}
+use Rattle.fond_draft.specs.Targets.{HasRule}
+use Rattle.fond_draft.specs.declared.draft.Draft.{Draft}
 use Rattle.fond_planner.specs.declared.find.Found.{Found}
 use Rattle.fond_planner.specs.declared.find.Found.TheVariants.{Ruled, Dead}
 use Rattle.fond_planner.specs.declared.walk.Begun.{Begun}

@@ -1,12 +1,6 @@
 pub mod Decisions
-pub mod Targets
-pub mod Places
-pub mod Drafts
-pub mod Plans
 pub mod Planners
 pub mod Walks
-pub mod Appends
-pub mod Turns
 pub mod Seeks
 pub mod Finds
 pub mod Ends

@@ -9,14 +9,11 @@ use Rattle.fond_game.specs.Policies.{IsGoal}
 use Rattle.fond_game.specs.Certificates.{LiesInLayers}
 use Rattle.fond_explicit.specs.Answers.{IsReachable}
 use Rattle.fond_regress.specs.Barred.{IsBarred}
-use Rattle.fond_planner.specs.Targets.{HasRule}
-use Rattle.fond_planner.specs.declared.draft.Draft.{Draft}
+use Rattle.fond_draft.specs.Targets.{HasRule}
+use Rattle.fond_draft.specs.Turns.{AreReachable}
+use Rattle.fond_draft.specs.declared.draft.Draft.{Draft}
 use Rattle.fond_planner.specs.declared.sketched.Trail.{Trail}
 use Rattle.fond_planner.specs.declared.walk.Step.{Step}
-
--- states are reachable from the initial state, by any actions
-abbrev pub AreReachable : Task → List (List Bool) → Type 0
-AreReachable task states = (state : List Bool) → Contains states state → IsReachable task task.init state
 
 -- the action of a step is applicable in its state, which is reachable and no goal, and its next state is over the atoms
 pub record IsOutset (task : Task) (step : Step) : Type 0 where

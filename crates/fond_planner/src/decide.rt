@@ -2,20 +2,20 @@
 
 ghost use Rattle.fond_covering.specs.Coverings.{IsCovering};
 ghost use Rattle.fond_planner.specs.Decisions.{IsDecision, IsPast, IsGoodCert};
-ghost use Rattle.fond_planner.specs.Drafts.{IsDraft};
+ghost use Rattle.fond_draft.specs.Drafts.{IsDraft};
 ghost use Rattle.fond_planner.specs.Ends.{IsEnd};
 ghost use Rattle.fond_planner.specs.Planners.{IsPlanner};
 ghost use Rattle.fond_game.specs.Certificates.{LiesInLayers};
 ghost use Rattle.fond_relax.specs.Stable.{IsHopeless, IsHopelessBy};
 ghost use Rattle.std.specs.Prelude.{◌≡◌, ◌<◌, ◌≤◌, ◌^◌, None, All, length, IfOk, IfSome, OnOk};
 
-use crate::draft::Draft;
 use crate::planner::Planner;
 use crate::source::Source;
 use crate::walk::Round;
 use fond_cover::items::Items;
 use fond_covering::cover::{cover_by_states, take_items};
 use fond_covering::covering::Covering;
+use fond_draft::draft::Draft;
 use fond_layers::layers::{Layer, Layers};
 use fond_policy::cert::Cert;
 use fond_policy::reach::reach_count;
@@ -144,7 +144,7 @@ enum End {
 
 impl<S: Source> Planner<S> {
     /// Makes rules in rounds, and begins again without rules whenever a round barred an action, until a rule holds in each reached
-    /// state that is no goal. Memory is said to have run out after 2^32 - 1 rounds.
+    /// state that is no goal. Reports `NoMemory` past 2^32 - 1 rounds.
     fn finish(&mut self, alloc: Global, t: &Task, budget: u32) -> Result<End, NoMemory>
         requires few { budget ≤ 1000000 }
         requires planner { IsPlanner t.now self.old }

@@ -2,21 +2,21 @@
 //! budget.
 
 ghost use Rattle.fond_planner.specs.Decisions.{IsPast};
-ghost use Rattle.fond_planner.specs.Drafts.{IsDraft};
+ghost use Rattle.fond_draft.specs.Drafts.{IsDraft};
 ghost use Rattle.fond_planner.specs.Finds.{IsFound};
 ghost use Rattle.fond_planner.specs.Planners.{IsPlanner};
-ghost use Rattle.fond_planner.specs.Plans.{ArePlans, IsPlan};
-ghost use Rattle.fond_planner.specs.Targets.{HasRule};
+ghost use Rattle.fond_draft.specs.Plans.{ArePlans, IsPlan};
+ghost use Rattle.fond_draft.specs.Targets.{HasRule};
 ghost use Rattle.fond_explicit.specs.Answers.{AreStuck, AreWinning, IsReachable};
 ghost use Rattle.fond_game.specs.Certificates.{LiesInLayers};
 ghost use Rattle.fond_game.specs.Policies.{IsGoal};
 ghost use Rattle.std.specs.Prelude.{◌≡◌, ◌≤◌, None, true, length, IfOk, IfSome, OnOk};
 
-use crate::draft::Draft;
-use crate::make::make_rules;
-use crate::plan::{Plan, plan_of};
 use crate::planner::Planner;
 use crate::source::{Effort, Source};
+use fond_draft::draft::Draft;
+use fond_draft::make::make_rules;
+use fond_draft::plan::{Plan, plan_of};
 use fond_explicit::answer::{Choices, Solved};
 use fond_explicit::solve::solve;
 use fond_layers::layers::Layers;

@@ -1,14 +1,14 @@
 //! The planner: a policy in the making, and where its rules come from.
 
-ghost use Rattle.fond_planner.specs.Drafts.{IsDraft};
+ghost use Rattle.fond_draft.specs.Drafts.{IsDraft};
 ghost use Rattle.fond_planner.specs.Planners.{IsPlanner};
-ghost use Rattle.fond_planner.specs.Plans.{ArePlans};
+ghost use Rattle.fond_draft.specs.Plans.{ArePlans};
 ghost use Rattle.fond_game.specs.Certificates.{LiesInLayers};
 ghost use Rattle.std.specs.Prelude.{◌≡◌, true, length, IfOk, OnOk};
 
-use crate::draft::Draft;
-use crate::plan::Plan;
 use crate::source::{Effort, Source};
+use fond_draft::draft::Draft;
+use fond_draft::plan::Plan;
 use fond_hint::hint::Hint;
 use fond_state::cube::Cube;
 use fond_state::state::State;

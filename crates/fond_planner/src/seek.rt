@@ -2,17 +2,16 @@
 
 ghost use Rattle.fond_planner.specs.Planners.{IsPlanner};
 ghost use Rattle.fond_planner.specs.Seeks.{IsSought};
-ghost use Rattle.fond_planner.specs.Targets.{HasRule};
-ghost use Rattle.fond_planner.specs.Turns.{AreTurns, IsTurn};
-ghost use Rattle.fond_planner.specs.Walks.{AreReachable};
+ghost use Rattle.fond_draft.specs.Targets.{HasRule};
+ghost use Rattle.fond_draft.specs.Turns.{AreReachable, AreTurns, IsTurn};
 ghost use Rattle.fond_explicit.specs.Answers.{IsReachable};
 ghost use Rattle.std.specs.Prelude.{◌≡◌, true, length, IfOk, IfSome, OnOk};
 
-use crate::make::add_rule;
 use crate::planner::Planner;
-use crate::replay::replay;
 use crate::source::{Effort, Source};
-use crate::turn::{first_open, is_ready};
+use fond_draft::make::add_rule;
+use fond_draft::replay::replay;
+use fond_draft::turn::{first_open, is_ready};
 use fond_explicit::answer::{Choices, Pick};
 use fond_hint::hint::Hint;
 use fond_hint::step::PlanSteps;

@@ -3,7 +3,8 @@
 
 ghost use Rattle.fond_planner.specs.Decisions.{IsPast};
 ghost use Rattle.fond_planner.specs.Planners.{IsPlanner};
-ghost use Rattle.fond_planner.specs.Walks.{AreReachable, IsStep, IsTrail};
+ghost use Rattle.fond_draft.specs.Turns.{AreReachable};
+ghost use Rattle.fond_planner.specs.Walks.{IsStep, IsTrail};
 ghost use Rattle.fond_planner.specs.declared.sketched.Followed.TheVariants.{Past as IsPastEnd};
 ghost use Rattle.fond_planner.specs.declared.sketched.Sketched.TheVariants.{Past as IsPastSketch};
 ghost use Rattle.fond_explicit.specs.Answers.{IsReachable};

@@ -1,6 +1,6 @@
 //! Where a planner learns of plans and of layers.
 
-use crate::draft::Draft;
+use fond_draft::draft::Draft;
 use fond_hint::hint::{Hint, LayerHint};
 use fond_layers::layers::Layers;
 use fond_state::cube::Cube;

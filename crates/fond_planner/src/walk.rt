@@ -1,10 +1,11 @@
 //! The walk that finds states in which no rule holds, and what is done about them.
 
-ghost use Rattle.fond_planner.specs.Drafts.{IsDraft, IsFitting};
+ghost use Rattle.fond_draft.specs.Drafts.{IsDraft, IsFitting};
 ghost use Rattle.fond_planner.specs.Decisions.{IsPast};
 ghost use Rattle.fond_planner.specs.Finds.{IsBegun, IsRound};
 ghost use Rattle.fond_planner.specs.Planners.{IsPlanner};
-ghost use Rattle.fond_planner.specs.Walks.{AreReachable, IsOutset, IsSettled, IsStep};
+ghost use Rattle.fond_draft.specs.Turns.{AreReachable};
+ghost use Rattle.fond_planner.specs.Walks.{IsOutset, IsSettled, IsStep};
 ghost use Rattle.fond_explicit.specs.Answers.{IsReachable};
 ghost use Rattle.fond_game.specs.Certificates.{LiesInLayers};
 ghost use Rattle.fond_game.specs.Policies.{IsGoal};
@@ -14,12 +15,12 @@ ghost use Rattle.fond_layers.specs.Over.{AreOver};
 ghost use Rattle.fond_regress.specs.Barred.{Bars, IsBarred};
 ghost use Rattle.std.specs.Prelude.{◌≡◌, ◌<◌, ◌≤◌, false, true, length, Contains, IfOk, OnOk};
 
-use crate::draft::Draft;
 use crate::find::Found;
 use crate::planner::Planner;
 use crate::sketched::Sketched;
 use crate::source::Source;
 use fond_cover::items::Items;
+use fond_draft::draft::Draft;
 use fond_game::rule::Pair;
 use fond_layers::layers::Layers;
 use fond_policy::walk::one_state;

@@ -1,9 +1,9 @@
 use Rattle.std.proofs.Common.{subst}
 use Rattle.std.proofs.lemmas.Option.{slice_get_within}
 use Rattle.fond_game.proofs.Lists.{Contains_numbered}
-use Rattle.fond_planner.specs.Targets.{HasRule}
-use Rattle.fond_planner.proofs.Lists.{read_at}
-use Rattle.fond_planner.proofs.Plans.{choice_of_state}
+use Rattle.fond_draft.specs.Targets.{HasRule}
+use Rattle.fond_draft.proofs.Lists.{read_at}
+use Rattle.fond_draft.proofs.Plans.{choice_of_state}
 use Rattle.fond_planner.proofs.find.make_found.Goals as goal
 
 pub make_rules-requires-clause-plan : goal.make_rules-requires-clause-plan

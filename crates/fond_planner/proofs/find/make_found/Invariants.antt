@@ -1,4 +1,4 @@
-use Rattle.fond_planner.specs.Drafts.{IsDraft}
+use Rattle.fond_draft.specs.Drafts.{IsDraft}
 use Rattle.fond_planner.proofs.find.make_found.Given as goal
 
 -- the draft stays one

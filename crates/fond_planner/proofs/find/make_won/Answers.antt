@@ -1,7 +1,7 @@
 use Rattle.std.proofs.Common.{subst}
 use Rattle.std.proofs.lemmas.Option.{slice_get_within}
-use Rattle.fond_planner.specs.Targets.{HasRule}
-use Rattle.fond_planner.proofs.Plans.{choice_of_state, start_listed}
+use Rattle.fond_draft.specs.Targets.{HasRule}
+use Rattle.fond_draft.proofs.Plans.{choice_of_state, start_listed}
 use Rattle.fond_planner.proofs.find.make_won.Goals as goal
 
 pub unreachable-requires : goal.unreachable-requires

@@ -3,8 +3,8 @@ use Rattle.std.specs.Prelude.{Contains}
 use Rattle.std.proofs.lemmas.List.Elements.{Contains-append_right}
 use Rattle.fond_game.proofs.Lists.{Contains-here}
 use Rattle.fond_game.specs.declared.rule.Pair.{Pair}
-use Rattle.fond_planner.specs.Drafts.{AreFitting}
-use Rattle.fond_planner.proofs.Fitting.{fitting_more}
+use Rattle.fond_draft.specs.Drafts.{AreFitting}
+use Rattle.fond_draft.proofs.Fitting.{fitting_more}
 use Rattle.fond_planner.proofs.Walked.{state_long}
 use Rattle.fond_planner.proofs.walk.bar.Goals as goal
 

@@ -1,4 +1,4 @@
-use Rattle.fond_planner.proofs.Turned.{reached_long}
+use Rattle.fond_draft.proofs.Turned.{reached_long}
 use Rattle.fond_planner.proofs.planner.Planner.find.Goals as goal
 
 pub find_known-requires-clause-long : goal.find_known-requires-clause-long

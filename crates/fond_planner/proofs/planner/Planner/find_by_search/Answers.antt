@@ -2,7 +2,7 @@ use Rattle.std.proofs.Common.{ℕ, sym, subst}
 use Rattle.std.proofs.Common.{◌∙◌}
 use Rattle.fond_layers.specs.Over.{AreOver}
 use Rattle.fond_planner.proofs.Barred.{dead_lies}
-use Rattle.fond_planner.proofs.Turned.{reached_long}
+use Rattle.fond_draft.proofs.Turned.{reached_long}
 use Rattle.fond_planner.proofs.planner.Planner.find_by_search.Goals as goal
 
 pub dead-requires : goal.dead-requires

@@ -1,6 +1,6 @@
 use Rattle.std.proofs.Common.{subst}
 use Rattle.fond_explicit.specs.Answers.{IsRight}
-use Rattle.fond_planner.proofs.Turned.{reached_long}
+use Rattle.fond_draft.proofs.Turned.{reached_long}
 use Rattle.fond_planner.proofs.Walked.{past_through}
 use Rattle.fond_planner.proofs.planner.Planner.find_by_states.Goals as goal
 

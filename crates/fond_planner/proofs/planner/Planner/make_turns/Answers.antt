@@ -1,7 +1,7 @@
 use Rattle.std.proofs.Common.{ℕ, sym, subst}
 use Rattle.fond_game.proofs.Lists.{Contains_numbered}
 use Rattle.fond_rules.specs.Select.{AreOver}
-use Rattle.fond_planner.proofs.Turned.{turn_long}
+use Rattle.fond_draft.proofs.Turned.{turn_long}
 use Rattle.fond_planner.proofs.planner.Planner.make_turns.Goals as goal
 
 pub select-requires : goal.select-requires

@@ -1,6 +1,6 @@
 use Rattle.std.proofs.Common.{sym, subst}
 use Rattle.fond_explicit.specs.Answers.{IsReachable}
-use Rattle.fond_planner.proofs.Turned.{turn_next}
+use Rattle.fond_draft.proofs.Turned.{turn_next}
 use Rattle.fond_planner.proofs.planner.Planner.open_next.Goals as goal
 
 pub returns-clause-reachable : goal.returns-clause-reachable

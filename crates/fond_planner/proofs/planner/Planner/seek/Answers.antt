@@ -1,8 +1,8 @@
 use Rattle.std.proofs.Common.{◌∙◌, ℕ, sym, ap, subst}
 use Rattle.std.specs.Option.{is_some}
 use Rattle.fond_rules.specs.Select.{AreOver}
-use Rattle.fond_planner.proofs.Rules.{has_selected}
-use Rattle.fond_planner.proofs.Turned.{reached_long}
+use Rattle.fond_draft.proofs.Rules.{has_selected}
+use Rattle.fond_draft.proofs.Turned.{reached_long}
 use Rattle.fond_planner.proofs.planner.Planner.seek.Goals as goal
 
 pub select-requires : goal.select-requires

@@ -1,5 +1,5 @@
 use Rattle.fond_planner.specs.Planners.{IsPlanner}
-use Rattle.fond_planner.specs.Walks.{AreReachable}
+use Rattle.fond_draft.specs.Turns.{AreReachable}
 use Rattle.fond_planner.proofs.planner.Planner.seek_all.Given as goal
 
 -- the planner stays one of the task, and the waiting states reachable

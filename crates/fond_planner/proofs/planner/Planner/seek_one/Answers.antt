@@ -1,4 +1,4 @@
-use Rattle.fond_planner.proofs.Turned.{reached_long}
+use Rattle.fond_draft.proofs.Turned.{reached_long}
 use Rattle.fond_planner.proofs.planner.Planner.seek_one.Goals as goal
 
 pub is_known-requires-clause-long : goal.is_known-requires-clause-long

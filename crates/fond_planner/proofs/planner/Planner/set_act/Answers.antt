@@ -1,7 +1,7 @@
 use Rattle.std.proofs.Common.{◌∙◌, ℕ, sym, subst}
 use Rattle.fond_policy.proofs.Walking.{applies, not_goal}
 use Rattle.fond_rules.specs.Select.{AreOver}
-use Rattle.fond_planner.proofs.Ready.{reachable_long}
+use Rattle.fond_draft.proofs.Ready.{reachable_long}
 use Rattle.fond_planner.proofs.planner.Planner.set_act.Goals as goal
 
 pub is_goal-requires : goal.is_goal-requires

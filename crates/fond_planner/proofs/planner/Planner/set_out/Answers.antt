@@ -1,7 +1,7 @@
 use Rattle.std.proofs.Common.{◌∙◌, ◌<◌, [], length, get_or, slice_get, Some, ◌≡◌, ap, subst, sym, arith}
 use Rattle.std.proofs.lemmas.Option.{same_Some, slice_get-get_or, slice_get_within}
 use Rattle.fond_task.specs.declared.task.Act.{Act}
-use Rattle.fond_planner.proofs.Ready.{reachable_long}
+use Rattle.fond_draft.proofs.Ready.{reachable_long}
 use Rattle.fond_planner.proofs.planner.Planner.set_out.Goals as goal
 
 pub apply_into-requires-clause-long : goal.apply_into-requires-clause-long

@@ -5,7 +5,7 @@ use Rattle.fond_task.specs.declared.task.Act.{Act}
 use Rattle.fond_policy.proofs.Walking.{few_outcomes}
 use Rattle.fond_game.specs.Policies.{IsGoal}
 use Rattle.fond_explicit.specs.Answers.{IsReachable}
-use Rattle.fond_planner.proofs.Ready.{reachable_long}
+use Rattle.fond_draft.proofs.Ready.{reachable_long}
 use Rattle.fond_planner.proofs.planner.Planner.take_all.Goals as goal
 
 pub overflow_cast-step-in-loop-outcome : goal.overflow_cast-step-in-loop-outcome

@@ -1,6 +1,6 @@
 use Rattle.std.proofs.Common.{◌≡◌, length}
 use Rattle.fond_planner.specs.Planners.{IsPlanner}
-use Rattle.fond_planner.specs.Walks.{AreReachable}
+use Rattle.fond_draft.specs.Turns.{AreReachable}
 use Rattle.fond_planner.proofs.planner.Planner.take_all.Given as goal
 
 -- the planner stays one of the task, and the states reachable ones

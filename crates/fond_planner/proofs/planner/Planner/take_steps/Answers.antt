@@ -1,6 +1,6 @@
 use Rattle.std.proofs.Common.{◌∙◌, ℕ, length, sym, ap, subst}
 use Rattle.fond_rules.specs.Select.{AreOver}
-use Rattle.fond_planner.proofs.Turned.{reached_long}
+use Rattle.fond_draft.proofs.Turned.{reached_long}
 use Rattle.fond_planner.proofs.planner.Planner.take_steps.Goals as goal
 
 pub make_turns-requires-clause-next_long : goal.make_turns-requires-clause-next_long

@@ -2,8 +2,8 @@ use Rattle.std.proofs.Common.{◌≡◌, List, sym, subst, ⊎_elim}
 use Rattle.std.specs.Prelude.{Contains}
 use Rattle.std.proofs.lemmas.List.Elements.{Contains-push_cases}
 use Rattle.fond_explicit.specs.Answers.{AreWinning, ChoiceView}
-use Rattle.fond_planner.specs.Plans.{IsPlan}
-use Rattle.fond_planner.specs.declared.plan.Plan.{Plan}
+use Rattle.fond_draft.specs.Plans.{IsPlan}
+use Rattle.fond_draft.specs.declared.plan.Plan.{Plan}
 use Rattle.fond_planner.proofs.planner.Planner.win.Goals as goal
 
 pub plan_of-requires : goal.plan_of-requires

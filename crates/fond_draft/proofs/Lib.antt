@@ -1,0 +1,13 @@
+pub mod Lists
+pub mod Full
+pub mod Listed
+pub mod Rules
+pub mod Sure
+pub mod Ready
+pub mod Plans
+pub mod Fitting
+pub mod Unlost
+pub mod Made
+pub mod Provided
+pub mod Appended
+pub mod Turned

@@ -1,0 +1,56 @@
+use Rattle.std.proofs.Common.{◌≡◌, ◌∙◌, ◌<◌, List, Bool, length, Some, [], get_or, slice_get, refl, sym, ap, subst, ⊎_elim, arith}
+use Rattle.std.proofs.lemmas.Bool.{cases_lt}
+use Rattle.std.proofs.lemmas.Option.{same_Some, slice_get-get_or, slice_get_within}
+use Rattle.fond_task.specs.declared.task.Act.{Act}
+use Rattle.fond_policy.proofs.Walking.{few_outcomes}
+use Rattle.fond_game.proofs.Lists.{number_of}
+use Rattle.fond_draft.specs.Targets.{IsCovered}
+use Rattle.fond_draft.proofs.Turned.{turn_long, turn_there}
+use Rattle.fond_draft.proofs.turn.first_open.Goals as goal
+
+pub overflow_cast-outcome : goal.overflow_cast-outcome
+overflow_cast-outcome c =
+    let few = few_outcomes c.args.t.now c.args.turn.now.act c.get.result.now c.get.ensures in
+    omega (arith, few, c.loop-outcome-test.true, c.len-outcome-end.ensures)
+
+pub apply_into-requires-clause-long : goal.apply_into-requires-clause-long
+apply_into-requires-clause-long c = turn_long c.args.t.now c.args.turn.now c.requires.turn
+
+pub apply_into-requires-clause-there : goal.apply_into-requires-clause-there
+apply_into-requires-clause-there c = turn_there c.args.t.now c.args.turn.now c.requires.turn
+
+pub overflow_cast-result : goal.overflow_cast-result
+overflow_cast-result c =
+    let few = few_outcomes c.args.t.now c.args.turn.now.act c.get.result.now c.get.ensures in
+    omega (arith, few, c.loop-outcome-test.true, c.len-outcome-end.ensures)
+
+pub returns-then-not-is_covered-clause-open : goal.returns-then-not-is_covered-clause-open
+returns-then-not-is_covered-clause-open c = λ act at.
+    let own = c.get.result.now in
+    let k = c.loop-outcome.outcome in
+    let same : own ≡ act = same_Some own act (sym c.get.ensures ∙ at) in
+    let lt : k < length own.outcomes = omega (arith, c.loop-outcome-test.true, c.len-outcome-end.ensures) in
+    let entries = get_or own.outcomes k [] in
+    let there : slice_get own.outcomes k ≡ Some entries = slice_get-get_or own.outcomes k [] lt in
+    (entries, subst (λ (a : Act). slice_get a.outcomes k ≡ Some entries) same there, c.apply_into.ensures.next own entries c.get.ensures there)
+
+pub loop-outcome-preserved : goal.loop-outcome-preserved
+loop-outcome-preserved c = record {
+  long = c.apply_into.ensures.same_length ∙ c.loop-outcome.invariant.long;
+  covered = λ act number entries at small is. ⊎_elim
+      (λ lt. c.loop-outcome.invariant.covered act number entries at lt is)
+      (λ ge.
+      let same : number ≡ c.loop-outcome.outcome = omega (arith, small, ge) in
+      let here : slice_get act.outcomes c.loop-outcome.outcome ≡ Some entries = ap (slice_get act.outcomes) (sym same) ∙ is in
+      subst (λ (s : List Bool). IsCovered c.args.t.now c.args.rules.now s) (c.apply_into.ensures.next act entries at here) (c.if-not-is_covered.ensures.0 refl))
+      (cases_lt number c.loop-outcome.outcome);
+}
+
+pub returns-clause-covered : goal.returns-clause-covered
+returns-clause-covered c = λ none act entries at has.
+    let own = c.get.result.now in
+    let same : own ≡ act = same_Some own act (sym c.get.ensures ∙ at) in
+    let one = number_of act.outcomes entries has in
+    let within : one.0 < length act.outcomes = slice_get_within act.outcomes one.0 entries one.1 in
+    let all : length own.outcomes ≡ length act.outcomes = ap (λ (a : Act). length a.outcomes) same in
+    c.loop-outcome.invariant.covered act one.0 entries at (omega (arith, within, all, c.loop-outcome-test.false, c.len-outcome-end.ensures)) one.1

@@ -1,0 +1,32 @@
+use Rattle.std.proofs.Common.{◌≡◌, ◌∙◌, ◌<◌, List, Bool, length, Some, [], get_or, slice_get, refl, sym, subst, arith}
+use Rattle.std.proofs.lemmas.Option.{same_Some, slice_get-get_or}
+use Rattle.fond_task.specs.declared.task.Act.{Act}
+use Rattle.fond_policy.proofs.Walking.{few_outcomes}
+use Rattle.fond_game.proofs.Lists.{Contains_numbered}
+use Rattle.fond_draft.specs.Targets.{IsCovered}
+use Rattle.fond_draft.proofs.Turned.{turn_long, turn_there}
+use Rattle.fond_draft.proofs.turn.is_some_covered.Goals as goal
+
+pub overflow_cast-outcome : goal.overflow_cast-outcome
+overflow_cast-outcome c =
+    let few = few_outcomes c.args.t.now c.args.turn.now.act c.get.result.now c.get.ensures in
+    omega (arith, few, c.loop-outcome-test.true, c.len-outcome-end.ensures)
+
+pub apply_into-requires-clause-long : goal.apply_into-requires-clause-long
+apply_into-requires-clause-long c = turn_long c.args.t.now c.args.turn.now c.requires.turn
+
+pub apply_into-requires-clause-there : goal.apply_into-requires-clause-there
+apply_into-requires-clause-there c = turn_there c.args.t.now c.args.turn.now c.requires.turn
+
+pub returns-then-is_covered-clause-covered : goal.returns-then-is_covered-clause-covered
+returns-then-is_covered-clause-covered c = λ yes act at.
+    let own = c.get.result.now in
+    let k = c.loop-outcome.outcome in
+    let same : own ≡ act = same_Some own act (sym c.get.ensures ∙ at) in
+    let lt : k < length own.outcomes = omega (arith, c.loop-outcome-test.true, c.len-outcome-end.ensures) in
+    let entries = get_or own.outcomes k [] in
+    let there : slice_get own.outcomes k ≡ Some entries = slice_get-get_or own.outcomes k [] lt in (
+      entries,
+      Contains_numbered act.outcomes k entries (subst (λ (a : Act). slice_get a.outcomes k ≡ Some entries) same there),
+      subst (λ (s : List Bool). IsCovered c.args.t.now c.args.rules.now s) (c.apply_into.ensures.next own entries c.get.ensures there) (c.if-is_covered.ensures.0 refl),
+    )

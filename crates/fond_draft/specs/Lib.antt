@@ -1,0 +1,6 @@
+pub mod Targets
+pub mod Plans
+pub mod Places
+pub mod Drafts
+pub mod Appends
+pub mod Turns
