@@ -1,5 +1,5 @@
 -- Walks through the states that a draft's rules reach.
-use Rattle.std.specs.Prelude.{◌≡◌, ◌⊎◌, ℕ, List, Bool, Some, length, slice_get, Contains, IsTrue}
+use Rattle.std.specs.Prelude.{◌≡◌, ◌⊎◌, List, Some, length, slice_get, IsTrue}
 use Rattle.fond_task.specs.declared.task.Act.{Act}
 use Rattle.fond_task.specs.declared.task.Entry.{Entry}
 use Rattle.fond_task.specs.declared.task.Task.{Task}

@@ -1,4 +1,4 @@
-use Rattle.std.proofs.Common.{[], ◌∷◌, List, refl, sym, subst}
+use Rattle.std.proofs.Common.{[], ◌∷◌, List, sym, subst}
 use Rattle.std.specs.Prelude.{Contains}
 use Rattle.std.proofs.lemmas.List.Elements.{Contains-push}
 use Rattle.fond_state.proofs.Tested.{lies_in-Decides}

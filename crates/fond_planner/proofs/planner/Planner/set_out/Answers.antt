@@ -1,4 +1,4 @@
-use Rattle.std.proofs.Common.{◌∙◌, ◌<◌, [], length, get_or, slice_get, Some, ◌≡◌, ap, subst, sym, arith}
+use Rattle.std.proofs.Common.{◌∙◌, ◌<◌, [], length, get_or, slice_get, Some, ◌≡◌, subst, sym, arith}
 use Rattle.std.proofs.lemmas.Option.{same_Some, slice_get-get_or, slice_get_within}
 use Rattle.fond_task.specs.declared.task.Act.{Act}
 use Rattle.fond_draft.proofs.Ready.{reachable_long}

@@ -1,6 +1,3 @@
-use Rattle.std.proofs.Common.{inr, List, sym, subst}
-use Rattle.fond_game.specs.Certificates.{LiesInLayers}
-use Rattle.fond_game.specs.Layers.{CubeView}
 use Rattle.fond_planner.proofs.Walked.{next_reachable}
 use Rattle.fond_planner.proofs.planner.Planner.settle.Goals as goal
 
