@@ -1,10 +1,10 @@
 //! The searching engine as a source of hints: it is told what is new in a draft before it is asked.
 
+use fond_draft::draft::Draft;
 use fond_game::rule::{Target, Targets};
 use fond_guess::engine::Engine;
 use fond_hint::hint::{Hint, LayerHint};
 use fond_layers::layers::{Layer, Layers};
-use fond_draft::draft::Draft;
 use fond_planner::source::{Effort, Source};
 use fond_state::cube::Cube;
 use fond_state::state::State;

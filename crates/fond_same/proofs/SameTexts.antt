@@ -70,13 +70,13 @@ module _ (game other : Task) (leaves : act_leaves game ≡ act_leaves other) (cu
 
   same_lines : (cert : Cert) → cert_lines game cert ≡ cert_lines other cert
   same_lines (Policy layers pairs rules reach) = λ i.
-    same_line k.PolicyHeader (tt, tt) i ∷ (flat_map (λ layer. same_layer layer i) layers ++ (map (λ pair. same_pair pair i) pairs
-    ++ (map (λ rule. same_targets rule.act rule.targets rule.cond i) rules ++ (same_line k.Reach (reach, tt) i ∷ same_line k.End (tt, tt) i ∷ []))))
+      same_line k.PolicyHeader (tt, tt) i ∷ (flat_map (λ layer. same_layer layer i) layers ++ (map (λ pair. same_pair pair i) pairs
+      ++ (map (λ rule. same_targets rule.act rule.targets rule.cond i) rules ++ (same_line k.Reach (reach, tt) i ∷ same_line k.End (tt, tt) i ∷ []))))
   same_lines (Refusal layers) = λ i. same_line k.RefusalHeader (tt, tt) i ∷ (flat_map (λ layer. same_layer layer i) layers ++ (same_line k.End (tt, tt) i ∷ []))
   same_lines (Covered layers pairs rules items start) = λ i.
-    same_line k.CoverHeader (tt, tt) i ∷ (flat_map (λ layer. same_layer layer i) layers ++ (map (λ pair. same_pair pair i) pairs
-    ++ (map (λ rule. same_targets rule.act rule.targets rule.cond i) rules
-    ++ (map (λ item. same_way item.way item.cube i) items ++ (same_line k.Start (start, tt) i ∷ same_line k.End (tt, tt) i ∷ [])))))
+      same_line k.CoverHeader (tt, tt) i ∷ (flat_map (λ layer. same_layer layer i) layers ++ (map (λ pair. same_pair pair i) pairs
+      ++ (map (λ rule. same_targets rule.act rule.targets rule.cond i) rules
+      ++ (map (λ item. same_way item.way item.cube i) items ++ (same_line k.Start (start, tt) i ∷ same_line k.End (tt, tt) i ∷ [])))))
 
 -- a certificate is spelled alike in the same task
 pub same_spelling : (game other : Task) → IsSameTask game other → (cert : Cert) → spelling game cert ≡ spelling other cert
