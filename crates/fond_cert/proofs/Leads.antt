@@ -8,7 +8,8 @@ use Rattle.fond_form.specs.declared.table.LineKind.{LineKind}
 use Rattle.fond_form.specs.Forms.{Line, line_text}
 use Rattle.fond_cert.specs.declared.due.Due.{Due}
 use Rattle.fond_cert.specs.declared.due.Due.TheVariants.{Nothing as NothingDue}
-use Rattle.fond_cert.specs.Faults.{if_few, due_after, Lead}
+use Rattle.fond_cert.specs.Faults.{Lead}
+use Rattle.fond_cert.specs.Sections.{if_few, due_after}
 use Rattle.fond_cert.specs.Spellings.{lines_text}
 
 -- lines that lead to where others lead on

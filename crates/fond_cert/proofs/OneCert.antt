@@ -24,9 +24,10 @@ use Rattle.fond_cert.specs.declared.due.Due.TheVariants.{Header as HeaderDue, No
 use Rattle.fond_cert.specs.Faults.{Lead}
 use Rattle.fond_cert.specs.Filled.{pair_of, fair_of, unfair_of, goal_item_of, rule_item_of}
 use Rattle.fond_cert.specs.Spellings.{cube_line, layer_lines, pair_line, targets_line, rule_line, way_line, item_line, reach_line, start_line, end_line, cert_lines, lines_text, spelling}
+use Rattle.fond_cert.proofs.Befores.{rank}
 use Rattle.fond_cert.proofs.Meanings.{line_same}
 use Rattle.fond_cert.proofs.OneFault.{same_first}
-use Rattle.fond_cert.proofs.OwnLines.{rank, IsGoodPair, pair_means, IsGoodRule, fair_means, unfair_means, IsGoodItem, goal_means, way_means, good_pairs, good_rules, good_items, rule_kind, item_kind, cert_leads}
+use Rattle.fond_cert.proofs.OwnLines.{first_rank, above_all, IsGoodPair, pair_means, IsGoodRule, fair_means, unfair_means, IsGoodItem, goal_means, way_means, good_pairs, good_rules, good_items, rule_kind, item_kind, cert_leads}
 
 -- lines that lead from one place have one text only if they are the same
 
@@ -42,11 +43,6 @@ same_lines task due end other_end (line ∷ lines) (next ∷ others) lead other_
     let same = first.same in
     let more = same_lines task first.next end other_end lines others first.lead first.other_lead (sym (append-nil (lines_text lines)) ∙ first.texts ∙ append-nil (lines_text others)) in
     λ i. same i ∷ more i
-
--- the rank of the first line
-abbrev first_rank : List Line → ℕ
-first_rank [] = 11
-first_rank (line ∷ lines) = rank line.kind
 
 abbrev rest_of : List Line → List Line
 rest_of [] = []
@@ -101,44 +97,32 @@ module _ (task : Task) where
   abbrev layers_lines : List (List CubeView) → List Line
   layers_lines layers = flat_map (layer_lines task) layers
 
-  no_cube_first : (layers : List (List CubeView)) (s : List Line) → 4 < first_rank s → first_rank (layers_lines layers ++ s) ≢ 4
+  no_cube_first : (layers : List (List CubeView)) (s : List Line) → 1 < first_rank s → first_rank (layers_lines layers ++ s) ≢ 1
   no_cube_first [] s after e = omega (arith, after, e)
   no_cube_first (layer ∷ layers) s after e = omega (arith, e)
 
   layer_apart : (layer : List CubeView) (layers : List (List CubeView)) (s : List Line) → rest_of (layers_lines (layer ∷ layers) ++ s) ≡ map (cube_line task) layer ++ (layers_lines layers ++ s)
   layer_apart layer layers s = append_assoc (map (cube_line task) layer) (layers_lines layers) s
 
-  same_layers : (layers others : List (List CubeView)) (s t : List Line) → AreOver (length task.atoms) layers → AreOver (length task.atoms) others → 4 < first_rank s → 4 < first_rank t →
+  same_layers : (layers others : List (List CubeView)) (s t : List Line) → AreOver (length task.atoms) layers → AreOver (length task.atoms) others → 1 < first_rank s → 1 < first_rank t →
       layers_lines layers ++ s ≡ layers_lines others ++ t → (layers ≡ others) × (s ≡ t)
   same_layers [] [] s t over other_over after other_after e = (refl, e)
-  same_layers [] (other ∷ others) s t over other_over after other_after e = let first : first_rank s ≡ 3 = ap first_rank e in absurd (omega (arith, after, first))
-  same_layers (layer ∷ layers) [] s t over other_over after other_after e = let first : first_rank t ≡ 3 = ap first_rank (sym e) in absurd (omega (arith, other_after, first))
+  same_layers [] (other ∷ others) s t over other_over after other_after e = let first : first_rank s ≡ 0 = ap first_rank e in absurd (omega (arith, after, first))
+  same_layers (layer ∷ layers) [] s t over other_over after other_after e = let first : first_rank t ≡ 0 = ap first_rank (sym e) in absurd (omega (arith, other_after, first))
   same_layers (layer ∷ layers) (other ∷ others) s t over other_over after other_after e =
       let Long = IsOver (length task.atoms) in
-      let first = same_items (cube_line task) 4 (λ (cube : CubeView). length cube ≡ length task.atoms) (λ cube. refl)
+      let first = same_items (cube_line task) 1 (λ (cube : CubeView). length cube ≡ length task.atoms) (λ cube. refl)
       (λ cube other_cube long other_long line. ap (λ meanings. meanings.0) (line_same task k.Cube (cube, tt) (other_cube, tt) (long, tt) (other_long, tt) line))
       layer other (layers_lines layers ++ s) (layers_lines others ++ t) (All-head Long layer layers over) (All-head Long other others other_over)
       (no_cube_first layers s after) (no_cube_first others t other_after) (sym (layer_apart layer layers s) ∙ ap rest_of e ∙ layer_apart other others t) in
       let more = same_layers layers others s t (All-tail Long layer layers over) (All-tail Long other others other_over) after other_after first.1 in
       ((λ i. first.0 i ∷ more.0 i), more.1)
 
-  rule_rank : (rule : Rule) → rank (rule_line task rule).kind ≡ 6
-  rule_rank = rule_kind task (λ kind. rank kind ≡ 6) refl refl
+  rule_rank : (rule : Rule) → rank (rule_line task rule).kind ≡ 3
+  rule_rank = rule_kind task (λ kind. rank kind ≡ 3) refl refl
 
-  after_rules : (rules : List Rule) (s : List Line) → 5 < first_rank s → 5 < first_rank (map (rule_line task) rules ++ s)
-  after_rules [] s after = after
-  after_rules (rule ∷ rules) s after = omega (arith, rule_rank rule)
-
-  after_pairs : (pairs : List Pair) (s : List Line) → 5 < first_rank s → 4 < first_rank (map (pair_line task) pairs ++ s)
-  after_pairs [] s after = omega (arith, after)
-  after_pairs (pair ∷ pairs) s after = omega arith
-
-  item_rank : (item : Item) → rank (item_line task item).kind ≡ 7
-  item_rank = item_kind task (λ kind. rank kind ≡ 7) refl refl
-
-  after_items : (items : List Item) (s : List Line) → 6 < first_rank s → 6 < first_rank (map (item_line task) items ++ s)
-  after_items [] s after = after
-  after_items (item ∷ items) s after = omega (arith, item_rank item)
+  item_rank : (item : Item) → rank (item_line task item).kind ≡ 4
+  item_rank = item_kind task (λ kind. rank kind ≡ 4) refl refl
 
   -- lines of layers, pairs and rules, with others after them
   abbrev plan_lines : List (List CubeView) → List Pair → List Rule → List Line → List Line
@@ -152,16 +136,16 @@ module _ (task : Task) where
     pub rest_same : s ≡ t
 
   same_plan : (layers others : List (List CubeView)) (pairs other_pairs : List Pair) (rules other_rules : List Rule) (s t : List Line) → AreOver (length task.atoms) layers → AreOver (length task.atoms) others →
-      Each (IsGoodPair task) pairs → Each (IsGoodPair task) other_pairs → Each (IsGoodRule task) rules → Each (IsGoodRule task) other_rules → 6 < first_rank s → 6 < first_rank t →
+      Each (IsGoodPair task) pairs → Each (IsGoodPair task) other_pairs → Each (IsGoodRule task) rules → Each (IsGoodRule task) other_rules → 3 < first_rank s → 3 < first_rank t →
       plan_lines layers pairs rules s ≡ plan_lines others other_pairs other_rules t → SamePlan layers others pairs other_pairs rules other_rules s t
   same_plan layers others pairs other_pairs rules other_rules s t over other_over in_pairs other_in_pairs in_rules other_in_rules after other_after e =
       let rl = map (rule_line task) rules ++ s in
       let other_rl = map (rule_line task) other_rules ++ t in
-      let ends = after_rules rules s (omega (arith, after)) in
-      let other_ends = after_rules other_rules t (omega (arith, other_after)) in
-      let one = same_layers layers others (map (pair_line task) pairs ++ rl) (map (pair_line task) other_pairs ++ other_rl) over other_over (after_pairs pairs rl ends) (after_pairs other_pairs other_rl other_ends) e in
-      let two = same_items (pair_line task) 5 (IsGoodPair task) (λ pair. refl) same_pair pairs other_pairs rl other_rl in_pairs other_in_pairs (λ same. omega (arith, ends, same)) (λ same. omega (arith, other_ends, same)) one.1 in
-      let three = same_items (rule_line task) 6 (IsGoodRule task) rule_rank same_rule rules other_rules s t in_rules other_in_rules (λ same. omega (arith, after, same)) (λ same. omega (arith, other_after, same)) two.1 in
+      let ends = above_all (rule_line task) 2 (λ rule. omega (arith, rule_rank rule)) rules s (omega (arith, after)) in
+      let other_ends = above_all (rule_line task) 2 (λ rule. omega (arith, rule_rank rule)) other_rules t (omega (arith, other_after)) in
+      let one = same_layers layers others (map (pair_line task) pairs ++ rl) (map (pair_line task) other_pairs ++ other_rl) over other_over (above_all (pair_line task) 1 (λ pair. omega arith) pairs rl (omega (arith, ends))) (above_all (pair_line task) 1 (λ pair. omega arith) other_pairs other_rl (omega (arith, other_ends))) e in
+      let two = same_items (pair_line task) 2 (IsGoodPair task) (λ pair. refl) same_pair pairs other_pairs rl other_rl in_pairs other_in_pairs (λ same. omega (arith, ends, same)) (λ same. omega (arith, other_ends, same)) one.1 in
+      let three = same_items (rule_line task) 3 (IsGoodRule task) rule_rank same_rule rules other_rules s t in_rules other_in_rules (λ same. omega (arith, after, same)) (λ same. omega (arith, other_after, same)) two.1 in
       record { layers_same = one.0; pairs_same = two.0; rules_same = three.0; rest_same = three.1 }
 
   abbrev reach_lines : ℕ → List Line
@@ -184,8 +168,8 @@ module _ (task : Task) where
   same_certs (Covered layers pairs rules items start) (Covered other_layers other_pairs other_rules other_items other_start) h other_h small other_small e =
       let same = same_plan layers other_layers pairs other_pairs rules other_rules (cover_lines items start) (cover_lines other_items other_start) h.0.over other_h.0.over
       (good_pairs task pairs h.1 small.0) (good_pairs task other_pairs other_h.1 other_small.0) (good_rules task rules h.2 small.1) (good_rules task other_rules other_h.2 other_small.1)
-      (after_items items (start_lines start) (omega arith)) (after_items other_items (start_lines other_start) (omega arith)) (ap rest_of e) in
-      let four = same_items (item_line task) 7 (IsGoodItem task) item_rank same_item items other_items (start_lines start) (start_lines other_start)
+      (above_all (item_line task) 3 (λ item. omega (arith, item_rank item)) items (start_lines start) (omega arith)) (above_all (item_line task) 3 (λ item. omega (arith, item_rank item)) other_items (start_lines other_start) (omega arith)) (ap rest_of e) in
+      let four = same_items (item_line task) 4 (IsGoodItem task) item_rank same_item items other_items (start_lines start) (start_lines other_start)
       (good_items task items h.3 small.2) (good_items task other_items other_h.3 other_small.2) (λ same. omega (arith, same)) (λ same. omega (arith, same)) same.rest_same in
       let last : start_lines start ≡ start_lines other_start = four.1 in
       let line : start_line task start ≡ start_line task other_start = cc in

@@ -4,7 +4,8 @@ use Rattle.std.proofs.lemmas.List.{append-nil}
 use Rattle.fond_task.specs.declared.task.Task.{Task}
 use Rattle.fond_cert.specs.declared.due.Due.{Due}
 use Rattle.fond_cert.specs.declared.due.Due.TheVariants.{Header as HeaderDue, Nothing as NothingDue}
-use Rattle.fond_cert.specs.Faults.{due_after, Lead, IsRefusedLine, IsRefusedRest, IsRefusedAt, IsCertFault}
+use Rattle.fond_cert.specs.Sections.{due_after}
+use Rattle.fond_cert.specs.Faults.{Lead, IsRefusedLine, IsRefusedRest, IsRefusedAt, IsCertFault}
 use Rattle.fond_form.specs.Feeds.{HasNoFeed}
 use Rattle.fond_form.specs.Forms.{Line, line_text, IsProper}
 use Rattle.fond_cert.specs.Spellings.{lines_text}

@@ -1,5 +1,7 @@
 -- The lines of a certificate that belongs to a task lead from the header to the end, and none is refused.
-use Rattle.std.proofs.Common.{◌≡◌, ℕ, ◌+◌, ◌<◌, ◌^◌, ◌∙◌, List, [], ◌∷◌, ◌++◌, Some, None, All as Each, length, map, refl, sym, ap, arith}
+use Rattle.std.proofs.Common.{◌≡◌, ◌≢◌, ℕ, ◌+◌, ◌<◌, ◌^◌, ◌∙◌, nat_lt, true, false, List, [], ◌∷◌, ◌++◌, Some, None, All as Each, length, map, drop, refl, sym, ap, arith, append_assoc}
+use Rattle.std.proofs.lemmas.Bool.Decides.{nat_tests}
+use Rattle.std.proofs.lemmas.List.{drop-drop}
 use Rattle.std.specs.List.{flat_map}
 use Rattle.std.proofs.lemmas.List.Elements.{All-head, All-tail}
 use Rattle.fond_task.specs.declared.task.Task.{Task}
@@ -19,67 +21,52 @@ use Rattle.fond_policy.specs.Sizes.{IsSmallPair, AreSmallTargets, IsSmallWay, Ha
 use Rattle.fond_form.specs.declared.table.LineKind.{LineKind}
 use Rattle.fond_form.specs.declared.table.LineKind.TheVariants as k
 use Rattle.fond_form.specs.Forms.{form, Line, IsProper}
-use Rattle.fond_cert.specs.declared.due.Evidence.{Evidence}
 use Rattle.fond_cert.specs.declared.due.Evidence.TheVariants.{Reach as ByReach, Cover as ByCover}
 use Rattle.fond_cert.specs.declared.due.Kind.{Kind}
 use Rattle.fond_cert.specs.declared.due.Kind.TheVariants.{Policy as OfPolicy, Refusal as OfRefusal}
 use Rattle.fond_cert.specs.declared.due.Due.{Due}
-use Rattle.fond_cert.specs.declared.due.Due.TheVariants.{Header as HeaderDue, Layers as LayersDue, Cubes as CubesDue, Pairs as PairsDue, Rules as RulesDue, Items as ItemsDue, End as EndDue, Nothing as NothingDue}
-use Rattle.fond_cert.specs.Faults.{due_after, after_layers, after_pairs, after_rules, Lead}
+use Rattle.fond_cert.specs.declared.due.Due.TheVariants.{Header as HeaderDue, Section as SectionDue, Nothing as NothingDue}
+use Rattle.fond_cert.specs.declared.due.Group.{Group}
+use Rattle.fond_cert.specs.declared.due.Group.TheVariants as g
+use Rattle.fond_cert.specs.declared.due.Section.{Section}
+use Rattle.fond_cert.specs.declared.due.Section.TheVariants.{One as OneOf, Any, Few, Blocks}
+use Rattle.fond_cert.specs.Drafts.{order, order_of}
+use Rattle.fond_cert.specs.Faults.{Lead}
+use Rattle.fond_cert.specs.Sections.{sections, is_in, after_in, may_end, due_after}
+use Rattle.fond_cert.proofs.Befores.{rank, line_order, IsKnown}
 use Rattle.fond_cert.specs.Items.{IsPairOf, IsRuleOf, IsItemOf}
 use Rattle.fond_cert.specs.Spellings.{Meanings, AreOfTask, spelled_line, cube_line, layer_lines, pair_line, targets_line, rule_line, way_line, item_line, reach_line, start_line, end_line, cert_lines}
 use Rattle.fond_cert.specs.Words.{line_refusal}
-use Rattle.fond_cert.proofs.Leads.{lead_more, few}
+use Rattle.fond_cert.proofs.Leads.{few}
 use Rattle.fond_cert.proofs.Meanings.{line_good}
 use Rattle.fond_cert.proofs.Printed.{pairs_of, rules_of, items_of}
 
--- the place of a kind of lines in a certificate
-abbrev pub rank : LineKind → ℕ
-rank k.PolicyHeader = 0
-rank k.CoverHeader = 1
-rank k.RefusalHeader = 2
-rank k.Layer = 3
-rank k.Cube = 4
-rank k.Pair = 5
-rank k.FairRule = 6
-rank k.UnfairRule = 6
-rank k.GoalItem = 7
-rank k.RuleItem = 7
-rank k.Reach = 8
-rank k.Start = 9
-rank k.End = 10
+-- the rank of the first line
+abbrev pub first_rank : List Line → ℕ
+first_rank [] = 11
+first_rank (line ∷ lines) = rank line.kind
+
+-- lines with others after them begin with a line above a rank if both do
+pub above_all : {X : Type 0} (f : X → Line) (least : ℕ) → ((x : X) → least < rank (f x).kind) → (xs : List X) (rest : List Line) → least < first_rank rest → least < first_rank (map f xs ++ rest)
+above_all f least after [] rest above = above
+above_all f least after (x ∷ xs) rest above = after x
 
 -- a line of a kind is allowed where one thing is due, and another is due after it
 abbrev Allows : Due → Due → LineKind → Type 0
 Allows due next kind = due_after due kind ≡ Some next
 
--- at this place the lines that may follow the layers of a certificate are allowed
-abbrev EndsLayers : Kind → Due → Type 0
-EndsLayers cert due = (kind : LineKind) → 4 < rank kind → due_after due kind ≡ after_layers cert kind
-
-layers_end : (cert : Kind) → EndsLayers cert (LayersDue cert)
-layers_end cert k.Layer h = absurd (omega (arith, h))
-layers_end cert kind h = refl
-
-cubes_end : (cert : Kind) (layers cubes : ℕ) → EndsLayers cert (CubesDue cert layers cubes)
-cubes_end cert layers cubes k.Layer h = absurd (omega (arith, h))
-cubes_end cert layers cubes k.Cube h = absurd (omega (arith, h))
-cubes_end cert layers cubes kind h = refl
-
--- at this place the lines that may follow the rules of a policy are allowed
-abbrev EndsRules : Evidence → Due → Type 0
-EndsRules evidence due = (kind : LineKind) → 6 < rank kind → due_after due kind ≡ after_rules evidence kind
-
-rules_end : (evidence : Evidence) (rules : ℕ) → EndsRules evidence (RulesDue evidence rules)
-rules_end evidence rules k.FairRule h = absurd (omega (arith, h))
-rules_end evidence rules k.UnfairRule h = absurd (omega (arith, h))
-rules_end evidence rules kind h = refl
-
-pairs_end : (evidence : Evidence) (kind : LineKind) → 6 < rank kind → after_pairs evidence kind ≡ after_rules evidence kind
-pairs_end evidence k.Pair h = absurd (omega (arith, h))
-pairs_end evidence k.FairRule h = absurd (omega (arith, h))
-pairs_end evidence k.UnfairRule h = absurd (omega (arith, h))
-pairs_end evidence kind h = refl
+-- a line of a group of another order is not in a group
+not_in : (group : Group) (kind : LineKind) → order group ≢ line_order kind → is_in group kind ≡ false
+not_in g.Layer k.Layer apart = absurd (apart refl)
+not_in g.Cube k.Cube apart = absurd (apart refl)
+not_in g.Pair k.Pair apart = absurd (apart refl)
+not_in g.Rule k.FairRule apart = absurd (apart refl)
+not_in g.Rule k.UnfairRule apart = absurd (apart refl)
+not_in g.Item k.GoalItem apart = absurd (apart refl)
+not_in g.Item k.RuleItem apart = absurd (apart refl)
+not_in g.Reach k.Reach apart = absurd (apart refl)
+not_in g.Start k.Start apart = absurd (apart refl)
+not_in group kind apart = refl
 
 module _ (task : Task) where
   -- a line is proper and not refused
@@ -161,119 +148,107 @@ module _ (task : Task) where
   good_lead : (due next end : Due) (line : Line) (lines : List Line) → IsGood line → Allows due next line.kind → Lead task next lines end → Lead task due (line ∷ lines) end
   good_lead due next end line lines good allowed lead = (good.0, good.1, (next, allowed, lead))
 
-  -- lines of one part of a certificate, after each of which its number in the part is due; there are fewer than a bound
-  module _ {X : Type 0} (Fits : X → Type 0) (f : X → Line) (good : (x : X) → Fits x → IsGood (f x)) (dues : ℕ → Due) (bound : ℕ)
-      (next : (x : X) (count : ℕ) → count + 1 < bound → Allows (dues count) (dues (count + 1)) (f x).kind) where
-    more_lead : (count : ℕ) (xs : List X) → count + length xs < bound → Each Fits xs → Lead task (dues count) (map f xs) (dues (count + length xs))
-    more_lead count [] room h = ap dues (omega arith)
-    more_lead count (x ∷ xs) room h =
-        let long : count + 1 + length xs ≡ count + length (x ∷ xs) = omega arith in
-        good_lead (dues count) (dues (count + 1)) (dues (count + length (x ∷ xs))) (f x) (map f xs) (good x (All-head Fits x xs h)) (next x count (omega (arith, room)))
-        (rw (sym long) (more_lead (count + 1) xs (omega (arith, room)) (All-tail Fits x xs h)))
+  -- the lines of a section lead to the end if those after them do, which begin with a line of a later section
+  module _ (cert : Kind) (at : ℕ) (section : Section) (later : List Section) (there : drop at (sections cert) ≡ section ∷ later) (known : IsKnown cert section) where
+    not_taken : (section : Section) (lines inner : ℕ) (kind : LineKind) → IsKnown cert section → order_of section < line_order kind → after_in section cert at lines inner kind ≡ None
+    not_taken (OneOf group) lines inner kind known after = rw (not_in group kind (λ same. omega (arith, after, same))) refl
+    not_taken (Any group) lines inner kind known after = rw (not_in group kind (λ same. omega (arith, after, same))) refl
+    not_taken (Few group) lines inner kind known after = rw (not_in group kind (λ same. omega (arith, after, same))) refl
+    not_taken (Blocks g.Layer g.Cube) lines inner kind known after = rw (not_in g.Layer kind (λ same. omega (arith, after, same)), not_in g.Cube kind (λ same. omega (arith, after, same))) refl
+    not_taken (Blocks first second) lines inner kind known after = absurd known
 
-    -- lines of a part, if there are any, lead to a place of which this holds
-    all_lead : (P : Due → Type 0) (due : Due) (xs : List X) → P due → ((count : ℕ) → P (dues count)) → ((x : X) → Allows due (dues 1) (f x).kind) → length xs < bound → Each Fits xs →
-        (end : Due) × P end × Lead task due (map f xs) end
-    all_lead P due [] here there first room h = (due, here, refl)
-    all_lead P due (x ∷ xs) here there first room h = (
-      dues (1 + length xs),
-      there (1 + length xs),
-      good_lead due (dues 1) (dues (1 + length xs)) (f x) (map f xs) (good x (All-head Fits x xs h)) (first x) (more_lead 1 xs (omega (arith, room)) (All-tail Fits x xs h)),
-    )
+    skip : (lines inner : ℕ) (rest : List Line) → may_end section lines ≡ true → order_of section + 1 < first_rank rest → Lead task (SectionDue cert (at + 1) 0 0) rest NothingDue → Lead task (SectionDue cert at lines inner) rest NothingDue
+    skip lines inner [] ends above lead = absurd (cc)
+    skip lines inner (line ∷ rest) ends above lead =
+        let tail : drop (at + 1) (sections cert) ≡ later = sym (drop-drop 1 at (sections cert)) ∙ ap (drop 1) there in
+        let same : due_after (SectionDue cert at lines inner) line.kind ≡ due_after (SectionDue cert (at + 1) 0 0) line.kind = rw (there, tail, not_taken section lines inner line.kind known (omega (arith, above)), ends) refl in
+        (lead.0, lead.1, (lead.2.0, same ∙ lead.2.1, lead.2.2))
+
+    takes : (lines inner : ℕ) (next : Due) (line : Line) (rest : List Line) → IsGood line → after_in section cert at lines inner line.kind ≡ Some next → Lead task next rest NothingDue → Lead task (SectionDue cert at lines inner) (line ∷ rest) NothingDue
+    takes lines inner next line rest good allowed lead = good_lead (SectionDue cert at lines inner) next NothingDue line rest good (rw (there, allowed) refl) lead
+
+    -- lines after each of which this many are counted; there are fewer than a bound
+    module _ {X : Type 0} (Fits : X → Type 0) (f : X → Line) (good : (x : X) → Fits x → IsGood (f x)) (counts : ℕ → ℕ) (bound : ℕ) (ends : (lines : ℕ) → may_end section lines ≡ true)
+        (next : (x : X) (count : ℕ) → count + 1 < bound → after_in section cert at (counts count) 0 (f x).kind ≡ Some (SectionDue cert at (counts (count + 1)) 0)) where
+      lines_lead : (count : ℕ) (xs : List X) (rest : List Line) → count + length xs < bound → Each Fits xs → order_of section + 1 < first_rank rest → Lead task (SectionDue cert (at + 1) 0 0) rest NothingDue →
+          Lead task (SectionDue cert at (counts count) 0) (map f xs ++ rest) NothingDue
+      lines_lead count [] rest room h above lead = skip (counts count) 0 rest (ends (counts count)) above lead
+      lines_lead count (x ∷ xs) rest room h above lead =
+          takes (counts count) 0 (SectionDue cert at (counts (count + 1)) 0) (f x) (map f xs ++ rest) (good x (All-head Fits x xs h)) (next x count (omega (arith, room)))
+          (lines_lead (count + 1) xs rest (omega (arith, room)) (All-tail Fits x xs h) above lead)
 
   abbrev IsCubeOf : CubeView → Type 0
   IsCubeOf cube = length cube ≡ length task.atoms
-
-  -- layers lead to what may follow them
-  abbrev LeadLayers : Kind → Due → List (List CubeView) → Type 0
-  LeadLayers cert due layers = (count : ℕ) × (cubes : ℕ) × Lead task due (flat_map (layer_lines task) layers) (CubesDue cert count cubes)
 
   -- a layer is over the atoms of the task, and has fewer than 2^32 cubes
   abbrev IsLayerOf : List CubeView → Type 0
   IsLayerOf layer = (length layer < 2 ^ 32) × Each IsCubeOf layer
 
-  layer_lead : (cert : Kind) (due : Due) (count : ℕ) (layer : List CubeView) (layers : List (List CubeView)) → Allows due (CubesDue cert count 0) k.Layer → IsLayerOf layer →
-      LeadLayers cert (CubesDue cert count (0 + length layer)) layers → LeadLayers cert due (layer ∷ layers)
-  layer_lead cert due count layer layers allowed h more =
-      let cubes = more_lead IsCubeOf (cube_line task) (λ cube long. line_good task k.Cube (cube, tt) (long, tt)) (CubesDue cert count) (2 ^ 32) (λ cube cubes room. few (cubes + 1) (CubesDue cert count (cubes + 1)) room) 0 layer (omega (arith, h.0)) h.1 in (
-        more.0,
-        more.1,
-        good_lead due (CubesDue cert count 0) (CubesDue cert more.0 more.1) (spelled_line task k.Layer (tt, tt)) (map (cube_line task) layer ++ flat_map (layer_lines task) layers) (line_good task k.Layer (tt, tt) (tt, tt)) allowed
-            (lead_more task (map (cube_line task) layer) (flat_map (layer_lines task) layers) (CubesDue cert count 0) (CubesDue cert count (0 + length layer)) (CubesDue cert more.0 more.1) cubes more.2),
-      )
+  module _ (cert : Kind) (later : List Section) (there : sections cert ≡ Blocks g.Layer g.Cube ∷ later) where
+    cubes_lead : (count inner : ℕ) (cubes : List CubeView) (rest : List Line) → inner + length cubes < 2 ^ 32 → Each IsCubeOf cubes → ((inner : ℕ) → Lead task (SectionDue cert 0 (count + 1) inner) rest NothingDue) →
+        Lead task (SectionDue cert 0 (count + 1) inner) (map (cube_line task) cubes ++ rest) NothingDue
+    cubes_lead count inner [] rest room h lead = lead inner
+    cubes_lead count inner (cube ∷ cubes) rest room h lead =
+        let some : nat_lt 0 (count + 1) ≡ true = grind (arith, nat_tests) in
+        takes cert 0 (Blocks g.Layer g.Cube) later there tt (count + 1) inner (SectionDue cert 0 (count + 1) (inner + 1)) (cube_line task cube) (map (cube_line task) cubes ++ rest) (line_good task k.Cube (cube, tt) (All-head IsCubeOf cube cubes h, tt))
+        (rw some (few (inner + 1) (SectionDue cert 0 (count + 1) (inner + 1)) (omega (arith, room)))) (cubes_lead count (inner + 1) cubes rest (omega (arith, room)) (All-tail IsCubeOf cube cubes h) lead)
 
-  more_layers : (cert : Kind) (count cubes : ℕ) (layers : List (List CubeView)) → count + length layers < 2 ^ 32 → Each IsLayerOf layers → LeadLayers cert (CubesDue cert count cubes) layers
-  more_layers cert count cubes [] room h = (count, cubes, refl)
-  more_layers cert count cubes (layer ∷ layers) room h =
-      layer_lead cert (CubesDue cert count cubes) (count + 1) layer layers (few (count + 1) (CubesDue cert (count + 1) 0) (omega (arith, room))) (All-head IsLayerOf layer layers h)
-      (more_layers cert (count + 1) (0 + length layer) layers (omega (arith, room)) (All-tail IsLayerOf layer layers h))
+    layers_lead : (count inner : ℕ) (layers : List (List CubeView)) (rest : List Line) → count + length layers < 2 ^ 32 → Each IsLayerOf layers → 1 < first_rank rest → Lead task (SectionDue cert 1 0 0) rest NothingDue →
+        Lead task (SectionDue cert 0 count inner) (flat_map (layer_lines task) layers ++ rest) NothingDue
+    layers_lead count inner [] rest room h above lead = skip cert 0 (Blocks g.Layer g.Cube) later there tt count inner rest refl above lead
+    layers_lead count inner (layer ∷ layers) rest room h above lead =
+        let one = All-head IsLayerOf layer layers h in
+        rw (append_assoc (map (cube_line task) layer) (flat_map (layer_lines task) layers) rest)
+        (takes cert 0 (Blocks g.Layer g.Cube) later there tt count inner (SectionDue cert 0 (count + 1) 0) (spelled_line task k.Layer (tt, tt)) (map (cube_line task) layer ++ (flat_map (layer_lines task) layers ++ rest))
+        (line_good task k.Layer (tt, tt) (tt, tt)) (few (count + 1) (SectionDue cert 0 (count + 1) 0) (omega (arith, room)))
+        (cubes_lead count 0 layer (flat_map (layer_lines task) layers ++ rest) (omega (arith, one.0)) one.1
+        (λ inner. layers_lead (count + 1) inner layers rest (omega (arith, room)) (All-tail IsLayerOf layer layers h) above lead)))
 
-  layers_by : (cert : Kind) (layers : List (List CubeView)) → length layers < 2 ^ 32 → Each IsLayerOf layers → (end : Due) × EndsLayers cert end × Lead task (LayersDue cert) (flat_map (layer_lines task) layers) end
-  layers_by cert [] room h = (LayersDue cert, layers_end cert, refl)
-  layers_by cert (layer ∷ layers) room h =
-      let lead = layer_lead cert (LayersDue cert) 1 layer layers refl (All-head IsLayerOf layer layers h) (more_layers cert 1 (0 + length layer) layers (omega (arith, room)) (All-tail IsLayerOf layer layers h)) in
-      (CubesDue cert lead.0 lead.1, cubes_end cert lead.0 lead.1, lead.2)
+    layers_first : (layers : List (List CubeView)) (rest : List Line) → BelongAsLayers task layers → 1 < first_rank rest → Lead task (SectionDue cert 1 0 0) rest NothingDue → Lead task (SectionDue cert 0 0 0) (flat_map (layer_lines task) layers ++ rest) NothingDue
+    layers_first layers rest h above lead = layers_lead 0 0 layers rest (omega (arith, h.few)) (λ k d lt. (h.few_cubes k d lt, h.over k d lt)) above lead
 
-  layers_lead : (cert : Kind) (layers : List (List CubeView)) → BelongAsLayers task layers → (end : Due) × EndsLayers cert end × Lead task (LayersDue cert) (flat_map (layer_lines task) layers) end
-  layers_lead cert layers h = layers_by cert layers h.few (λ k d lt. (h.few_cubes k d lt, h.over k d lt))
-
-  pairs_lead : (evidence : Evidence) (due : Due) (pairs : List Pair) → EndsLayers (OfPolicy evidence) due → Each IsGoodPair pairs → (end : Due) × EndsLayers (OfPolicy evidence) end × Lead task due (map (pair_line task) pairs) end
-  pairs_lead evidence due pairs ends h =
-      all_lead IsGoodPair (pair_line task) pair_good (λ count. PairsDue evidence) (length pairs + 1) (λ pair count room. refl) (EndsLayers (OfPolicy evidence)) due pairs ends (λ count kind after. refl)
-      (λ pair. ends k.Pair (omega arith)) (omega arith) h
-
-  rules_lead : (evidence : Evidence) (due : Due) (rules : List Rule) → EndsLayers (OfPolicy evidence) due → length rules < 2 ^ 32 → Each IsGoodRule rules → (end : Due) × EndsRules evidence end × Lead task due (map (rule_line task) rules) end
-  rules_lead evidence due rules ends room h =
-      all_lead IsGoodRule (rule_line task) rule_good (RulesDue evidence) (2 ^ 32)
-      (λ rule count more. let one = few (count + 1) (RulesDue evidence (count + 1)) more in rule_kind (Allows (RulesDue evidence count) (RulesDue evidence (count + 1))) one one rule)
-      (EndsRules evidence) due rules (λ kind after. ends kind (omega (arith, after)) ∙ pairs_end evidence kind after) (rules_end evidence)
-      (rule_kind (Allows due (RulesDue evidence 1)) (ends k.FairRule (omega arith)) (ends k.UnfairRule (omega arith))) room h
-
-  items_lead : (due : Due) (items : List Item) → EndsRules ByCover due → length items < 2 ^ 32 → Each IsGoodItem items → (end : Due) × Allows end EndDue k.Start × Lead task due (map (item_line task) items) end
-  items_lead due items ends room h =
-      all_lead IsGoodItem (item_line task) item_good ItemsDue (2 ^ 32)
-      (λ item count more. let one = few (count + 1) (ItemsDue (count + 1)) more in item_kind (Allows (ItemsDue count) (ItemsDue (count + 1))) one one item)
-      (λ end. Allows end EndDue k.Start) due items (ends k.Start (omega arith)) (λ count. refl) (item_kind (Allows due (ItemsDue 1)) (ends k.GoalItem (omega arith)) (ends k.RuleItem (omega arith))) room h
+    -- the lines of layers, pairs and rules lead to the end if those after them do
+    plan_lead : (layers : List (List CubeView)) (pairs : List Pair) (rules : List Rule) (rest : List Line) (last : List Section) → later ≡ Any g.Pair ∷ Few g.Rule ∷ last → BelongAsLayers task layers → Each IsGoodPair pairs →
+        length rules < 2 ^ 32 → Each IsGoodRule rules → 3 < first_rank rest → Lead task (SectionDue cert 3 0 0) rest NothingDue →
+        Lead task (SectionDue cert 0 0 0) (flat_map (layer_lines task) layers ++ (map (pair_line task) pairs ++ (map (rule_line task) rules ++ rest))) NothingDue
+    plan_lead layers pairs rules rest last is in_layers in_pairs room in_rules above lead =
+        let of_rules =
+        lines_lead cert 2 (Few g.Rule) last (ap (drop 2) there ∙ ap (drop 1) is) tt IsGoodRule (rule_line task) rule_good (λ count. count) (2 ^ 32) (λ lines. refl)
+        (λ rule count more. let one = few (count + 1) (SectionDue cert 2 (count + 1) 0) more in rule_kind (λ kind. after_in (Few g.Rule) cert 2 count 0 kind ≡ Some (SectionDue cert 2 (count + 1) 0)) one one rule) 0 rules rest (omega (arith, room)) in_rules above lead
+        in
+        let after_pairs = above_all (rule_line task) 2 (rule_kind (λ kind. 2 < rank kind) (omega arith) (omega arith)) rules rest (omega (arith, above)) in
+        let of_pairs =
+        lines_lead cert 1 (Any g.Pair) (Few g.Rule ∷ last) (ap (drop 1) there ∙ is) tt IsGoodPair (pair_line task) pair_good (λ count. 0) (length pairs + 1) (λ lines. refl) (λ pair count more. refl) 0 pairs (map (rule_line task) rules ++ rest)
+        (omega arith) in_pairs after_pairs of_rules
+        in
+        layers_first layers (map (pair_line task) pairs ++ (map (rule_line task) rules ++ rest)) in_layers (above_all (pair_line task) 1 (λ pair. omega arith) pairs (map (rule_line task) rules ++ rest) (omega (arith, after_pairs))) of_pairs
 
   end_lead : (due : Due) → Allows due NothingDue k.End → Lead task due (end_line task ∷ []) NothingDue
   end_lead due allowed = good_lead due NothingDue NothingDue (end_line task) [] (line_good task k.End (tt, tt) (tt, tt)) allowed refl
 
-  -- the lines of layers, pairs and rules lead from the header to the end, if others do that may follow the rules
-  plan_lead : (evidence : Evidence) (layers : List (List CubeView)) (pairs : List Pair) (rules : List Rule) (last : List Line) → BelongAsLayers task layers → Each IsGoodPair pairs →
-      length rules < 2 ^ 32 → Each IsGoodRule rules → ((due : Due) → EndsRules evidence due → Lead task due last NothingDue) →
-      Lead task (LayersDue (OfPolicy evidence)) (flat_map (layer_lines task) layers ++ (map (pair_line task) pairs ++ (map (rule_line task) rules ++ last))) NothingDue
-  plan_lead evidence layers pairs rules last in_layers in_pairs room in_rules ends =
-      let of_layers = layers_lead (OfPolicy evidence) layers in_layers in
-      let of_pairs = pairs_lead evidence of_layers.0 pairs of_layers.1 in_pairs in
-      let of_rules = rules_lead evidence of_pairs.0 rules of_pairs.1 room in_rules in
-      let plan = lead_more task (map (rule_line task) rules) last of_pairs.0 of_rules.0 NothingDue of_rules.2 (ends of_rules.0 of_rules.1) in
-      let rest = lead_more task (map (pair_line task) pairs) (map (rule_line task) rules ++ last) of_layers.0 of_pairs.0 NothingDue of_pairs.2 plan in
-      lead_more task (flat_map (layer_lines task) layers) (map (pair_line task) pairs ++ (map (rule_line task) rules ++ last)) (LayersDue (OfPolicy evidence)) of_layers.0 NothingDue of_layers.2 rest
+  last_lead : (cert : Kind) (at : ℕ) (line : Line) → IsGood line → Allows (SectionDue cert at 0 0) (SectionDue cert at 1 0) line.kind → Allows (SectionDue cert at 1 0) NothingDue k.End →
+      Lead task (SectionDue cert at 0 0) (line ∷ end_line task ∷ []) NothingDue
+  last_lead cert at line good allowed ends = good_lead (SectionDue cert at 0 0) (SectionDue cert at 1 0) NothingDue line (end_line task ∷ []) good allowed (end_lead (SectionDue cert at 1 0) ends)
 
-  reach_leads : (reach : ℕ) → reach < 2 ^ 64 → (due : Due) → EndsRules ByReach due → Lead task due (reach_line task reach ∷ end_line task ∷ []) NothingDue
-  reach_leads reach small due ends = good_lead due EndDue NothingDue (reach_line task reach) (end_line task ∷ []) (line_good task k.Reach (reach, tt) (small, tt)) (ends k.Reach (omega arith)) (end_lead EndDue refl)
-
-  cover_leads : (items : List Item) (start : ℕ) → length items < 2 ^ 32 → Each IsGoodItem items → start < 2 ^ 32 → (due : Due) → EndsRules ByCover due →
-      Lead task due (map (item_line task) items ++ (start_line task start ∷ end_line task ∷ [])) NothingDue
-  cover_leads items start room in_items small due ends =
-      let of_items = items_lead due items ends room in_items in
-      lead_more task (map (item_line task) items) (start_line task start ∷ end_line task ∷ []) due of_items.0 NothingDue of_items.2
-      (good_lead of_items.0 EndDue NothingDue (start_line task start) (end_line task ∷ []) (line_good task k.Start (start, tt) (small, tt)) of_items.1 (end_lead EndDue refl))
-
-  header_lead : (kind : LineKind) (meanings : Meanings (form kind)) (cert : Kind) (lines : List Line) → AreOfTask task (form kind) meanings → Allows HeaderDue (LayersDue cert) kind →
-      Lead task (LayersDue cert) lines NothingDue → Lead task HeaderDue (spelled_line task kind meanings ∷ lines) NothingDue
-  header_lead kind meanings cert lines of allowed lead = good_lead HeaderDue (LayersDue cert) NothingDue (spelled_line task kind meanings) lines (line_good task kind meanings of) allowed lead
+  header_lead : (kind : LineKind) (meanings : Meanings (form kind)) (cert : Kind) (lines : List Line) → AreOfTask task (form kind) meanings → Allows HeaderDue (SectionDue cert 0 0 0) kind →
+      Lead task (SectionDue cert 0 0 0) lines NothingDue → Lead task HeaderDue (spelled_line task kind meanings ∷ lines) NothingDue
+  header_lead kind meanings cert lines of allowed lead = good_lead HeaderDue (SectionDue cert 0 0 0) NothingDue (spelled_line task kind meanings) lines (line_good task kind meanings of) allowed lead
 
   -- the lines of a certificate lead from the header to the end
   pub cert_leads : (cert : Cert) → Belongs task cert → HasSmallNumbers cert → Lead task HeaderDue (cert_lines task cert) NothingDue
   cert_leads (Policy layers pairs rules reach) h small =
+      let last = last_lead (OfPolicy ByReach) 3 (reach_line task reach) (line_good task k.Reach (reach, tt) (small.2, tt)) refl refl in
       header_lead k.PolicyHeader (tt, tt) (OfPolicy ByReach) _ (tt, tt) refl
-      (plan_lead ByReach layers pairs rules (reach_line task reach ∷ end_line task ∷ []) h.0 (good_pairs pairs h.1 small.0) h.2.few (good_rules rules h.2 small.1) (reach_leads reach small.2))
+      (plan_lead (OfPolicy ByReach) _ refl layers pairs rules (reach_line task reach ∷ end_line task ∷ []) _ refl h.0 (good_pairs pairs h.1 small.0) h.2.few (good_rules rules h.2 small.1) (omega arith) last)
   cert_leads (Refusal layers) h small =
-      let of_layers = layers_lead OfRefusal layers h in
-      header_lead k.RefusalHeader (tt, tt) OfRefusal _ (tt, tt) refl
-      (lead_more task (flat_map (layer_lines task) layers) (end_line task ∷ []) (LayersDue OfRefusal) of_layers.0 NothingDue of_layers.2 (end_lead of_layers.0 (of_layers.1 k.End (omega arith))))
+      header_lead k.RefusalHeader (tt, tt) OfRefusal _ (tt, tt) refl (layers_first OfRefusal _ refl layers (end_line task ∷ []) h (omega arith) (end_lead (SectionDue OfRefusal 1 0 0) refl))
   cert_leads (Covered layers pairs rules items start) h small =
+      let last = last_lead (OfPolicy ByCover) 4 (start_line task start) (line_good task k.Start (start, tt) (small.3, tt)) refl refl in
+      let of_items =
+      lines_lead (OfPolicy ByCover) 3 (Few g.Item) (OneOf g.Start ∷ []) refl tt IsGoodItem (item_line task) item_good (λ count. count) (2 ^ 32) (λ lines. refl)
+      (λ item count more. let one = few (count + 1) (SectionDue (OfPolicy ByCover) 3 (count + 1) 0) more in item_kind (λ kind. after_in (Few g.Item) (OfPolicy ByCover) 3 count 0 kind ≡ Some (SectionDue (OfPolicy ByCover) 3 (count + 1) 0)) one one item)
+      0 items (start_line task start ∷ end_line task ∷ []) (omega (arith, h.3.few)) (good_items items h.3 small.2) (omega arith) last
+      in
       header_lead k.CoverHeader (tt, tt) (OfPolicy ByCover) _ (tt, tt) refl
-      (plan_lead ByCover layers pairs rules (map (item_line task) items ++ (start_line task start ∷ end_line task ∷ [])) h.0 (good_pairs pairs h.1 small.0) h.2.few (good_rules rules h.2 small.1)
-      (cover_leads items start h.3.few (good_items items h.3 small.2) small.3))
+      (plan_lead (OfPolicy ByCover) _ refl layers pairs rules (map (item_line task) items ++ (start_line task start ∷ end_line task ∷ [])) _ refl h.0 (good_pairs pairs h.1 small.0) h.2.few (good_rules rules h.2 small.1)
+      (above_all (item_line task) 3 (item_kind (λ kind. 3 < rank kind) (omega arith) (omega arith)) items (start_line task start ∷ end_line task ∷ []) (omega arith)) of_items)

@@ -1,5 +1,5 @@
 -- Texts that were read line by line.
-use Rattle.std.proofs.Common.{◌≡◌, ◌≢◌, inl, inr, ℕ, ◌+◌, ◌-◌, ◌≤◌, ◌<◌, ◌^◌, List, [], ◌∷◌, ◌++◌, All, Option, Some, None, length, map, codes, refl, sym, ap, ◌∙◌, subst, arith, length-append}
+use Rattle.std.proofs.Common.{◌≡◌, ◌≢◌, inl, inr, ℕ, ◌+◌, ◌-◌, ◌≤◌, ◌<◌, ◌^◌, List, [], ◌∷◌, ◌++◌, All, Option, Some, None, length, map, codes, refl, sym, ap, ◌∙◌, subst, arith, length-append, append_assoc}
 use Rattle.std.specs.List.{flat_map}
 use Rattle.std.specs.Prelude.{IfSome, slice_get}
 use Rattle.std.proofs.lemmas.List.{append-nil}
@@ -20,12 +20,13 @@ use Rattle.fond_policy.specs.declared.cert.Cert.{Cert}
 use Rattle.fond_policy.specs.declared.cert.Cert.TheVariants.{Policy, Refusal, Covered}
 use Rattle.fond_policy.specs.Belongs.{Belongs, BelongAsLayers, BelongAsPairs, BelongAsRules, BelongAsItems}
 use Rattle.fond_cert.specs.Made.{IsRefusedBy}
-use Rattle.fond_cert.specs.Drafts.{all_layers, draft_lines, opened, last_lines, IsDraftOf, header, HasLayersAlone, IsWholeOf, FitsDue}
+use Rattle.fond_cert.specs.Drafts.{no_parts, all_layers, draft_lines, opened, last_lines, IsDraftOf, header, HasLayersAlone, IsWholeOf, FitsDue}
 use Rattle.fond_cert.specs.declared.due.Evidence.TheVariants.{Reach as ByReach, Cover as ByCover}
 use Rattle.fond_cert.specs.declared.due.Kind.{Kind}
 use Rattle.fond_cert.specs.declared.due.Kind.TheVariants.{Policy as OfPolicy, Refusal as OfRefusal}
 use Rattle.fond_cert.specs.declared.due.Due.TheVariants.{Header as HeaderDue, Nothing as NothingDue}
-use Rattle.fond_cert.specs.Faults.{due_after, HasNoForm, Lead, IsRefusedLine, IsRefusedAt, IsCertFault}
+use Rattle.fond_cert.specs.Sections.{due_after}
+use Rattle.fond_cert.specs.Faults.{HasNoForm, Lead, IsRefusedLine, IsRefusedAt, IsCertFault}
 use Rattle.fond_form.specs.Feeds.{HasNoFeed}
 use Rattle.fond_cert.specs.Items.{IsReadPair, IsReadRule, IsReadItem}
 use Rattle.fond_cert.specs.Progress.{IsReady, IsTaken, IsWhole, cert_by, cert_of, IsPlaced}
@@ -35,7 +36,7 @@ use Rattle.fond_policy.specs.Sizes.{HasSmallNumbers}
 use Rattle.fond_cert.specs.Words.{Refused}
 use Rattle.fond_cert.proofs.Leads.{lead_more, lines_append, text_more, nothing_allowed}
 use Rattle.fond_cert.proofs.Refusals.{refusal_within}
-use Rattle.fond_cert.proofs.Steps.{step, grow5}
+use Rattle.fond_cert.proofs.Steps.{step}
 use Rattle.fond_form.proofs.Apart.{same_kind}
 
 -- the lines before a rest, and the draft that they make
@@ -48,7 +49,7 @@ pub record IsReadTo (task : Task) (text rest : List ℕ) (due : Due) (draft : Dr
   pub fits : FitsDue task due draft own
   pub belongs : IsDraftOf task draft
 
-pub nothing_read : (task : Task) (text : List ℕ) (draft : Draft) → draft ≡ record { layers = []; current = None; pairs = []; rules = []; items = []; reach = None; start = None } → IsReadTo task text text HeaderDue draft
+pub nothing_read : (task : Task) (text : List ℕ) (draft : Draft) → draft ≡ no_parts → IsReadTo task text text HeaderDue draft
 nothing_read task text draft e = record {
   lines = [];
   own = [];
@@ -191,8 +192,7 @@ module _ (task : Task) (text : List ℕ) (draft : Draft) (belongs : IsDraftOf ta
   ended : (reach start : Option ℕ) → draft.reach ≡ reach → draft.start ≡ start → draft_lines task draft ++ (end_line task ∷ [])
       ≡ layers_text ++ (map (pair_line task) draft.pairs ++ (map (rule_line task) draft.rules ++ (map (item_line task) draft.items ++ (last_lines task reach start ++ (end_line task ∷ [])))))
   ended reach start e f =
-      rw (e, f, layers_are)
-      (sym (grow5 layers_text (map (pair_line task) draft.pairs) (map (rule_line task) draft.rules) (map (item_line task) draft.items) (last_lines task reach start) (end_line task ∷ [])))
+      rw (e, f, layers_are) (simp append_assoc)
 
   refusal_lines : HasLayersAlone draft → draft_lines task draft ++ (end_line task ∷ []) ≡ layers_text ++ (end_line task ∷ [])
   refusal_lines h = rw (h.0, h.1, h.2.0, h.2.1.0, h.2.1.1, layers_are) (ap (λ t. t ++ (end_line task ∷ [])) (append-nil layers_text))

@@ -1,7 +1,7 @@
 -- Certificates that were read in part.
-use Rattle.std.specs.Prelude.{◌≡◌, ℕ, ◌+◌, ◌-◌, ◌<◌, ◌^◌, ⊤, List, [], ◌∷◌, ◌++◌, All, Option, Some, None, IfSome, length, map}
+use Rattle.std.specs.Prelude.{◌≡◌, ℕ, ◌-◌, ◌<◌, ◌^◌, nat_eq, Bool, false, ◌||◌, ⊤, List, [], ◌∷◌, ◌++◌, All, Option, Some, None, IfSome, length, map, drop}
 use Rattle.std.specs.List.{flat_map}
-use Rattle.std.specs.Option.{option_map}
+use Rattle.std.specs.Option.{option_map, option_map_or}
 use Rattle.fond_task.specs.declared.task.Task.{Task}
 use Rattle.fond_game.specs.declared.rule.Pair.{Pair as OnePair}
 use Rattle.fond_game.specs.declared.rule.Rule.{Rule}
@@ -13,12 +13,16 @@ use Rattle.fond_form.specs.declared.table.LineKind.TheVariants as k
 use Rattle.fond_form.specs.Forms.{form, Line}
 use Rattle.fond_policy.specs.Belongs.{BelongAsLayers}
 use Rattle.fond_cert.specs.Made.{IsMade}
-use Rattle.fond_cert.specs.declared.due.Evidence.{Evidence}
 use Rattle.fond_cert.specs.declared.due.Evidence.TheVariants.{Reach as ByReach, Cover as ByCover}
 use Rattle.fond_cert.specs.declared.due.Kind.{Kind}
 use Rattle.fond_cert.specs.declared.due.Kind.TheVariants.{Policy as OfPolicy, Refusal as OfRefusal}
 use Rattle.fond_cert.specs.declared.due.Due.{Due}
-use Rattle.fond_cert.specs.declared.due.Due.TheVariants.{Header as HeaderDue, Layers as LayersDue, Cubes as CubesDue, Pairs as PairsDue, Rules as RulesDue, Items as ItemsDue, End as EndDue, Nothing as NothingDue}
+use Rattle.fond_cert.specs.declared.due.Due.TheVariants.{Header as HeaderDue, Section as SectionDue, Nothing as NothingDue}
+use Rattle.fond_cert.specs.declared.due.Group.{Group}
+use Rattle.fond_cert.specs.declared.due.Group.TheVariants as g
+use Rattle.fond_cert.specs.declared.due.Section.{Section}
+use Rattle.fond_cert.specs.declared.due.Section.TheVariants.{One, Any, Few, Blocks}
+use Rattle.fond_cert.specs.Sections.{sections}
 use Rattle.fond_cert.specs.Items.{IsReadPair, IsReadRule, IsReadItem}
 use Rattle.fond_cert.specs.Filled.{pair_of, fair_of, unfair_of, goal_item_of, rule_item_of}
 use Rattle.fond_cert.specs.Spellings.{Meanings, spelled_line, layer_lines, pair_line, rule_line, item_line, reach_line, start_line, end_line}
@@ -103,9 +107,9 @@ grown draft kind meanings = closed draft
 abbrev pub IsGrown : Task → LineKind → List ℕ → Draft → Draft → Type 0
 IsGrown task kind text before after = (meanings : Meanings (form kind)) × IsMade task kind text meanings × (after ≡ grown before kind meanings)
 
--- a draft has nothing in it
-abbrev pub IsEmpty : Draft → Type 0
-IsEmpty draft = draft ≡ record { layers = []; current = None; pairs = []; rules = []; items = []; reach = None; start = None }
+-- a draft without parts
+abbrev pub no_parts : Draft
+no_parts = record { layers = []; current = None; pairs = []; rules = []; items = []; reach = None; start = None }
 
 -- the header of a certificate
 abbrev pub header : Task → Kind → Line
@@ -131,19 +135,69 @@ IsWholeOf (OfPolicy ByReach) draft = (reach : ℕ) × (draft.reach ≡ Some reac
 IsWholeOf (OfPolicy ByCover) draft = (start : ℕ) × (draft.start ≡ Some start) × (draft.reach ≡ None)
 IsWholeOf OfRefusal draft = HasLayersAlone draft
 
--- a draft has these lines, and no part that may not precede what is due
+-- one if there is a number, else zero
+abbrev pub one_if : Option ℕ → ℕ
+one_if None = 0
+one_if (Some number) = 1
+
+-- how many lines of a group a draft has; cubes are counted in the layer that is being read
+abbrev pub count_of : Group → Draft → ℕ
+count_of g.Layer draft = length (all_layers draft)
+count_of g.Cube draft = option_map_or (λ (layer : List CubeView). length layer) draft.current 0
+count_of g.Pair draft = length draft.pairs
+count_of g.Rule draft = length draft.rules
+count_of g.Item draft = length draft.items
+count_of g.Reach draft = one_if draft.reach
+count_of g.Start draft = one_if draft.start
+
+-- the order in which groups come; cubes are parts of layers
+abbrev pub order : Group → ℕ
+order g.Layer = 0
+order g.Cube = 0
+order g.Pair = 1
+order g.Rule = 2
+order g.Item = 3
+order g.Reach = 4
+order g.Start = 5
+
+-- the order of a section: that of its group, or of the first
+abbrev pub order_of : Section → ℕ
+order_of (One group) = order group
+order_of (Any group) = order group
+order_of (Few group) = order group
+order_of (Blocks first second) = order first
+
+-- whether one of some sections has this order
+abbrev pub has_order : ℕ → List Section → Bool
+has_order n [] = false
+has_order n (section ∷ sections) = nat_eq (order_of section) n || has_order n sections
+
+-- a draft has no lines of groups that certificates of this kind do not have
+abbrev pub HasOnly : Kind → Draft → Type 0
+HasOnly kind draft = (group : Group) → has_order (order group) (sections kind) ≡ false → count_of group draft ≡ 0
+
+-- a draft has no lines of groups that come after a section
+abbrev pub HasNoneAfter : Section → Draft → Type 0
+HasNoneAfter section draft = (group : Group) → order_of section < order group → count_of group draft ≡ 0
+
+-- the counts of a section are those of a draft: of its lines, unless there may be any number; or of its blocks, all complete but the last,
+-- and of the inner lines of the last
+abbrev pub IsCounted : Section → Draft → ℕ → ℕ → Type 0
+IsCounted (One group) draft lines inner = count_of group draft ≡ lines
+IsCounted (Any group) draft lines inner = ⊤
+IsCounted (Few group) draft lines inner = count_of group draft ≡ lines
+IsCounted (Blocks first second) draft lines inner = (count_of first draft ≡ lines) × (count_of second draft ≡ inner) × (length draft.layers ≡ lines - 1)
+
+-- a draft has the counts of the first of some sections, and no lines after it
+abbrev pub HasReached : List Section → Draft → ℕ → ℕ → Type 0
+HasReached [] draft lines inner = ⊥
+HasReached (section ∷ later) draft lines inner = IsCounted section draft lines inner × HasNoneAfter section draft
+
+-- a draft has these lines, the counts of the section that is due, and no lines that may not precede what is due
 abbrev pub FitsDue : Task → Due → Draft → List Line → Type 0
-FitsDue task HeaderDue draft lines = IsEmpty draft × (lines ≡ [])
-FitsDue task (LayersDue kind) draft lines = IsEmpty draft × (lines ≡ header task kind ∷ [])
-FitsDue task (CubesDue kind layers cubes) draft lines =
-    (current : List CubeView) × (draft.current ≡ Some current) × (length current ≡ cubes) × (length draft.layers + 1 ≡ layers) × HasLayersAlone draft × (lines ≡ header task kind ∷ draft_lines task draft)
-FitsDue task (PairsDue evidence) draft lines =
-    (draft.current ≡ None) × (draft.rules ≡ []) × HasNoEvidence draft × (lines ≡ header task (OfPolicy evidence) ∷ draft_lines task draft)
-FitsDue task (RulesDue evidence rules) draft lines =
-    (draft.current ≡ None) × (length draft.rules ≡ rules) × HasNoEvidence draft × (lines ≡ header task (OfPolicy evidence) ∷ draft_lines task draft)
-FitsDue task (ItemsDue items) draft lines = (draft.current ≡ None) × (length draft.items ≡ items) × HasNoLast draft × (lines ≡ header task (OfPolicy ByCover) ∷ draft_lines task draft)
-FitsDue task EndDue draft lines =
-    (draft.current ≡ None) × ((evidence : Evidence) × IsWholeOf (OfPolicy evidence) draft × (lines ≡ header task (OfPolicy evidence) ∷ draft_lines task draft))
+FitsDue task HeaderDue draft lines = (draft ≡ no_parts) × (lines ≡ [])
+FitsDue task (SectionDue kind at count inner) draft lines =
+    (lines ≡ header task kind ∷ draft_lines task draft) × HasOnly kind draft × HasReached (drop at (sections kind)) draft count inner
 FitsDue task NothingDue draft lines =
     (draft.current ≡ None) × ((kind : Kind) × IsWholeOf kind draft × (lines ≡ header task kind ∷ (draft_lines task draft ++ end_line task ∷ [])))
 

@@ -1,6 +1,7 @@
 pub mod Words
 pub mod Spellings
 pub mod Filled
+pub mod Sections
 pub mod Faults
 pub mod Refusals
 pub mod Checked

@@ -13,7 +13,7 @@ use Rattle.fond_form.specs.declared.table.LineKind.{LineKind}
 use Rattle.fond_form.specs.Forms.{Line}
 use Rattle.fond_cert.specs.Drafts.{draft_lines, IsDraftOf, IsGrown, header, IsWholeOf, FitsDue}
 use Rattle.fond_cert.specs.declared.due.Kind.{Kind}
-use Rattle.fond_cert.specs.Faults.{due_after}
+use Rattle.fond_cert.specs.Sections.{due_after}
 use Rattle.fond_cert.specs.Spellings.{end_line, lines_text}
 
 -- a draft belongs to a task and fits what is due

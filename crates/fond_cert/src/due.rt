@@ -1,4 +1,7 @@
-//! What is due at a place of a certificate.
+//! What is due at a place of a certificate, and the sections of certificates as a table.
+
+ghost use Rattle.fond_cert.specs.Sections.{sections};
+ghost use Rattle.std.specs.Prelude.{◌≡◌};
 
 /// How a policy shows that it acts wherever it leads: by the number of states that it reaches, or by a cover of them.
 #[derive(Clone, Copy)]
@@ -14,16 +17,64 @@ pub enum Kind {
     Refusal,
 }
 
-/// What is due: the header; a layer, or what follows the layers; the same after this many layers, the last with this many
-/// cubes; what follows a pair; what follows this many rules; what follows this many items; the end line; or nothing more.
+/// Kinds of lines that may take each other's places.
+#[derive(Clone, Copy)]
+pub enum Group {
+    Layer,
+    Cube,
+    Pair,
+    Rule,
+    Item,
+    Reach,
+    Start,
+}
+
+/// Lines that belong together: one of a group; any number of them, or fewer than 2^32; or fewer than 2^32 blocks, each of which is a
+/// line of the first group and fewer than 2^32 lines of the second.
+#[derive(Clone, Copy)]
+pub enum Section {
+    One(Group),
+    Any(Group),
+    Few(Group),
+    Blocks(Group, Group),
+}
+
+/// What is due: the header; a line of the section at this position or of a later one, or the last line, after this many lines or
+/// blocks of the section, the last block with this many inner lines; or nothing more.
 #[derive(Clone, Copy)]
 pub enum Due {
     Header,
-    Layers { kind: Kind },
-    Cubes { kind: Kind, layers: u32, cubes: u32 },
-    Pairs { evidence: Evidence },
-    Rules { evidence: Evidence, rules: u32 },
-    Items { items: u32 },
-    End,
+    Section {
+        kind: Kind,
+        at: usize,
+        lines: u32,
+        inner: u32,
+    },
     Nothing,
+}
+
+/// The sections of a certificate, between its header and its last line.
+pub(crate) fn sections(kind: Kind) -> &'static [Section]
+    ensures { result.now ≡ sections kind }
+{
+    match kind {
+        Kind::Policy {
+            evidence: Evidence::Reach,
+        } => &[
+            Section::Blocks(Group::Layer, Group::Cube),
+            Section::Any(Group::Pair),
+            Section::Few(Group::Rule),
+            Section::One(Group::Reach),
+        ],
+        Kind::Policy {
+            evidence: Evidence::Cover,
+        } => &[
+            Section::Blocks(Group::Layer, Group::Cube),
+            Section::Any(Group::Pair),
+            Section::Few(Group::Rule),
+            Section::Few(Group::Item),
+            Section::One(Group::Start),
+        ],
+        Kind::Refusal => &[Section::Blocks(Group::Layer, Group::Cube)],
+    }
 }

@@ -1,11 +1,11 @@
-//! The lines that are allowed at a place of a certificate. Each call takes constant time, and no memory.
+//! The lines that are allowed at a place of a certificate. Each call takes time in the number of sections, and no memory.
 
-ghost use Rattle.fond_cert.specs.declared.due.Due.TheVariants.{Header as HeaderDue, Layers as LayersDue, Cubes as CubesDue, Rules as RulesDue, Items as ItemsDue, End as EndDue};
-ghost use Rattle.fond_cert.specs.Faults.{due_after, after_layers, after_pairs, after_rules};
+ghost use Rattle.fond_cert.specs.declared.due.Due.TheVariants.{Header as HeaderDue};
 ghost use Rattle.fond_cert.specs.Counts.{IsOneMore};
-ghost use Rattle.std.specs.Prelude.{◌≡◌, ◌+◌, ◌^◌, nat_lt, false, option_map, MatchOption};
+ghost use Rattle.fond_cert.specs.Sections.{sections, is_in, after_in, may_end, after_sections, due_after};
+ghost use Rattle.std.specs.Prelude.{◌≡◌, ◌+◌, ◌<◌, ◌^◌, nat_lt, false, length, drop, MatchOption};
 
-use crate::due::{Due, Evidence, Kind};
+use crate::due::{Due, Evidence, Group, Kind, Section, sections};
 use fond_form::table::LineKind;
 
 /// One more than the count, if it is still below 2^32.
@@ -19,135 +19,115 @@ fn one_more(count: u32) -> Option<u32>
     }
 }
 
-/// What is due after a line that may follow the rules.
-fn due_after_rules(evidence: Evidence, line: LineKind) -> Option<Due>
-    ensures { result ≡ after_rules evidence line }
+/// Whether a kind of line belongs to a group.
+fn is_in(group: Group, line: LineKind) -> bool
+    ensures { result ≡ is_in group line }
 {
-    match evidence {
-        Evidence::Reach => match line {
-            LineKind::Reach => Some(Due::End),
-            _ => None,
-        },
-        Evidence::Cover => match line {
-            LineKind::GoalItem | LineKind::RuleItem => Some(Due::Items { items: 1 }),
-            LineKind::Start => Some(Due::End),
-            _ => None,
-        },
+    match group {
+        Group::Layer => matches!(line, LineKind::Layer),
+        Group::Cube => matches!(line, LineKind::Cube),
+        Group::Pair => matches!(line, LineKind::Pair),
+        Group::Rule => matches!(line, LineKind::FairRule | LineKind::UnfairRule),
+        Group::Item => matches!(line, LineKind::GoalItem | LineKind::RuleItem),
+        Group::Reach => matches!(line, LineKind::Reach),
+        Group::Start => matches!(line, LineKind::Start),
     }
 }
 
-/// What is due after a line that may follow the layers or a pair of a policy.
-fn due_after_pairs(evidence: Evidence, line: LineKind) -> Option<Due>
-    ensures { result ≡ after_pairs evidence line }
+/// What is due after the line, if this section takes it.
+fn after_in(
+    section: Section,
+    kind: Kind,
+    at: usize,
+    lines: u32,
+    inner: u32,
+    line: LineKind,
+) -> Option<Due>
+    ensures { result ≡ after_in section kind at lines inner line }
 {
-    match line {
-        LineKind::Pair => Some(Due::Pairs { evidence }),
-        LineKind::FairRule | LineKind::UnfairRule => Some(Due::Rules { evidence, rules: 1 }),
-        _ => due_after_rules(evidence, line),
+    let (lines, inner) = match section {
+        Section::One(group) if is_in(group, line) && lines == 0 => (1, 0),
+        Section::Any(group) if is_in(group, line) => (lines, 0),
+        Section::Few(group) if is_in(group, line) => (one_more(lines)?, 0),
+        Section::Blocks(first, _) if is_in(first, line) => (one_more(lines)?, 0),
+        Section::Blocks(_, second) if is_in(second, line) && 0 < lines => (lines, one_more(inner)?),
+        _ => return None,
+    };
+    Some(Due::Section {
+        kind,
+        at,
+        lines,
+        inner,
+    })
+}
+
+/// Whether a section may end after this many lines or blocks.
+fn may_end(section: Section, lines: u32) -> bool
+    ensures { result ≡ may_end section lines }
+{
+    match section {
+        Section::One(_) => lines == 1,
+        _ => true,
     }
 }
 
-/// What is due after a line that may follow the layers.
-fn due_after_layers(kind: Kind, line: LineKind) -> Option<Due>
-    ensures { result ≡ after_layers kind line }
+/// What is due after the line, by the first of these sections that takes it.
+fn after_sections(
+    kind: Kind,
+    at: usize,
+    lines: u32,
+    inner: u32,
+    sections: &[Section],
+    line: LineKind,
+) -> Option<Due>
+    requires { at + length sections.now < 2 ^ 64 }
+    ensures { result ≡ after_sections kind at lines inner sections.now line }
 {
-    match kind {
-        Kind::Policy { evidence } => due_after_pairs(evidence, line),
-        Kind::Refusal => match line {
+    let Some((section, later)) = sections.split_first() else {
+        return match line {
             LineKind::End => Some(Due::Nothing),
             _ => None,
-        },
+        };
+    };
+    if let Some(next) = after_in(*section, kind, at, lines, inner, line) {
+        return Some(next);
     }
-}
-
-/// What is due after a line that follows a layer or a cube.
-fn due_in_layers(kind: Kind, layers: u32, cubes: u32, line: LineKind) -> Option<Due>
-    ensures { result ≡ due_after (CubesDue kind layers cubes) line }
-{
-    match line {
-        LineKind::Layer => Some(Due::Cubes {
-            kind,
-            layers: one_more(layers)?,
-            cubes: 0,
-        }),
-        LineKind::Cube => Some(Due::Cubes {
-            kind,
-            layers,
-            cubes: one_more(cubes)?,
-        }),
-        _ => due_after_layers(kind, line),
-    }
-}
-
-/// What is due after a line that follows a rule.
-fn due_in_rules(evidence: Evidence, rules: u32, line: LineKind) -> Option<Due>
-    ensures { result ≡ due_after (RulesDue evidence rules) line }
-{
-    match line {
-        LineKind::FairRule | LineKind::UnfairRule => Some(Due::Rules {
-            evidence,
-            rules: one_more(rules)?,
-        }),
-        _ => due_after_rules(evidence, line),
-    }
-}
-
-/// What is due after a line that follows an item.
-fn due_in_items(items: u32, line: LineKind) -> Option<Due>
-    ensures { result ≡ due_after (ItemsDue items) line }
-{
-    match line {
-        LineKind::GoalItem | LineKind::RuleItem => Some(Due::Items {
-            items: one_more(items)?,
-        }),
-        _ => due_after_rules(Evidence::Cover, line),
+    if may_end(*section, lines) {
+        after_sections(kind, at + 1, 0, 0, later, line)
+    } else {
+        None
     }
 }
 
 /// What is due after the header.
-fn due_after_header(line: LineKind) -> Option<Due>
+fn after_header(line: LineKind) -> Option<Due>
     ensures { result ≡ due_after HeaderDue line }
 {
-    match line {
-        LineKind::PolicyHeader => Some(Due::Layers {
-            kind: Kind::Policy {
-                evidence: Evidence::Reach,
-            },
-        }),
-        LineKind::CoverHeader => Some(Due::Layers {
-            kind: Kind::Policy {
-                evidence: Evidence::Cover,
-            },
-        }),
-        LineKind::RefusalHeader => Some(Due::Layers {
-            kind: Kind::Refusal,
-        }),
-        _ => None,
-    }
+    let kind = match line {
+        LineKind::PolicyHeader => Kind::Policy {
+            evidence: Evidence::Reach,
+        },
+        LineKind::CoverHeader => Kind::Policy {
+            evidence: Evidence::Cover,
+        },
+        LineKind::RefusalHeader => Kind::Refusal,
+        _ => return None,
+    };
+    Some(Due::Section {
+        kind,
+        at: 0,
+        lines: 0,
+        inner: 0,
+    })
 }
 
-/// What is due after a line that follows the header.
-fn due_first(kind: Kind, line: LineKind) -> Option<Due>
-    ensures { result ≡ due_after (LayersDue kind) line }
+/// The sections of a certificate from this position on.
+fn sections_from(kind: Kind, at: usize) -> &'static [Section]
+    ensures rest { result.now ≡ drop at (sections kind) }
+    ensures few { at + length result.now < 2 ^ 64 }
 {
-    match line {
-        LineKind::Layer => Some(Due::Cubes {
-            kind,
-            layers: 1,
-            cubes: 0,
-        }),
-        _ => due_after_layers(kind, line),
-    }
-}
-
-/// What is due after the line that is the end line.
-fn due_after_end(line: LineKind) -> Option<Due>
-    ensures { result ≡ due_after EndDue line }
-{
-    match line {
-        LineKind::End => Some(Due::Nothing),
-        _ => None,
-    }
+    let sections = sections(kind);
+    &sections[at.min(sections.len())..]
 }
 
 /// What is due after the line, if the line is allowed.
@@ -155,17 +135,13 @@ pub(crate) fn next_due(due: Due, line: LineKind) -> Option<Due>
     ensures { result ≡ due_after due line }
 {
     match due {
-        Due::Header => due_after_header(line),
-        Due::Layers { kind } => due_first(kind, line),
-        Due::Cubes {
+        Due::Header => after_header(line),
+        Due::Section {
             kind,
-            layers,
-            cubes,
-        } => due_in_layers(kind, layers, cubes, line),
-        Due::Pairs { evidence } => due_after_pairs(evidence, line),
-        Due::Rules { evidence, rules } => due_in_rules(evidence, rules, line),
-        Due::Items { items } => due_in_items(items, line),
-        Due::End => due_after_end(line),
+            at,
+            lines,
+            inner,
+        } => after_sections(kind, at, lines, inner, sections_from(kind, at), line),
         Due::Nothing => None,
     }
 }
