@@ -16,8 +16,8 @@ use Rattle.fond_cert.specs.Words.{Refused, value_refusal, is_ordered, refusal_or
 abbrev pub IsValueText : Sort → List ℕ → Type 0
 IsValueText sort text = (value : Value sort) × IsRight sort value × (text ≡ value_text sort value)
 
--- a meaning is read from the text of a value that begins at this byte of a line: the value is not refused, the meaning belongs to the
--- task, and the value that spells it has this text
+-- a meaning is read from the text of a value that begins at this byte of a line: the value is not refused, its atoms are in order, the
+-- meaning belongs to the task, and the value that spells it has this text
 pub record Means (task : Task) (at : ℕ) (sort : Sort) (text : List ℕ) (meaning : Meaning sort) : Type 0 where
   pub value : Value sort
   pub right : IsRight sort value
@@ -34,7 +34,7 @@ pub record IsValueRefused (task : Task) (at : ℕ) (sort : Sort) (text : List �
   pub text_is : text ≡ value_text sort value
   pub wrong : refusal_or_order (value_refusal task at sort value) (is_ordered task sort value) ≡ Some refused
 
--- values of a line are read with that of one more field
+-- the values of a line are read up to that of one more field
 abbrev pub IsFilled : Task → ℕ → Sort → List ℕ → LineValues → LineValues → Type 0
 IsFilled task at sort text before after = (meaning : Meaning sort) × Means task at sort text meaning × (after ≡ with_meaning before sort meaning)
 
@@ -47,7 +47,7 @@ pub record AllMean (task : Task) (at : ℕ) (fields : List Field) (text : List �
   pub of : AreOfTask task fields meanings
   pub same : text ≡ fields_text fields (all_spelled task fields meanings)
 
--- values of a line are read with those of further fields
+-- the values of a line are read up to those of further fields
 abbrev pub AreFilled : Task → ℕ → List Field → List ℕ → LineValues → LineValues → Type 0
 AreFilled task at fields text before after = (meanings : Meanings fields) × AllMean task at fields text meanings × (after ≡ with_meanings before fields meanings)
 

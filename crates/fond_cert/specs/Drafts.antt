@@ -47,7 +47,8 @@ abbrev pub draft_lines : Task → Draft → List Line
 draft_lines task draft =
     flat_map (layer_lines task) (all_layers draft) ++ (map (pair_line task) draft.pairs ++ (map (rule_line task) draft.rules ++ (map (item_line task) draft.items ++ last_lines task draft.reach draft.start)))
 
--- a draft belongs to a task if its layers, pairs, rules and items do, and its numbers fit their types
+-- a draft belongs to a task: its layers, pairs, rules and items do, it has fewer than 2^32 rules and items, and its reach number and
+-- its start number are below their bounds
 pub record IsDraftOf (task : Task) (draft : Draft) : Type 0 where
   pub layers : BelongAsLayers task (all_layers draft)
   pub pairs : All (IsReadPair task) draft.pairs
@@ -201,7 +202,7 @@ FitsDue task (SectionDue kind at count inner) draft lines =
 FitsDue task NothingDue draft lines =
     (draft.current ≡ None) × ((kind : Kind) × IsWholeOf kind draft × (lines ≡ header task kind ∷ (draft_lines task draft ++ end_line task ∷ [])))
 
--- there is room in a draft for what a line of a kind makes
+-- a draft has room for the rule or the item that a line of a kind makes, if it makes one
 abbrev pub HasRoom : LineKind → Draft → Type 0
 HasRoom k.FairRule draft = length draft.rules < 2 ^ 32 - 1
 HasRoom k.UnfairRule draft = length draft.rules < 2 ^ 32 - 1

@@ -17,7 +17,7 @@ use Rattle.fond_form.specs.Forms.{Field, form}
 abbrev pub no_values : LineValues
 no_values = record { act = 0; numbers = []; targets = []; items = []; cube = None }
 
--- values with the meaning of one more
+-- values with the meaning of one more field
 abbrev pub with_meaning : LineValues → (sort : Sort) → Meaning sort → LineValues
 with_meaning values Nothing meaning = values
 with_meaning values Action act = record values { act = act }
@@ -33,26 +33,26 @@ abbrev pub with_meanings : LineValues → (fields : List Field) → Meanings fie
 with_meanings values [] meanings = values
 with_meanings values (field ∷ fields) meanings = with_meanings (with_meaning values field.1 meanings.0) fields meanings.1
 
--- values hold those of a line of a kind, with these meanings
+-- these are the values of a line of a kind with these meanings
 abbrev pub Hold : (kind : LineKind) → LineValues → Meanings (form kind) → Type 0
 Hold kind values meanings = values ≡ with_meanings no_values (form kind) meanings
 
--- the pair of a line
+-- the pair that these meanings give
 abbrev pub pair_of : Meanings (form k.Pair) → Pair
 pair_of (act, (outcome, (layer, (cube, (cond, end))))) = record { cond = cond; act = act; outcome = outcome; layer = layer; cube = cube }
 
--- the rule of a fair action of a line
+-- the rule of a fair action that these meanings give
 abbrev pub fair_of : Meanings (form k.FairRule) → Rule
 fair_of (act, (outcome, (target, (cond, end)))) = record { cond = cond; act = act; targets = One outcome target }
 
--- the rule of an unfair action of a line
+-- the rule of an unfair action that these meanings give
 abbrev pub unfair_of : Meanings (form k.UnfairRule) → Rule
 unfair_of (act, (targets, (cond, end))) = record { cond = cond; act = act; targets = All targets }
 
--- the item of goals of a line
+-- the item of goals that these meanings give
 abbrev pub goal_item_of : Meanings (form k.GoalItem) → Item
 goal_item_of (cube, end) = record { cube = cube; way = ToGoal }
 
--- the item with a rule of a line
+-- the item with a rule that these meanings give
 abbrev pub rule_item_of : Meanings (form k.RuleItem) → Item
 rule_item_of (rule, (numbers, (cube, end))) = record { cube = cube; way = ByRule rule numbers }

@@ -41,7 +41,7 @@ chosen_text (All targets) = codes " unfair" ++ spaced (map target_word targets)
 abbrev pub places_text : Pair → List ℕ
 places_text pair = (codes " " ++ decimal pair.outcome) ++ ((codes " " ++ decimal pair.layer) ++ (codes " " ++ decimal pair.cube))
 
--- the text of a condition at the end of a line
+-- the text of a cube at the end of a line, with its colon and the line feed
 abbrev pub cond_text : Task → CubeView → List ℕ
 cond_text task cond = codes " :" ++ (literals_text (written_cube task cond) ++ codes "\n")
 

@@ -20,7 +20,7 @@ use Rattle.fond_cert.specs.Spellings.{end_line, lines_text}
 abbrev pub IsReady : Task → Due → Draft → Type 0
 IsReady task due draft = IsDraftOf task draft × ((lines : List Line) × FitsDue task due draft lines)
 
--- a piece of text is a line that is allowed, and makes one draft of another
+-- a piece of text is a line that is allowed, after which this is due, and which makes one draft of another
 abbrev pub IsTaken : Task → Due → Draft → List ℕ → Due → Draft → Type 0
 IsTaken task due before piece next after =
     (kind : LineKind) × (due_after due kind ≡ Some next) × IsGrown task kind piece before after

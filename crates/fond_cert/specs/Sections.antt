@@ -31,7 +31,7 @@ is_in g.Reach k.Reach = true
 is_in g.Start k.Start = true
 is_in group kind = false
 
--- what is due next, if there are still fewer than 2^32 lines
+-- what is due next, if this count is below 2^32
 abbrev pub if_few : ℕ → Due → Option Due
 if_few count due = if nat_lt count (2 ^ 32) then Some due else None
 

@@ -7,7 +7,7 @@ use Rattle.fond_form.specs.declared.part.Part.{Part}
 use Rattle.fond_form.specs.declared.table.Sort.{Sort}
 use Rattle.fond_form.specs.declared.table.Sort.TheVariants.{Nothing, Action, Short, Long, Target, Shorts, Targets, Literals}
 
--- a value of a sort cannot go on into a rest
+-- a rest begins where a value of a sort must end
 abbrev pub Ends : Sort → List ℕ → Type 0
 Ends Nothing rest = rest ≡ []
 Ends Action rest = ⊤
@@ -48,7 +48,7 @@ pub record BeginsWithWords (test : List ℕ → Bool) (text front rest : List �
 abbrev pub HasNoField : Field → List ℕ → Type 0
 HasNoField field rest = (value : Value field.1) (more : List ℕ) → IsRight field.1 value → Ends field.1 more → rest ≢ text_of field.0 ++ (value_text field.1 value ++ more)
 
--- a rest begins with a field: with its text and a right value, which ends where the further rest begins; each has its place
+-- a rest begins with a field: with its text, and a right value that ends where the further rest begins; each has its place
 pub record IsFieldOf (field : Field) (rest part next : Part) : Type 0 where
   pub value : Value field.1
   pub right : IsRight field.1 value
@@ -70,7 +70,7 @@ abbrev pub is_colon_first : List ℕ → Bool
 is_colon_first (b ∷ c ∷ text) = b == 32 && c == 58
 is_colon_first text = false
 
--- whether a value of a sort ends before these fields
+-- whether the texts of these fields show that a value of a sort ends before them
 abbrev pub is_ended : Sort → List Field → Bool
 is_ended Action fields = true
 is_ended _ [] = true
@@ -81,7 +81,7 @@ is_ended Shorts (field ∷ fields) = is_colon_first (text_of field.0)
 is_ended Targets (field ∷ fields) = is_colon_first (text_of field.0)
 is_ended _ (field ∷ fields) = false
 
--- whether each value of these fields ends before the next ones
+-- whether the texts of these fields show where each value ends
 abbrev pub is_clear : List Field → Bool
 is_clear [] = true
 is_clear (field ∷ fields) = is_ended field.1 fields && is_clear fields

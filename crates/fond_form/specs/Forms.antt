@@ -8,7 +8,7 @@ use Rattle.fond_form.specs.declared.table.Sort.TheVariants.{Nothing, Action, Sho
 use Rattle.fond_form.specs.declared.table.Text.{Text}
 use Rattle.fond_form.specs.declared.table.Text.TheVariants as t
 
--- the bytes of a text that lines have in common
+-- the bytes of the fixed texts of lines
 abbrev pub text_of : Text → List ℕ
 text_of t.PolicyHeader = codes "dualfond 1 policy"
 text_of t.RefusalHeader = codes "dualfond 1 refusal"
@@ -63,8 +63,8 @@ Value Shorts = List (List ℕ)
 Value Targets = List (List ℕ)
 Value Literals = List WrittenLiteral
 
--- a value is right: an action and each atom has leaves, numbers are numbers, targets are targets, and of several there is at
--- least one
+-- a value is right: an action and each atom is a group of plain leaves, numbers are numbers, targets are targets, and of several there
+-- is at least one
 abbrev pub IsRight : (sort : Sort) → Value sort → Type 0
 IsRight Nothing value = ⊤
 IsRight Action leaves = IsGroup leaves

@@ -19,7 +19,7 @@ IsGroup leaves = (0 < length leaves) × All IsPlainLeaf leaves
 
 -- texts with a space before each
 abbrev pub spaced : List (List ℕ) → List ℕ
-spaced leaves = flat_map (λ leaf. codes " " ++ leaf) leaves
+spaced texts = flat_map (λ text. codes " " ++ text) texts
 
 -- leaves between parentheses, separated by single spaces
 abbrev pub group_text : List (List ℕ) → List ℕ
@@ -35,7 +35,7 @@ is_number (b ∷ rest) = is_ascii_digit b && (not (b == 48) || length rest == 0)
 abbrev pub is_target : List ℕ → Bool
 is_target word = bytes_eq word (codes "goal") || is_number word
 
--- words that pass a test
+-- words all pass a test
 abbrev pub AreWords : (List ℕ → Bool) → List (List ℕ) → Type 0
 AreWords test words = All (λ word. IsTrue (test word)) words
 
@@ -57,6 +57,6 @@ literal_text literal = codes " " ++ (sign_text literal.sign ++ group_text litera
 abbrev pub literals_text : List WrittenLiteral → List ℕ
 literals_text literals = flat_map literal_text literals
 
--- the atoms of literals have leaves
+-- the atoms of literals are groups of plain leaves
 abbrev pub AreProper : List WrittenLiteral → Type 0
 AreProper literals = All (λ literal. IsGroup literal.leaves) literals

@@ -11,7 +11,7 @@ IsGroupText text = (leaves : List (List ℕ)) × IsGroup leaves × (text ≡ gro
 abbrev pub HasNoGroup : List ℕ → Type 0
 HasNoGroup text = (leaves : List (List ℕ)) (rest : List ℕ) → IsGroup leaves → text ≢ group_text leaves ++ rest
 
--- the rest of a text after leaves and their closing parenthesis, if the text begins so inside a leaf or at its first byte
+-- the rest of a text after leaves and their closing parenthesis, if it begins with them; `is_open` tells that it begins inside a leaf
 abbrev pub after_leaves : Bool → List ℕ → Option (List ℕ)
 after_leaves is_open [] = None
 after_leaves is_open (b ∷ rest) =
