@@ -144,14 +144,16 @@ enum End {
 
 impl<S: Source> Planner<S> {
     /// Makes rules in rounds, and begins again without rules whenever a round barred an action, until a rule holds in each reached
-    /// state that is no goal. Reports `NoMemory` past 2^32 - 1 rounds.
+    /// state that is no goal. Each further round has more pairs than the one before, or walks where that one sketched: `NoMemory` is
+    /// reported after a round that achieved neither.
     fn finish(&mut self, alloc: Global, t: &Task, budget: u32) -> Result<End, NoMemory>
         requires few { budget ≤ 1000000 }
         requires planner { IsPlanner t.now self.old }
         ensures draft { OnOk result (IsDraft t.now self.new.draft) }
         ensures end { IfOk result (IsEnd t.now budget self.new.draft) }
     {
-        for _round in 0..u32::MAX {
+        let mut achieved = self.achieved();
+        loop {
             let sketched = match self.round(alloc, t, budget)? {
                 Round::Walked(items) => items,
                 Round::Lost => return Ok(End::Refusal),
@@ -161,8 +163,12 @@ impl<S: Source> Planner<S> {
                 return Ok(End::Policy(covering));
             }
             self.begin_again(alloc, t)?;
+            let before = achieved;
+            achieved = self.achieved();
+            if achieved <= before {
+                return Err(NoMemory);
+            }
         }
-        Err(NoMemory)
     }
 }
 

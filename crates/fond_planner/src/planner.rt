@@ -134,6 +134,16 @@ impl<S: Source> Planner<S> {
         self.learn_layers(alloc, t, state)
     }
 
+    /// What rounds have achieved: two for each pair, and one if they walk through states instead of sketching covers.
+    pub(crate) fn achieved(&self) -> u64 {
+        let walks = if self.sketches { 0 } else { 1 };
+        self.draft
+            .pairs
+            .len()
+            .saturating_mul(2)
+            .saturating_add(walks)
+    }
+
     /// Heeds the fresh pairs of the draft, and drops all rules. If there are none, a sketch missed a state without a rule, and no
     /// more are made.
     pub(crate) fn begin_again(&mut self, alloc: Global, t: &Task) -> Result<(), NoMemory>
