@@ -1,5 +1,4 @@
-use fond_lookup::text_index::TextIndex;
-use fond_lookup::tuple_index::TupleIndex;
+use fond_lookup::index::{TextIndex, TupleIndex};
 use std::test::Fail;
 
 #[test]

@@ -9,7 +9,7 @@ ghost use Rattle.std.specs.Prelude.{◌≡◌, ◌<◌, ◌+◌, ◌++◌, IfOk,
 
 use fond_ast::form::{LPatterns, LTerm};
 use fond_ast::task::LSchema;
-use fond_lookup::tuple_index::TupleIndex;
+use fond_lookup::index::TupleIndex;
 use fond_text::fault::NoMemory;
 use fond_text::list::List;
 use std::alloc::Global;

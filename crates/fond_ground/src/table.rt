@@ -12,7 +12,7 @@ ghost use Rattle.std.specs.Prelude.{◌≡◌, ◌<◌, ◌^◌, length, positio
 use fond_ast::form::{LAtom, LTerm};
 use fond_ast::task::LiftedTask;
 use fond_join::facts::Facts;
-use fond_lookup::tuple_index::TupleIndex;
+use fond_lookup::index::TupleIndex;
 use fond_text::atom::{Atom, Atoms};
 use fond_text::fault::NoMemory;
 use std::alloc::Global;

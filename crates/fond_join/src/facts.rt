@@ -10,7 +10,7 @@ ghost use Rattle.std.specs.Prelude.{◌≡◌, ◌<◌, ℕ, List, Some, true, f
 
 use crate::rows::{MOST_ROWED, Rows, row_of, rows_of};
 use fond_ast::task::LiftedTask;
-use fond_lookup::tuple_index::TupleIndex;
+use fond_lookup::index::TupleIndex;
 use fond_text::atom::Atom;
 use fond_text::fault::NoMemory;
 use std::alloc::Global;

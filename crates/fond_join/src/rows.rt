@@ -7,7 +7,7 @@ ghost use Rattle.fond_join.specs.Rows.{AreNumbered, AreRowed, IsGrown, IsRowed, 
 ghost use Rattle.fond_lookup.specs.Texts.{number_beside};
 ghost use Rattle.std.specs.Prelude.{◌≡◌, ◌<◌, ℕ, true, None, length, IfOk, IfSome, OnOk};
 
-use fond_lookup::tuple_index::TupleIndex;
+use fond_lookup::index::TupleIndex;
 use fond_text::atom::{Atom, Objects};
 use fond_text::fault::NoMemory;
 use fond_text::list::List;

@@ -13,7 +13,7 @@ ghost use Rattle.std.specs.Prelude.{◌≡◌, ◌<◌, ◌≤◌, ◌^◌, ℕ,
 use crate::ancestry::Ancestry;
 use crate::links::parent_at;
 use fond_ast::names::{TypedName, TypedNames};
-use fond_lookup::text_index::TextIndex;
+use fond_lookup::index::TextIndex;
 use fond_text::fault::NoMemory;
 use std::alloc::Global;
 

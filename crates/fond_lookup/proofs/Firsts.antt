@@ -1,5 +1,5 @@
 -- Inserting the texts of a list in order, each with its index, keeps the first index of each text.
-use Rattle.std.proofs.Common.{◌≡◌, ℕ, ◌+◌, Bool, true, false, List, [], ◌∷◌, ◌++◌, Option, Some, None, drop, length, ◌≤◌, arith, slice_get, position, cond, refl, sym, ap, ◌∙◌}
+use Rattle.std.proofs.Common.{◌≡◌, ℕ, ◌+◌, Bool, true, false, List, [], ◌∷◌, ◌++◌, Option, Some, None, drop, length, ◌≤◌, arith, slice_get, position, cond, nat_eq, refl, sym, ap, ◌∙◌}
 use Rattle.std.specs.Prelude.{if◌then◌else◌}
 use Rattle.std.specs.List.{position_from}
 use Rattle.std.specs.Option.{option_or}
@@ -46,8 +46,8 @@ number_kept items kept number text = by (number_beside items kept) refl
 
     by : (found : Option ℕ) → number_beside items kept ≡ found →
         number_beside (with_text items kept number) text ≡ option_or (number_beside items text) (if bytes_eq kept text then Some number else None)
-    by None none = ap (λ more. number_beside more text) (kept_last items kept number none) ∙ at_end items kept number text
-    by (Some other) there = ap (λ more. number_beside more text) (passed_over items kept number other there) ∙ passed other there (bytes_eq kept text) refl
+    by None none = ap (λ more. number_beside more text) (kept_last nat_eq items kept number none) ∙ at_end items kept number text
+    by (Some other) there = ap (λ more. number_beside more text) (passed_over nat_eq items kept number other there) ∙ passed other there (bytes_eq kept text) refl
 
 -- the first of a number, a number under a test, and a later number, grouped in two ways
 or_later : (first : Option ℕ) (b : Bool) (number : ℕ) (later : Option ℕ) →

@@ -1,16 +1,25 @@
--- Texts with numbers.
-use Rattle.std.specs.Prelude.{ℕ, List, [], ◌∷◌, ◌++◌, Option, Some, None, if◌then◌else◌}
-use Rattle.std.specs.Str.{bytes_eq}
+-- Lists with numbers, and texts with numbers.
+use Rattle.std.specs.Prelude.{ℕ, Bool, List, [], ◌∷◌, ◌++◌, Option, Some, None, if◌then◌else◌, nat_eq}
+use Rattle.std.specs.Cmp.Lexicographic.{pointwise}
+
+module _ {X : Type 0} (same : X → X → Bool) where
+  -- the number of a list among lists with their numbers, if the list is there, by a test of its elements
+  abbrev pub number_by : List (List X × ℕ) → List X → Option ℕ
+  number_by [] list = None
+  number_by (item ∷ items) list = if pointwise same item.0 list then Some item.1 else number_by items list
+
+  -- the lists with one more list and its number at the end, or the same lists if the list is already there
+  abbrev pub with_list : List (List X × ℕ) → List X → ℕ → List (List X × ℕ)
+  with_list items list number = unless (number_by items list)
+    where
+      unless : Option ℕ → List (List X × ℕ)
+      unless (Some other) = items
+      unless None = items ++ (list, number) ∷ []
 
 -- the number of a text in a list of texts with their numbers, if the text is there
 abbrev pub number_beside : List (List ℕ × ℕ) → List ℕ → Option ℕ
-number_beside [] text = None
-number_beside (item ∷ items) text = if bytes_eq item.0 text then Some item.1 else number_beside items text
+number_beside = number_by nat_eq
 
 -- the list with one more text and its number at the end, or the same list if the text is already there
 abbrev pub with_text : List (List ℕ × ℕ) → List ℕ → ℕ → List (List ℕ × ℕ)
-with_text items text number = unless (number_beside items text)
-  where
-    unless : Option ℕ → List (List ℕ × ℕ)
-    unless (Some other) = items
-    unless None = items ++ (text, number) ∷ []
+with_text = with_list nat_eq

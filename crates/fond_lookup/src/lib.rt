@@ -3,5 +3,4 @@
 //! is not proved.
 #![tactic(auto)]
 
-pub mod text_index;
-pub mod tuple_index;
+pub mod index;

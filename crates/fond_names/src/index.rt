@@ -7,7 +7,7 @@ ghost use Rattle.std.specs.Prelude.{◌≡◌, ◌≤◌, ◌<◌, ◌+◌, ◌+
 
 use fond_ast::files::{DeclaredList, Schemas};
 use fond_ast::names::{TypedName, TypedNames};
-use fond_lookup::text_index::TextIndex;
+use fond_lookup::index::TextIndex;
 use fond_text::fault::NoMemory;
 use fond_text::name::Name;
 use std::alloc::Global;

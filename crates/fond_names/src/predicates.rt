@@ -13,7 +13,7 @@ use crate::index::insert_name;
 use crate::lookup::find_predicate;
 use fond_ast::files::Declared;
 use fond_ast::names::{Kinds, TypedNames};
-use fond_lookup::text_index::TextIndex;
+use fond_lookup::index::TextIndex;
 use fond_text::code::REPEATED_NAME;
 use fond_text::fault::NoMemory;
 use fond_text::first::{Found, earlier, found_if};

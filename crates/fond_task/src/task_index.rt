@@ -6,7 +6,7 @@ ghost use Rattle.std.specs.Prelude.{◌≡◌, IfOk, List, ℕ};
 
 use crate::task::Task;
 use crate::text::{put_action, put_atom};
-use fond_lookup::text_index::TextIndex;
+use fond_lookup::index::TextIndex;
 use fond_text::fault::NoMemory;
 use std::alloc::Global;
 use std::marker::Model;

@@ -1,5 +1,5 @@
 -- Names beside their numbers, looked up and added to.
-use Rattle.std.proofs.Common.{◌≡◌, ℕ, suc, ◌+◌, ◌<◌, ◌&&◌, ◌||◌, not, Bool, true, false, List, [], ◌∷◌, ◌++◌, Option, Some, None, is_some, length, nat_lt, slice_index_or, refl, sym, ap, ◌∙◌, arith}
+use Rattle.std.proofs.Common.{◌≡◌, ℕ, nat_eq, suc, ◌+◌, ◌<◌, ◌&&◌, ◌||◌, not, Bool, true, false, List, [], ◌∷◌, ◌++◌, Option, Some, None, is_some, length, nat_lt, slice_index_or, refl, sym, ap, ◌∙◌, arith}
 use Rattle.std.specs.Prelude.{if◌then◌else◌}
 use Rattle.std.specs.Str.{bytes_eq}
 use Rattle.std.specs.Cmp.Lexicographic.{nat_list_eq_equiv}
@@ -49,7 +49,7 @@ module _ (numbers : List (List ℕ × ℕ)) (names : List (List ℕ)) (are : num
 
   pub numbered_new : is_some (number_beside numbers name) ≡ false → (count : ℕ) → count ≡ length names → with_text numbers name count ≡ numbered_from 0 (name_also names name)
   numbered_new none count counted =
-      kept_last numbers name count (not_some (number_beside numbers name) none) ∙ ap (λ items. items ++ (name, count) ∷ []) are
+      kept_last nat_eq numbers name count (not_some (number_beside numbers name) none) ∙ ap (λ items. items ++ (name, count) ∷ []) are
       ∙ sym (numbered_after 0 count names name (omega (arith, counted))) ∙ ap (numbered_from 0) (sym (declared_new none))
 
 -- a number that is so much above the first one, and the name at that index

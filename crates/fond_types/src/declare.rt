@@ -7,7 +7,7 @@ ghost use Rattle.fond_types.specs.Meanings.{name_also, names_once, numbered_from
 ghost use Rattle.std.specs.Prelude.{◌≡◌, ◌<◌, ◌≤◌, ◌+◌, ◌^◌, IfOk, OnOk, length};
 
 use crate::numbers::Numbers;
-use fond_lookup::text_index::TextIndex;
+use fond_lookup::index::TextIndex;
 use fond_names::files::Files;
 use fond_names::index::{insert_name, joined_get};
 use fond_text::fault::NoMemory;

@@ -12,7 +12,7 @@ use crate::table::Table;
 use fond_ast::files::Pattern;
 use fond_ast::form::{LPattern, LPatterns, LTerm};
 use fond_ast::names::{Term, Terms};
-use fond_lookup::text_index::TextIndex;
+use fond_lookup::index::TextIndex;
 use fond_names::index::insert_name;
 use fond_text::fault::NoMemory;
 use std::alloc::Global;

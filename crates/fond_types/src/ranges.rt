@@ -15,7 +15,7 @@ use crate::kept::{Kept, KeptRanges};
 use crate::table::Table;
 use fond_ast::form::{Range, Ranges};
 use fond_ast::names::{Kind, Kinds, TypedNames};
-use fond_lookup::text_index::TextIndex;
+use fond_lookup::index::TextIndex;
 use fond_names::types::is_below_some;
 use fond_text::atom::Objects;
 use fond_text::fault::NoMemory;

@@ -24,7 +24,7 @@ use crate::schemas::numbered_schemas;
 use crate::table::Table;
 use fond_ast::form::LCond;
 use fond_ast::task::{LPredicates, LSchemas, LiftedTask};
-use fond_lookup::text_index::TextIndex;
+use fond_lookup::index::TextIndex;
 use fond_names::files::Files;
 use fond_names::predicates::index_kinds;
 use fond_names::scope::outside;
