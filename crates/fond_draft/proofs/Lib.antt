@@ -5,7 +5,9 @@ pub mod Rules
 pub mod Sure
 pub mod Ready
 pub mod Plans
+pub mod Spots
 pub mod Fitting
+pub mod Barring
 pub mod Unlost
 pub mod Made
 pub mod Provided

@@ -31,6 +31,7 @@ ruled_more task draft after state rule is over lies lean made = subst (λ (a : D
     sure = is.sure;
     pairs = is.pairs;
     fresh = is.fresh;
+    more = is.more;
     rules = lean_pushed task draft.pairs draft.rules rule is.rules over lean;
   };
 })

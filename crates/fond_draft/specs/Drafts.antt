@@ -1,5 +1,5 @@
 -- Policies in the making: layers, pairs that lead into them, and rules.
-use Rattle.std.specs.Prelude.{◌≡◌, ℕ, List, Bool, Some, length, slice_get, Contains}
+use Rattle.std.specs.Prelude.{◌≡◌, ◌++◌, ℕ, List, Bool, Some, length, slice_get, Contains}
 use Rattle.fond_task.specs.declared.task.Task.{Task}
 use Rattle.fond_game.specs.Layers.{CubeView, AreSureLayers}
 use Rattle.fond_game.specs.Rules.{IsLeanPair, IsLeanRule}
@@ -8,6 +8,7 @@ use Rattle.fond_game.specs.declared.rule.Rule.{Rule}
 use Rattle.fond_layers.specs.Over.{AreOver}
 use Rattle.fond_rules.specs.Belongs.{BelongTo}
 use Rattle.fond_policy.specs.Sizes.{IsSmallPair}
+use Rattle.fond_draft.specs.Barring.{EachBarsMore}
 use Rattle.fond_draft.specs.Targets.{HasRule}
 use Rattle.fond_draft.specs.declared.draft.Draft.{Draft}
 
@@ -26,13 +27,14 @@ pub record AreLeanRules (task : Task) (pairs : List Pair) (rules : List Rule) : 
   pub belong : BelongTo task rules
   pub lean : (number : ℕ) (rule : Rule) → slice_get rules number ≡ Some rule → IsLeanRule task pairs rules number rule
 
--- a draft is one of a task: its layers are sure, its pairs fit them, and so do the fresh ones, and its rules are lean
--- beside its pairs
+-- a draft is one of a task: its layers are sure, its pairs fit them, and so do the fresh ones, of all of which each bars more than
+-- those before it, and its rules are lean beside its pairs
 pub record IsDraft (task : Task) (draft : Draft) : Type 0 where
   pub over : AreOver (length task.atoms) draft.layers
   pub sure : AreSureLayers task draft.layers
   pub pairs : AreFitting task draft.layers draft.pairs
   pub fresh : AreFitting task draft.layers draft.fresh.items
+  pub more : EachBarsMore (length task.atoms) (draft.pairs ++ draft.fresh.items)
   pub rules : AreLeanRules task draft.pairs draft.rules
 
 -- a draft has become another one of the task, in which a rule holds in a state, and in each state in which one held

@@ -4,7 +4,7 @@ ghost use Rattle.fond_draft.specs.Drafts.{IsDraft};
 ghost use Rattle.fond_explicit.specs.Answers.{AreStuck};
 ghost use Rattle.fond_game.specs.Certificates.{LiesInLayers};
 ghost use Rattle.fond_game.specs.declared.rule.Pair.{Pair};
-ghost use Rattle.std.specs.Prelude.{◌≡◌, ◌<◌, ◌-◌, ◌^◌, ◌∷◌, ◌++◌, [], List, Bool, length, Contains, IfOk, OnOk};
+ghost use Rattle.std.specs.Prelude.{◌≡◌, ◌<◌, ◌-◌, ◌^◌, ◌∷◌, ◌++◌, [], List, Bool, length, IfOk, OnOk};
 
 use crate::append::append_layers;
 use fond_game::rule::{Pair, Rule};
@@ -80,7 +80,7 @@ impl Draft {
         requires { IsDraft t.now self.old }
         ensures draft { OnOk result (IsDraft t.now self.new) }
         ensures none { OnOk result (self.new.fresh.items ≡ []) }
-        ensures moved { OnOk result ((pair : Pair) → Contains self.old.fresh.items pair → Contains self.new.pairs pair) }
+        ensures moved { OnOk result (self.new.pairs ≡ self.old.pairs ++ self.old.fresh.items) }
     {
         self.rules = Rules::new(alloc);
         for at in 0..self.fresh.len() {

@@ -1,9 +1,14 @@
 //! Layers that someone proposes, which are kept if they are sure.
 
 ghost use Rattle.fond_draft.specs.Drafts.{IsDraft};
+ghost use Rattle.fond_draft.specs.Learning.{IsDeadAround, MayComeNext};
 ghost use Rattle.fond_game.specs.Certificates.{LiesInLayers};
+ghost use Rattle.fond_game.specs.Layers.{CubeView, IsSureLayer};
+ghost use Rattle.fond_layers.specs.Faults.{IsLayerFault};
 ghost use Rattle.fond_layers.specs.Over.{IsOver};
-ghost use Rattle.std.specs.Prelude.{◌≡◌, ◌<◌, ◌^◌, ◌∷◌, ◌++◌, [], true, length, IfOk, OnOk};
+ghost use Rattle.fond_relax.specs.Stable.{IsHopeless};
+ghost use Rattle.fond_task.specs.declared.task.Task.{Task};
+ghost use Rattle.std.specs.Prelude.{◌≡◌, ◌<◌, ◌^◌, ◌∷◌, ◌++◌, [], List, true, length, Decides, IfOk, OnOk};
 
 use crate::draft::Draft;
 use fond_layers::fault::LayerFault;
@@ -15,6 +20,17 @@ use fond_task::task::Task;
 use fond_text::fault::NoMemory;
 use std::alloc::Global;
 
+/// Reports a fault only if memory ran out: otherwise it tells that the layer is not sure.
+fn unless_full(fault: LayerFault) -> Result<(), NoMemory>
+    ensures { OnOk result ((task : Task) (layers : List (List CubeView)) (layer : List CubeView) → IsLayerFault task layers layer fault → ¬ IsSureLayer task layers layer) }
+{
+    match fault {
+        LayerFault::NoMemory => Err(NoMemory),
+        LayerFault::Goal { .. } => Ok(()),
+        LayerFault::NotSure { .. } => Ok(()),
+    }
+}
+
 impl Draft {
     /// Appends a layer, if it is sure above the layers. Returns whether it is.
     fn push_layer(&mut self, alloc: Global, t: &Task, layer: Layer) -> Result<bool, NoMemory>
@@ -23,6 +39,7 @@ impl Draft {
         requires few { length layer < 2 ^ 32 }
         ensures draft { OnOk result (IsDraft t.now self.new) }
         ensures kept { IfOk result (λ kept. kept ≡ true → self.new.layers ≡ self.old.layers ++ layer ∷ []) }
+        ensures decides { IfOk result (λ kept. Decides kept (IsSureLayer t.now self.old.layers layer)) }
     {
         if self.layers.len() >= u32::MAX - 1 {
             return Err(NoMemory);
@@ -30,15 +47,19 @@ impl Draft {
         let mut image = Cube::new(alloc, t.atoms.len() as u32)?;
         match self.layers.push(t, layer, &mut image) {
             Ok(()) => Ok(true),
-            Err(LayerFault::NoMemory) => Err(NoMemory),
-            Err(_) => Ok(false),
+            Err(fault) => {
+                unless_full(fault)?;
+                Ok(false)
+            }
         }
     }
 
     /// Appends a layer that may be any, if it is sure above the layers. Returns whether it was appended.
     pub fn learn_layer(&mut self, alloc: Global, t: &Task, layer: Layer) -> Result<bool, NoMemory>
         requires { IsDraft t.now self.old }
-        ensures { OnOk result (IsDraft t.now self.new) }
+        ensures draft { OnOk result (IsDraft t.now self.new) }
+        ensures kept { IfOk result (λ learnt. learnt ≡ true → self.new.layers ≡ self.old.layers ++ layer ∷ []) }
+        ensures decides { IfOk result (λ learnt. Decides learnt (MayComeNext t.now self.old.layers layer)) }
     {
         if layer.len() >= u32::MAX as usize {
             return Ok(false);
@@ -55,6 +76,7 @@ impl Draft {
         requires over { length cube ≡ length t.now.atoms }
         ensures draft { OnOk result (IsDraft t.now self.new) }
         ensures kept { IfOk result (λ kept. kept ≡ true → self.new.layers ≡ self.old.layers ++ (cube ∷ []) ∷ []) }
+        ensures decides { IfOk result (λ kept. Decides kept (IsSureLayer t.now self.old.layers (cube ∷ []))) }
     {
         let mut layer = Layer::new(alloc);
         layer.push(cube)?;
@@ -73,6 +95,7 @@ impl Draft {
         requires long { length state.now ≡ length t.now.atoms }
         ensures draft { OnOk result (IsDraft t.now self.new) }
         ensures lies { IfOk result (λ learnt. learnt ≡ true → LiesInLayers state.now self.new.layers) }
+        ensures decides { IfOk result (λ learnt. Decides learnt (IsDeadAround t.now self.old.layers state.now cube)) }
     {
         if cube.len() != t.atoms.len() {
             return Ok(false);
@@ -95,6 +118,7 @@ impl Draft {
         requires long { length state.now ≡ length t.now.atoms }
         ensures draft { OnOk result (IsDraft t.now self.new) }
         ensures lies { IfOk result (λ learnt. learnt ≡ true → LiesInLayers state.now self.new.layers) }
+        ensures decides { IfOk result (λ learnt. Decides learnt (IsHopeless t.now state.now)) }
     {
         match estimate(alloc, t, state)? {
             Guess::Never(cube) => self.learn_cube(alloc, t, state, cube),

@@ -4,6 +4,7 @@
 #![tactic(auto)]
 
 mod append;
+mod barred;
 mod below;
 pub mod draft;
 mod learn;

@@ -1,3 +1,4 @@
 pub mod Walked
 pub mod Barred
 pub mod Right
+pub mod Furthered

@@ -1,5 +1,8 @@
--- Planners: the draft of a policy, and the plans that are kept for its rules.
+-- Planners: the draft of a policy, and the plans that are kept for its rules; pairs of which one bars more than others.
+use Rattle.std.specs.Prelude.{List, length, Contains}
 use Rattle.fond_task.specs.declared.task.Task.{Task}
+use Rattle.fond_game.specs.declared.rule.Pair.{Pair}
+use Rattle.fond_draft.specs.Barring.{BarsMore}
 use Rattle.fond_draft.specs.Drafts.{IsDraft}
 use Rattle.fond_draft.specs.Plans.{ArePlans}
 use Rattle.fond_planner.specs.declared.planner.Planner.{Planner}
@@ -8,3 +11,7 @@ use Rattle.fond_planner.specs.declared.planner.Planner.{Planner}
 pub record IsPlanner {S : Type 0} (task : Task) (planner : Planner S) : Type 0 where
   pub draft : IsDraft task planner.draft
   pub plans : ArePlans task planner.plans.items
+
+-- one of these pairs bars its action in a state in which none of the others does
+abbrev pub BarsMoreThan : Task → List Pair → List Pair → Type 0
+BarsMoreThan task others pairs = (pair : Pair) × Contains pairs pair × BarsMore (length task.atoms) others pair

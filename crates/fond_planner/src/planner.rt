@@ -1,7 +1,7 @@
 //! The planner: a policy in the making, and where its rules come from.
 
 ghost use Rattle.fond_draft.specs.Drafts.{IsDraft};
-ghost use Rattle.fond_planner.specs.Planners.{IsPlanner};
+ghost use Rattle.fond_planner.specs.Planners.{BarsMoreThan, IsPlanner};
 ghost use Rattle.fond_draft.specs.Plans.{ArePlans};
 ghost use Rattle.fond_game.specs.Certificates.{LiesInLayers};
 ghost use Rattle.std.specs.Prelude.{◌≡◌, true, length, IfOk, OnOk};
@@ -145,10 +145,11 @@ impl<S: Source> Planner<S> {
     }
 
     /// Heeds the fresh pairs of the draft, and drops all rules. If there are none, a sketch missed a state without a rule, and no
-    /// more are made.
+    /// more are made: as long as some are made, a pair bars an action in a state in which no pair of the last round did.
     pub(crate) fn begin_again(&mut self, alloc: Global, t: &Task) -> Result<(), NoMemory>
         requires { IsPlanner t.now self.old }
-        ensures { OnOk result (IsPlanner t.now self.new) }
+        ensures planner { OnOk result (IsPlanner t.now self.new) }
+        ensures more { OnOk result (self.new.sketches ≡ true → BarsMoreThan t.now self.old.draft.pairs self.new.draft.pairs) }
     {
         self.sketches = !self.draft.fresh.is_empty();
         self.draft.heed_fresh(alloc, t)?;

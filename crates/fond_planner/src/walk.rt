@@ -13,7 +13,7 @@ ghost use Rattle.fond_game.specs.declared.rule.Pair.{Pair};
 ghost use Rattle.fond_layers.specs.Deads.{IsFirstDead};
 ghost use Rattle.fond_layers.specs.Over.{AreOver};
 ghost use Rattle.fond_regress.specs.Barred.{Bars, IsBarred};
-ghost use Rattle.std.specs.Prelude.{◌≡◌, ◌<◌, ◌≤◌, false, true, length, Contains, IfOk, OnOk};
+ghost use Rattle.std.specs.Prelude.{◌≡◌, ◌<◌, ◌≤◌, ◌++◌, false, true, length, Contains, IfOk, OnOk};
 
 use crate::find::Found;
 use crate::planner::Planner;
@@ -24,7 +24,6 @@ use fond_draft::draft::Draft;
 use fond_game::rule::Pair;
 use fond_layers::layers::Layers;
 use fond_policy::walk::one_state;
-use fond_regress::barred::is_barred;
 use fond_regress::pair::lean_pair;
 use fond_state::state::State;
 use fond_store::store::Store;
@@ -115,16 +114,16 @@ fn pair_of(
     Ok(pair)
 }
 
-/// Bars the action of a step in its state by a fresh pair, unless one bars it already.
+/// Bars the action of a step in its state by a fresh pair, unless a pair bars it already, fresh or not.
 fn bar(alloc: Global, t: &Task, draft: &mut Draft, step: &Step) -> Result<(), NoMemory>
     requires draft { IsDraft t.now draft.old }
     requires step { IsStep t.now step.now }
     requires lies { LiesInLayers step.now.next draft.old.layers }
     ensures draft { OnOk result (IsDraft t.now draft.new) }
     ensures layers { draft.new.layers ≡ draft.old.layers }
-    ensures barred { OnOk result (IsBarred draft.new.fresh.items step.now.act step.now.state) }
+    ensures barred { OnOk result (IsBarred (draft.new.pairs ++ draft.new.fresh.items) step.now.act step.now.state) }
 {
-    if is_barred(draft.fresh.as_slice(), step.act, &step.state) {
+    if draft.bars(alloc, t, step.act, &step.state)? {
         return Ok(());
     }
     let Some((layer, cube)) = draft.layers.dead(&step.next) else {

@@ -1,8 +1,9 @@
-use Rattle.std.proofs.Common.{◌≡◌, ◌∙◌, ◌<◌, List, Bool, length, Some, [], get_or, slice_get, refl, sym, subst, arith}
-use Rattle.std.proofs.lemmas.Option.{same_Some, slice_get-get_or}
+use Rattle.std.proofs.Common.{◌≡◌, ◌∙◌, ◌<◌, List, Bool, length, Some, [], get_or, slice_get, refl, sym, ap, subst, ⊎_elim, arith}
+use Rattle.std.proofs.lemmas.Bool.{cases_lt, false≢true}
+use Rattle.std.proofs.lemmas.Option.{same_Some, slice_get-get_or, slice_get_within}
 use Rattle.fond_task.specs.declared.task.Act.{Act}
 use Rattle.fond_policy.proofs.Walking.{few_outcomes}
-use Rattle.fond_game.proofs.Lists.{Contains_numbered}
+use Rattle.fond_game.proofs.Lists.{Contains_numbered, number_of}
 use Rattle.fond_draft.specs.Targets.{IsCovered}
 use Rattle.fond_draft.proofs.Turned.{turn_long, turn_there}
 use Rattle.fond_draft.proofs.turn.is_some_covered.Goals as goal
@@ -30,3 +31,24 @@ returns-then-is_covered-clause-covered c = λ yes act at.
       Contains_numbered act.outcomes k entries (subst (λ (a : Act). slice_get a.outcomes k ≡ Some entries) same there),
       subst (λ (s : List Bool). IsCovered c.args.t.now c.args.rules.now s) (c.apply_into.ensures.next own entries c.get.ensures there) (c.if-is_covered.ensures.0 refl),
     )
+
+pub loop-outcome-preserved : goal.loop-outcome-preserved
+loop-outcome-preserved c = record {
+  long = c.apply_into.ensures.same_length ∙ c.loop-outcome.invariant.long;
+  none = λ act number entries at small is. ⊎_elim
+      (λ lt. c.loop-outcome.invariant.none act number entries at lt is)
+      (λ ge covered.
+      let same : number ≡ c.loop-outcome.outcome = omega (arith, small, ge) in
+      let here : slice_get act.outcomes c.loop-outcome.outcome ≡ Some entries = ap (slice_get act.outcomes) (sym same) ∙ is in
+      false≢true (c.if-is_covered.ensures.1 (subst (λ (s : List Bool). IsCovered c.args.t.now c.args.rules.now s) (sym (c.apply_into.ensures.next act entries at here)) covered)))
+      (cases_lt number c.loop-outcome.outcome);
+}
+
+pub returns-clause-none : goal.returns-clause-none
+returns-clause-none c = λ no act entries at has.
+    let own = c.get.result.now in
+    let same : own ≡ act = same_Some own act (sym c.get.ensures ∙ at) in
+    let one = number_of act.outcomes entries has in
+    let within : one.0 < length act.outcomes = slice_get_within act.outcomes one.0 entries one.1 in
+    let all : length own.outcomes ≡ length act.outcomes = ap (λ (a : Act). length a.outcomes) same in
+    c.loop-outcome.invariant.none act one.0 entries at (omega (arith, within, all, c.loop-outcome-test.false, c.len-outcome-end.ensures)) one.1

@@ -1,11 +1,12 @@
-use Rattle.std.proofs.Common.{◌≡◌, ◌∙◌, ◌<◌, List, [], ◌∷◌, length, slice_get, sym, ap, subst, ⊎_elim, arith}
-use Rattle.std.proofs.lemmas.Bool.{cases_lt}
-use Rattle.std.proofs.lemmas.List.Elements.{Contains-append_left, Contains-append_right}
-use Rattle.std.proofs.lemmas.Option.{same_Some, slice_get_within}
+use Rattle.std.proofs.Common.{◌≡◌, ◌∙◌, ◌<◌, ◌≤◌, ◌+◌, List, [], ◌∷◌, ◌++◌, length, take, sym, ap, subst, arith}
+use Rattle.std.proofs.lemmas.List.{append_assoc, append-nil, take_all}
+use Rattle.std.proofs.Math.Seq.{take-suc}
+use native.Mathlib.Numerals.{unary_clauses}
 use Rattle.std.specs.Prelude.{Contains}
-use Rattle.fond_game.proofs.Lists.{Contains_numbered, Contains-here, number_of}
+use Rattle.fond_game.proofs.Lists.{Contains_numbered}
 use Rattle.fond_game.specs.declared.rule.Pair.{Pair}
 use Rattle.fond_game.specs.declared.rule.Rule.{Rule}
+use Rattle.fond_draft.specs.Barring.{EachBarsMore}
 use Rattle.fond_draft.specs.Drafts.{AreFitting, AreLeanRules, IsFitting}
 use Rattle.fond_draft.proofs.Fitting.{fitting_more}
 use Rattle.fond_draft.proofs.Lists.{read_at}
@@ -18,9 +19,12 @@ loop-at-preserved c =
     let inv = c.loop-at.invariant in
     let layers = c.loop-at.self.layers in
     let items = c.loop-at.self.fresh.items in
+    let before = c.args.self.now.pairs in
     let own = c.index.result.now in
     let within : c.loop-at.at < length items = omega (arith, c.loop-at-test.true, c.len-at-end.ensures, ap (λ fresh. length fresh.items) inv.same) in
     let fits : IsFitting task layers own = inv.fresh own (Contains_numbered items c.loop-at.at own (read_at items c.loop-at.at own within c.index.ensures)) in
+    let grown : take (c.loop-at.at + 1) items ≡ take c.loop-at.at items ++ c.in_ok-pair.pair ∷ [] =
+    simp unary_clauses (take-suc items c.loop-at.at own within) ∙ ap (λ (p : Pair). take c.loop-at.at items ++ p ∷ []) (sym c.index.ensures ∙ sym c.in_ok-pair.ensures) in
     record {
       over = inv.over;
       sure = inv.sure;
@@ -29,22 +33,16 @@ loop-at-preserved c =
       fresh = inv.fresh;
       rules = inv.rules;
       same = inv.same;
-      moved = λ number pair small is. subst (λ (pairs : List Pair). Contains pairs pair) (sym c.in_ok-push.ensures.ok) (⊎_elim
-          (λ lt. Contains-append_left c.loop-at.self.pairs (c.in_ok-pair.pair ∷ []) pair (inv.moved number pair lt is))
-          (λ ge.
-          let same : number ≡ c.loop-at.at = omega (arith, small, ge) in
-          let own_is : c.in_ok-pair.pair ≡ pair = c.in_ok-pair.ensures ∙ same_Some own pair (sym (read_at items c.loop-at.at own within c.index.ensures) ∙ ap (slice_get items) (sym same) ∙ is) in
-          Contains-append_right c.loop-at.self.pairs (c.in_ok-pair.pair ∷ []) pair (subst (λ (p : Pair). Contains (c.in_ok-pair.pair ∷ []) p) own_is (Contains-here c.in_ok-pair.pair [])))
-          (cases_lt number c.loop-at.at));
+      moved = c.in_ok-push.ensures.ok ∙ ap (λ (pairs : List Pair). pairs ++ c.in_ok-pair.pair ∷ []) inv.moved
+          ∙ append_assoc before (take c.loop-at.at items) (c.in_ok-pair.pair ∷ []) ∙ ap (λ (more : List Pair). before ++ more) (sym grown);
     }
 
 pub returns-clause-moved : goal.returns-clause-moved
-returns-clause-moved c = λ pair has.
+returns-clause-moved c =
     let inv = c.loop-at.invariant in
     let items = c.loop-at.self.fresh.items in
-    let at = number_of items pair (subst (λ fresh. Contains fresh.items pair) (sym inv.same) has) in
-    let within = slice_get_within items at.0 pair at.1 in
-    inv.moved at.0 pair (omega (arith, within, c.loop-at-test.false, c.len-at-end.ensures, ap (λ fresh. length fresh.items) inv.same)) at.1
+    let end : length items ≤ c.loop-at.at = omega (arith, c.loop-at-test.false, c.len-at-end.ensures, ap (λ fresh. length fresh.items) inv.same) in
+    inv.moved ∙ ap (λ (more : List Pair). c.args.self.now.pairs ++ more) (take_all c.loop-at.at items end ∙ ap (λ fresh. fresh.items) inv.same)
 
 pub returns-clause-none : goal.returns-clause-none
 returns-clause-none c = c.clear.ensures.items
@@ -52,10 +50,17 @@ returns-clause-none c = c.clear.ensures.items
 pub returns-clause-draft : goal.returns-clause-draft
 returns-clause-draft c =
     let inv = c.loop-at.invariant in
+    let task = c.args.t.now in
+    let pairs = c.loop-at.self.pairs in
+    let items = c.loop-at.self.fresh.items in
+    let end : length items ≤ c.loop-at.at = omega (arith, c.loop-at-test.false, c.len-at-end.ensures, ap (λ fresh. length fresh.items) inv.same) in
+    let moved : pairs ≡ c.args.self.now.pairs ++ c.args.self.now.fresh.items =
+    inv.moved ∙ ap (λ (more : List Pair). c.args.self.now.pairs ++ more) (take_all c.loop-at.at items end ∙ ap (λ fresh. fresh.items) inv.same) in
     record {
       over = inv.over;
       sure = inv.sure;
       pairs = inv.pairs;
       fresh = λ pair has. absurd (omega (arith, (subst (λ (items : List Pair). Contains items pair) c.clear.ensures.items has).1));
-      rules = subst (λ (rules : List Rule). AreLeanRules c.args.t.now c.loop-at.self.pairs rules) (sym inv.rules) (lean_none c.args.t.now c.loop-at.self.pairs);
+      more = subst (EachBarsMore (length task.atoms)) (sym moved ∙ sym (append-nil pairs) ∙ ap (λ (fresh : List Pair). pairs ++ fresh) (sym c.clear.ensures.items)) c.requires.more;
+      rules = subst (λ (rules : List Rule). AreLeanRules task pairs rules) (sym inv.rules) (lean_none task pairs);
     }

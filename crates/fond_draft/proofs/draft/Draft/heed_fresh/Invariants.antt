@@ -1,12 +1,10 @@
-use Rattle.std.proofs.Common.{◌≡◌, ◌<◌, ℕ, [], Some, length, slice_get}
-use Rattle.std.specs.Prelude.{Contains}
-use Rattle.fond_game.specs.declared.rule.Pair.{Pair}
+use Rattle.std.proofs.Common.{◌≡◌, ◌++◌, [], length, take}
 use Rattle.fond_game.specs.Layers.{AreSureLayers}
 use Rattle.fond_layers.specs.Over.{AreOver}
 use Rattle.fond_draft.specs.Drafts.{AreFitting}
 use Rattle.fond_draft.proofs.draft.Draft.heed_fresh.Given as goal
 
--- the pairs so far fit the layers, and so do the fresh ones, of which the first are among them
+-- the pairs so far fit the layers, and so do the fresh ones, of which the first were added to the pairs
 abbrev pub invariant-loop-at : goal.invariant-loop-at
 invariant-loop-at l = record {
   over : AreOver (length l.t.atoms) l.self.layers;
@@ -15,5 +13,5 @@ invariant-loop-at l = record {
   fresh : AreFitting l.t l.self.layers l.self.fresh.items;
   rules : l.self.rules ≡ [];
   same : l.self.fresh ≡ l.initial.self.fresh;
-  moved : (number : ℕ) (pair : Pair) → number < l.at → slice_get l.self.fresh.items number ≡ Some pair → Contains l.self.pairs pair;
+  moved : l.self.pairs ≡ l.initial.self.pairs ++ take l.at l.self.fresh.items;
 }

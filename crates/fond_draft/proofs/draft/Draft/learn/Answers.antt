@@ -14,6 +14,7 @@ returns-then-len-eq0-clause-draft c =
       sure = stuck.2.sure;
       pairs = fitting_none task old.layers c.args.layers none old.pairs c.requires.draft.pairs;
       fresh = fitting_none task old.layers c.args.layers none old.fresh.items c.requires.draft.fresh;
+      more = c.requires.draft.more;
       rules = c.requires.draft.rules;
     }
 
@@ -27,5 +28,6 @@ returns-clause-draft c =
       sure = told.sure;
       pairs = fitting_kept c.args.t.now old new told.kept c.args.self.now.pairs c.requires.draft.pairs;
       fresh = fitting_kept c.args.t.now old new told.kept c.args.self.now.fresh.items c.requires.draft.fresh;
+      more = c.requires.draft.more;
       rules = c.requires.draft.rules;
     }

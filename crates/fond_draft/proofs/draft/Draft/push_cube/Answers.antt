@@ -1,6 +1,6 @@
 use Rattle.std.proofs.Common.{◌≡◌, ◌<◌, ◌^◌, ◌∙◌, [], ◌∷◌, ◌++◌, List, true, length, sym, ap, subst, arith}
-use Rattle.std.specs.Prelude.{IfOk}
-use Rattle.fond_game.specs.Layers.{CubeView}
+use Rattle.std.specs.Prelude.{Decides, IfOk}
+use Rattle.fond_game.specs.Layers.{CubeView, IsSureLayer}
 use Rattle.fond_layers.specs.Over.{IsOver}
 use Rattle.fond_draft.proofs.Lists.{only_one}
 use Rattle.fond_draft.proofs.draft.Draft.push_cube.Goals as goal
@@ -20,3 +20,8 @@ pub returns-clause-kept : goal.returns-clause-kept
 returns-clause-kept c =
     let one : c.push.new.self ≡ c.args.cube ∷ [] = c.in_ok-push.ensures.ok ∙ ap (λ cubes. cubes ++ c.args.cube ∷ []) c.new-layer.ensures in
     subst (λ (layer : List CubeView). IfOk c.push_layer.result (λ kept. kept ≡ true → c.push_layer.new.self.layers ≡ c.args.self.now.layers ++ layer ∷ [])) one c.push_layer.ensures.kept
+
+pub returns-clause-decides : goal.returns-clause-decides
+returns-clause-decides c =
+    let one : c.push.new.self ≡ c.args.cube ∷ [] = c.in_ok-push.ensures.ok ∙ ap (λ cubes. cubes ++ c.args.cube ∷ []) c.new-layer.ensures in
+    subst (λ (layer : List CubeView). IfOk c.push_layer.result (λ kept. Decides kept (IsSureLayer c.args.t.now c.args.self.now.layers layer))) one c.push_layer.ensures.decides

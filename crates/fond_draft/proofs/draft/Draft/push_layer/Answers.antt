@@ -1,4 +1,4 @@
-use Rattle.std.proofs.Common.{◌≡◌, ◌∙◌, ℕ, [], ◌∷◌, ◌++◌, List, Some, length, slice_get, sym, ap, subst}
+use Rattle.std.proofs.Common.{◌≡◌, ◌∙◌, ℕ, [], ◌∷◌, ◌++◌, List, Some, length, slice_get, refl, sym, ap, subst}
 use Rattle.std.proofs.lemmas.Bool.{false≢true}
 use Rattle.std.proofs.lemmas.List.Elements.{All-push}
 use Rattle.fond_game.specs.Layers.{CubeView}
@@ -23,11 +23,18 @@ returns-in-Ok-clause-draft c =
       sure = c.in-Ok.ensures.sure c.requires.draft.sure;
       pairs = fitting_kept task old new kept draft.pairs c.requires.draft.pairs;
       fresh = fitting_kept task old new kept draft.fresh.items c.requires.draft.fresh;
+      more = c.requires.draft.more;
       rules = c.requires.draft.rules;
     }
 
-pub returns : goal.returns
-returns c = record {
-  draft = subst (λ (layers : List (List CubeView)). IsDraft c.args.t.now (record c.args.self.now { layers = layers })) (sym c.in-Err.ensures.err) c.requires.draft;
-  kept = λ yes. absurd (false≢true yes);
-}
+pub returns-in-Ok-clause-decides : goal.returns-in-Ok-clause-decides
+returns-in-Ok-clause-decides c = (λ yes. c.in-Ok.ensures.ok.1, λ sure. refl)
+
+pub returns-clause-draft : goal.returns-clause-draft
+returns-clause-draft c = subst (λ (layers : List (List CubeView)). IsDraft c.args.t.now (record c.args.self.now { layers = layers })) (sym c.in-Err.ensures.err) c.requires.draft
+
+pub returns-clause-kept : goal.returns-clause-kept
+returns-clause-kept c = λ yes. absurd (false≢true yes)
+
+pub returns-clause-decides : goal.returns-clause-decides
+returns-clause-decides c = (λ yes. absurd (false≢true yes), λ sure. absurd (c.in_ok-unless_full-in-Err.ensures c.args.t.now c.args.self.now.layers c.args.layer c.in-Err.ensures.fault sure))
