@@ -11,6 +11,8 @@ mod cover_tests;
 #[cfg(test)]
 mod decide_tests;
 #[cfg(test)]
+mod draft_tests;
+#[cfg(test)]
 mod edge_tests;
 #[cfg(test)]
 mod exec_tests;

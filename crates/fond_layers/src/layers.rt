@@ -6,7 +6,7 @@ ghost use Rattle.fond_layers.specs.Deads.{IsFirstDead};
 ghost use Rattle.fond_layers.specs.Faults.{IsSpot, IsLayerFault};
 ghost use Rattle.fond_layers.specs.Over.{IsOver, AreOver};
 ghost use Rattle.fond_state.specs.Cubes.{LiesIn};
-ghost use Rattle.std.specs.Prelude.{◌≡◌, ◌<◌, ◌-◌, ◌^◌, List, [], ◌∷◌, ◌++◌, length, take, slice_get, Some, Contains, Decides, MatchOption, IfErr, OnOk, OnErr};
+ghost use Rattle.std.specs.Prelude.{◌≡◌, ◌<◌, ◌-◌, ◌^◌, List, [], ◌∷◌, ◌++◌, length, take, slice_get, Some, Contains, All, Decides, MatchOption, IfErr, OnOk, OnErr};
 
 use crate::fault::{LayerFault, Spot};
 use crate::indexed::Indexed;
@@ -67,6 +67,14 @@ impl Layers {
         ensures { result ≡ length self.now }
     {
         self.items.len() as u32
+    }
+
+    /// Tells a caller what the type keeps: there are fewer than 2^32 layers, each of fewer than 2^32 cubes. Does nothing.
+    pub fn read_sizes(&self)
+        ensures few { length self.now < 2 ^ 32 }
+        ensures few_cubes { All (λ layer. length layer < 2 ^ 32) self.now }
+    {
+        let _ = &self.items;
     }
 
     /// The layer of this number.

@@ -33,16 +33,6 @@ pub enum Decision {
     Undecided,
 }
 
-/// Reads the layers, whose type keeps that each has fewer than 2^32 cubes.
-fn read_sizes(layers: &Layers)
-    ensures few { length layers.now < 2 ^ 32 }
-    ensures few_cubes { All (λ layer. length layer < 2 ^ 32) layers.now }
-{
-    for at in 0..layers.len() {
-        let _layer = layers.get(at);
-    }
-}
-
 /// Reads the number of rules, whose type keeps that it is below 2^32.
 fn read_count(rules: &Rules)
     ensures { length rules.now < 2 ^ 32 }
@@ -56,7 +46,7 @@ fn refusal_of(t: &Task, draft: Draft) -> Cert
     requires lies { LiesInLayers t.now.init draft.layers }
     ensures { IsGoodCert t.now result }
 {
-    read_sizes(&draft.layers);
+    draft.layers.read_sizes();
     Cert::Refusal {
         layers: draft.layers,
     }
@@ -68,7 +58,7 @@ fn policy_of(t: &Task, draft: Draft, covering: Covering) -> Cert
     requires covering { IsCovering t.now draft.rules covering.items covering.start }
     ensures { IsGoodCert t.now result }
 {
-    read_sizes(&draft.layers);
+    draft.layers.read_sizes();
     read_count(&draft.rules);
     Cert::Covered {
         layers: draft.layers,
