@@ -16,7 +16,7 @@ use Rattle.fond_game.specs.declared.rule.Target.{Target as RuleTarget}
 use Rattle.fond_game.specs.declared.rule.Target.TheVariants.{Goal, Rule as ToRule}
 use Rattle.fond_policy.specs.Sizes.{IsSmallTarget}
 use Rattle.fond_form.specs.Lines.{group_text, is_number, is_target, AreWords}
-use Rattle.fond_form.specs.Forms.{Field, text_of, form, IsRight, value_text, AreRight, line_text, IsProper}
+use Rattle.fond_form.specs.Forms.{Field, text_of, form, IsProperValue, value_text, AreProperValues, line_text, IsProper}
 use Rattle.fond_form.specs.declared.table.LineKind.{LineKind}
 use Rattle.fond_form.specs.declared.table.Sort.{Sort}
 use Rattle.fond_form.specs.declared.table.Sort.TheVariants.{Nothing, Action, Short, Long, Target, Shorts, Targets, Literals}
@@ -124,7 +124,7 @@ same_act task act other there other_there e =
     cc
 
 module _ (task : Task) where
-  pub spelled_right : (sort : Sort) (meaning : Meaning sort) → IsOfTask task sort meaning → IsRight sort (spelled task sort meaning)
+  pub spelled_right : (sort : Sort) (meaning : Meaning sort) → IsOfTask task sort meaning → IsProperValue sort (spelled task sort meaning)
   spelled_right Nothing meaning of = tt
   spelled_right Action act of = act_group task act of
   spelled_right Short n of = short_right n of
@@ -158,7 +158,7 @@ module _ (task : Task) where
   spelled_same Targets targets others of other_of e = same_words IsSmallTarget target_word same_target targets others of.1 other_of.1 e
   spelled_same Literals cube other of other_of e = same_cube task cube other of other_of e
 
-  pub all_right : (fields : List Field) (meanings : Meanings fields) → AreOfTask task fields meanings → AreRight fields (all_spelled task fields meanings)
+  pub all_right : (fields : List Field) (meanings : Meanings fields) → AreOfTask task fields meanings → AreProperValues fields (all_spelled task fields meanings)
   all_right [] meanings of = tt
   all_right (field ∷ fields) meanings of = (spelled_right field.1 meanings.0 of.0, all_right fields meanings.1 of.1)
 

@@ -7,20 +7,20 @@ use Rattle.fond_task.specs.Numbers.{atom_number}
 use Rattle.fond_cert.specs.declared.values.LineValues.{LineValues}
 use Rattle.fond_form.specs.declared.table.Sort.{Sort}
 use Rattle.fond_form.specs.Lines.{group_text, WrittenLiteral, AreProper, literals_text}
-use Rattle.fond_form.specs.Forms.{Field, Value, IsRight, value_text, Values, AreRight, fields_text}
+use Rattle.fond_form.specs.Forms.{Field, Value, IsProperValue, value_text, Values, AreProperValues, fields_text}
 use Rattle.fond_cert.specs.Filled.{with_meaning, with_meanings}
 use Rattle.fond_cert.specs.Spellings.{Meaning, spelled, IsOfTask, Meanings, all_spelled, AreOfTask}
 use Rattle.fond_cert.specs.Words.{Refused, value_refusal, is_ordered, refusal_or_order, fields_refusal, literals_refusal, atom_numbers, is_increasing}
 
--- a text is that of a right value of a sort
+-- a text is that of a proper value of a sort
 abbrev pub IsValueText : Sort → List ℕ → Type 0
-IsValueText sort text = (value : Value sort) × IsRight sort value × (text ≡ value_text sort value)
+IsValueText sort text = (value : Value sort) × IsProperValue sort value × (text ≡ value_text sort value)
 
 -- a meaning is read from the text of a value that begins at this byte of a line: the value is not refused, its atoms are in order, the
 -- meaning belongs to the task, and the value that spells it has this text
 pub record Means (task : Task) (at : ℕ) (sort : Sort) (text : List ℕ) (meaning : Meaning sort) : Type 0 where
   pub value : Value sort
-  pub right : IsRight sort value
+  pub right : IsProperValue sort value
   pub text_is : text ≡ value_text sort value
   pub clean : value_refusal task at sort value ≡ None
   pub ordered : is_ordered task sort value ≡ true
@@ -30,7 +30,7 @@ pub record Means (task : Task) (at : ℕ) (sort : Sort) (text : List ℕ) (meani
 -- the text of a value that begins at this byte of a line has this refusal, by the value or by the order of its atoms
 pub record IsValueRefused (task : Task) (at : ℕ) (sort : Sort) (text : List ℕ) (refused : Refused) : Type 0 where
   pub value : Value sort
-  pub right : IsRight sort value
+  pub right : IsProperValue sort value
   pub text_is : text ≡ value_text sort value
   pub wrong : refusal_or_order (value_refusal task at sort value) (is_ordered task sort value) ≡ Some refused
 
@@ -41,7 +41,7 @@ IsFilled task at sort text before after = (meaning : Meaning sort) × Means task
 -- meanings are read from the text of fields that begins at this byte of a line
 pub record AllMean (task : Task) (at : ℕ) (fields : List Field) (text : List ℕ) (meanings : Meanings fields) : Type 0 where
   pub values : Values fields
-  pub right : AreRight fields values
+  pub right : AreProperValues fields values
   pub text_is : text ≡ fields_text fields values
   pub clean : fields_refusal task at fields values ≡ None
   pub of : AreOfTask task fields meanings
@@ -54,7 +54,7 @@ AreFilled task at fields text before after = (meanings : Meanings fields) × All
 -- the text of fields that begins at this byte of a line has this refusal
 pub record AreFieldsRefused (task : Task) (at : ℕ) (fields : List Field) (text : List ℕ) (refused : Refused) : Type 0 where
   pub values : Values fields
-  pub right : AreRight fields values
+  pub right : AreProperValues fields values
   pub text_is : text ≡ fields_text fields values
   pub wrong : fields_refusal task at fields values ≡ Some refused
 

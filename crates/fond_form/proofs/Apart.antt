@@ -3,7 +3,7 @@ use Rattle.std.proofs.Common.{◌≡◌, ℕ, ◌==◌, ◌&&◌, not, ◌⊎◌
 use Rattle.std.specs.Char.{is_ascii_digit}
 use Rattle.std.proofs.lemmas.Bool.{and_parts}
 use Rattle.std.proofs.lemmas.Bool.Decides.{nat_tests}
-use Rattle.fond_form.specs.Forms.{Field, text_of, form, Value, IsRight, value_text, Values, AreRight, fields_text, HasForm, Line, line_text, IsProper}
+use Rattle.fond_form.specs.Forms.{Field, text_of, form, Value, IsProperValue, value_text, Values, AreProperValues, fields_text, HasForm, Line, line_text, IsProper}
 use Rattle.fond_form.specs.declared.table.LineKind.{LineKind}
 use Rattle.fond_form.specs.declared.table.LineKind.TheVariants as k
 use Rattle.fond_form.specs.declared.table.Sort.{Sort}
@@ -41,7 +41,7 @@ not_true true e f = absurd (cc)
 not_true false e f = absurd (cc)
 
 -- a number begins with a digit
-digit_first : (s : Sort) → is_one_number s ≡ true → (v : Value s) → IsRight s v → (y : ℕ) (rest b : List ℕ) → not (is_ascii_digit y) ≡ true → value_text s v ++ rest ≡ y ∷ b → ⊥
+digit_first : (s : Sort) → is_one_number s ≡ true → (v : Value s) → IsProperValue s v → (y : ℕ) (rest b : List ℕ) → not (is_ascii_digit y) ≡ true → value_text s v ++ rest ≡ y ∷ b → ⊥
 digit_first Short n [] right y rest b wrong e = absurd (cc)
 digit_first Short n (d ∷ v) right y rest b wrong e = not_true (is_ascii_digit y) wrong (ap is_ascii_digit (sym (same_head d y _ b e)) ∙ (number_first d v right).0)
 digit_first Long n [] right y rest b wrong e = absurd (cc)
@@ -53,7 +53,7 @@ digit_first Shorts n v right y rest b wrong e = absurd (cc)
 digit_first Targets n v right y rest b wrong e = absurd (cc)
 digit_first Literals n v right y rest b wrong e = absurd (cc)
 
-module _ (s t : Sort) (v : Value s) (w : Value t) (right : IsRight s v) (other_right : IsRight t w) (m n : List ℕ) (more : Bool) where
+module _ (s t : Sort) (v : Value s) (w : Value t) (right : IsProperValue s v) (other_right : IsProperValue t w) (m n : List ℕ) (more : Bool) where
   -- texts that begin with equal bytes go on with equal texts, and others differ
   differ_at : (x y : ℕ) (a b : List ℕ) (same : Bool) → (x == y) ≡ same → (if same then apart_texts a b s t more else true) ≡ true → (x ∷ a) ++ (value_text s v ++ m) ≡ (y ∷ b) ++ (value_text t w ++ n) →
       (apart_texts a b s t more ≡ true → a ++ (value_text s v ++ m) ≡ b ++ (value_text t w ++ n) → ⊥) → ⊥
@@ -66,13 +66,13 @@ module _ (s t : Sort) (v : Value s) (w : Value t) (right : IsRight s v) (other_r
   differ_texts (x ∷ a) [] h e after = let parts = and_parts (is_one_number t) (not (is_ascii_digit x)) h in digit_first t parts.0 w other_right x n (a ++ (value_text s v ++ m)) parts.1 (sym e)
   differ_texts (x ∷ a) (y ∷ b) h e after = differ_at x y a b (x == y) refl h e (λ k f. differ_texts a b k f after)
 
-after_actions : (s t : Sort) (more : Bool) → (is_action s && is_action t && more) ≡ true → (v : Value s) (w : Value t) → IsRight s v → IsRight t w → (m n : List ℕ) →
+after_actions : (s t : Sort) (more : Bool) → (is_action s && is_action t && more) ≡ true → (v : Value s) (w : Value t) → IsProperValue s v → IsProperValue t w → (m n : List ℕ) →
     (more ≡ true → m ≡ n → ⊥) → ¬ value_text s v ++ m ≡ value_text t w ++ n
 after_actions Action Action more h v w right other_right m n go e = go h (same_group v w m n right other_right e).1
 after_actions s t more h v w right other_right m n go e = absurd (cc)
 
 -- no text has two forms that are apart
-differ : (fields others : List Field) → apart fields others ≡ true → (values : Values fields) (other_values : Values others) → AreRight fields values → AreRight others other_values →
+differ : (fields others : List Field) → apart fields others ≡ true → (values : Values fields) (other_values : Values others) → AreProperValues fields values → AreProperValues others other_values →
     ¬ fields_text fields values ≡ fields_text others other_values
 differ [] others h values other_values right other_right e = absurd (cc)
 differ (field ∷ fields) [] h values other_values right other_right e = absurd (cc)
@@ -104,7 +104,7 @@ line_of kind values = record { kind = kind; values = values }
 
 -- the line that a text is, if it is one of this kind
 abbrev IsOnly : Line → LineKind → Type 0
-IsOnly line kind = (values : Values (form kind)) → AreRight (form kind) values → line_text line ≡ fields_text (form kind) values → line ≡ line_of kind values
+IsOnly line kind = (values : Values (form kind)) → AreProperValues (form kind) values → line_text line ≡ fields_text (form kind) values → line ≡ line_of kind values
 
 only_own : (line : Line) → IsProper line → IsOnly line line.kind
 only_own line right values other_right e = ap (line_of line.kind) (same_values (form line.kind) (clear line.kind) line.values values right other_right e)

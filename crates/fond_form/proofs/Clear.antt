@@ -5,7 +5,7 @@ use Rattle.std.proofs.lemmas.List.{append_cancel_left}
 use borrow.Author.Tests.{eqb-true}
 use Rattle.fond_form.specs.Lines.{is_number, is_target}
 use Rattle.fond_form.specs.Parts.{EndsWord, HasNoWord}
-use Rattle.fond_form.specs.Forms.{Field, text_of, form, Value, IsRight, value_text, Values, AreRight, fields_text, HasForm}
+use Rattle.fond_form.specs.Forms.{Field, text_of, form, Value, IsProperValue, value_text, Values, AreProperValues, fields_text, HasForm}
 use Rattle.fond_form.specs.Cutting.{Ends, HasNoField, IsFieldOf, is_space_first, is_colon_first, is_ended, is_clear}
 use Rattle.fond_form.specs.declared.part.Part.{Part}
 use Rattle.fond_form.specs.declared.table.LineKind.{LineKind}
@@ -18,7 +18,7 @@ use Rattle.fond_form.proofs.Sames.{same_value}
 nothing_more : (test : List ℕ → Bool) → HasNoWord test []
 nothing_more test word rest h ends e = absurd (cc)
 
-ends_by_space : (text : List ℕ) (sort : Sort) → is_space_first text sort ≡ true → (value : Value sort) → IsRight sort value → (rest : List ℕ) → EndsWord (text ++ (value_text sort value ++ rest))
+ends_by_space : (text : List ℕ) (sort : Sort) → is_space_first text sort ≡ true → (value : Value sort) → IsProperValue sort value → (rest : List ℕ) → EndsWord (text ++ (value_text sort value ++ rest))
 ends_by_space (b ∷ text) _ e value right rest = eqb-true b 32 e
 ends_by_space [] Shorts e [] right rest = absurd (omega (arith, right.0))
 ends_by_space [] Shorts e (word ∷ words) right rest = refl
@@ -42,7 +42,7 @@ module _ (test : List ℕ → Bool) (none : (l : List ℕ) → HasNoWord test (c
       (space, rw (space, colon) (none (text ++ rest)))
 
 -- a value ends before the fields that follow it
-pub ended : (sort : Sort) (fields : List Field) → is_ended sort fields ≡ true → (values : Values fields) → AreRight fields values → Ends sort (fields_text fields values)
+pub ended : (sort : Sort) (fields : List Field) → is_ended sort fields ≡ true → (values : Values fields) → AreProperValues fields values → Ends sort (fields_text fields values)
 ended Action fields e values right = tt
 ended Nothing [] e values right = refl
 ended Short [] e values right = tt
@@ -76,7 +76,7 @@ clear k.Start = refl
 clear k.End = refl
 
 -- fields of one text have the same values
-pub same_values : (fields : List Field) → is_clear fields ≡ true → (values others : Values fields) → AreRight fields values → AreRight fields others → fields_text fields values ≡ fields_text fields others → values ≡ others
+pub same_values : (fields : List Field) → is_clear fields ≡ true → (values others : Values fields) → AreProperValues fields values → AreProperValues fields others → fields_text fields values ≡ fields_text fields others → values ≡ others
 same_values [] c values others h k e = refl
 same_values (field ∷ fields) c values others h k e =
     let parts = and_parts (is_ended field.1 fields) (is_clear fields) c in
@@ -101,7 +101,7 @@ module _ (field : Field) (fields : List Field) (c : is_clear (field ∷ fields) 
     )
 
     -- the values of the fields from the one that was cut on
-    pub first_is : (values : Values (field ∷ fields)) → AreRight (field ∷ fields) values → rest.text.now ≡ fields_text (field ∷ fields) values →
+    pub first_is : (values : Values (field ∷ fields)) → AreProperValues (field ∷ fields) values → rest.text.now ≡ fields_text (field ∷ fields) values →
         (found.value ≡ values.0) × (next.text.now ≡ fields_text fields values.1)
     first_is values right e =
         same_value field.1 found.value values.0 next.text.now (fields_text fields values.1) found.right right.0 found.ends

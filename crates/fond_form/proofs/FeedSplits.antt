@@ -10,7 +10,7 @@ use Rattle.fond_form.specs.Feeds.{is_in_line, HasNoFeed}
 use Rattle.std.specs.Str.{bytes_eq}
 use Rattle.std.proofs.lemmas.Slice.Eq.{bytes_eq-Decides}
 use Rattle.fond_form.specs.Lines.{is_plain_byte, IsPlainLeaf, IsGroup, spaced, group_text, is_number, is_target, AreWords, WrittenLiteral, AreProper, sign_text, literal_text, literals_text}
-use Rattle.fond_form.specs.Forms.{Field, text_of, form, Value, IsRight, value_text, Values, AreRight, fields_text, Line, line_text, IsProper}
+use Rattle.fond_form.specs.Forms.{Field, text_of, form, Value, IsProperValue, value_text, Values, AreProperValues, fields_text, Line, line_text, IsProper}
 use Rattle.fond_form.specs.declared.table.Sort.{Sort}
 use Rattle.fond_form.specs.declared.table.Sort.TheVariants.{Nothing, Action, Short, Long, Target, Shorts, Targets, Literals}
 use Rattle.fond_form.specs.declared.table.Text.{Text}
@@ -79,7 +79,7 @@ module _ (test : List ℕ → Bool) (each : (word : List ℕ) → IsTrue (test w
       let P = λ (word : List ℕ). IsTrue (test word) in
       no_feed_append (codes " " ++ word) (spaced words) (no_feed_append (codes " ") word refl (each word (All-head P word words h))) (words_no_feed words (All-tail P word words h))
 
-value_no_feed : (sort : Sort) (value : Value sort) → IsRight sort value → HasNoFeed (value_text sort value)
+value_no_feed : (sort : Sort) (value : Value sort) → IsProperValue sort value → HasNoFeed (value_text sort value)
 value_no_feed Nothing value h = refl
 value_no_feed Action value h = group_no_feed value h
 value_no_feed Short value h = number_no_feed value h
@@ -108,7 +108,7 @@ text_no_feed t.Space = refl
 text_no_feed t.Colon = refl
 text_no_feed t.Empty = refl
 
-fields_no_feed : (fields : List Field) (values : Values fields) → AreRight fields values → HasNoFeed (fields_text fields values)
+fields_no_feed : (fields : List Field) (values : Values fields) → AreProperValues fields values → HasNoFeed (fields_text fields values)
 fields_no_feed [] values h = refl
 fields_no_feed (field ∷ fields) values h =
     no_feed_append (text_of field.0) (value_text field.1 values.0 ++ fields_text fields values.1) (text_no_feed field.0)

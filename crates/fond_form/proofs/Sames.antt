@@ -6,7 +6,7 @@ use Rattle.std.proofs.lemmas.Bool.{and_parts}
 use Rattle.std.proofs.lemmas.List.{append-nil}
 use Rattle.std.proofs.lemmas.List.Elements.{All-head, All-tail}
 use Rattle.fond_form.specs.Lines.{is_plain_byte, IsPlainLeaf, IsGroup, spaced, group_text, is_number, is_target, WrittenLiteral, AreProper, literal_text}
-use Rattle.fond_form.specs.Forms.{Value, IsRight, value_text}
+use Rattle.fond_form.specs.Forms.{Value, IsProperValue, value_text}
 use Rattle.fond_form.specs.Cutting.{Ends}
 use Rattle.fond_form.specs.declared.table.Sort.{Sort}
 use Rattle.fond_form.specs.declared.table.Sort.TheVariants.{Nothing, Action, Short, Long, Target, Shorts, Targets, Literals}
@@ -81,7 +81,7 @@ to_end : (text rest : List ℕ) → rest ≡ [] → text ++ rest ≡ text
 to_end text rest e = ap (λ t. text ++ t) e ∙ append-nil text
 
 -- texts that begin with values of one sort, each up to where it ends, have the same value and the same rest
-pub same_value : (sort : Sort) (v w : Value sort) (s t : List ℕ) → IsRight sort v → IsRight sort w → Ends sort s → Ends sort t → value_text sort v ++ s ≡ value_text sort w ++ t → (v ≡ w) × (s ≡ t)
+pub same_value : (sort : Sort) (v w : Value sort) (s t : List ℕ) → IsProperValue sort v → IsProperValue sort w → Ends sort s → Ends sort t → value_text sort v ++ s ≡ value_text sort w ++ t → (v ≡ w) × (s ≡ t)
 same_value Nothing v w s t h k i j e = (refl, e)
 same_value Action v w s t h k i j e = same_group v w s t h k e
 same_value Short v w s t h k i j e = same_word v w s t (number_no_space v h) (number_no_space w k) i j e

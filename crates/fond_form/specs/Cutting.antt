@@ -2,7 +2,7 @@
 use Rattle.std.specs.Prelude.{◌≡◌, ◌≢◌, ◌==◌, ◌&&◌, ℕ, ◌<◌, ◌+◌, Bool, true, false, List, [], ◌∷◌, ◌++◌, length, ⊤}
 use Rattle.fond_form.specs.Lines.{is_number, is_target, AreWords, spaced}
 use Rattle.fond_form.specs.Parts.{EndsWord, HasNoWord}
-use Rattle.fond_form.specs.Forms.{Field, text_of, Value, IsRight, value_text}
+use Rattle.fond_form.specs.Forms.{Field, text_of, Value, IsProperValue, value_text}
 use Rattle.fond_form.specs.declared.part.Part.{Part}
 use Rattle.fond_form.specs.declared.table.Sort.{Sort}
 use Rattle.fond_form.specs.declared.table.Sort.TheVariants.{Nothing, Action, Short, Long, Target, Shorts, Targets, Literals}
@@ -18,14 +18,14 @@ Ends Shorts rest = EndsWord rest × HasNoWord is_number rest
 Ends Targets rest = EndsWord rest × HasNoWord is_target rest
 Ends Literals rest = rest ≡ []
 
--- a text does not begin with a right value of a sort that ends there
+-- a text does not begin with a proper value of a sort that ends there
 abbrev pub HasNoValue : Sort → List ℕ → Type 0
-HasNoValue sort text = (value : Value sort) (rest : List ℕ) → IsRight sort value → Ends sort rest → text ≢ value_text sort value ++ rest
+HasNoValue sort text = (value : Value sort) (rest : List ℕ) → IsProperValue sort value → Ends sort rest → text ≢ value_text sort value ++ rest
 
--- a text is a right value of a sort and a rest at which the value ends
+-- a text is a proper value of a sort and a rest at which the value ends
 pub record BeginsWith (sort : Sort) (text front rest : List ℕ) : Type 0 where
   pub value : Value sort
-  pub right : IsRight sort value
+  pub right : IsProperValue sort value
   pub front_is : front ≡ value_text sort value
   pub ends : Ends sort rest
   pub split : text ≡ front ++ rest
@@ -46,12 +46,12 @@ pub record BeginsWithWords (test : List ℕ → Bool) (text front rest : List �
 
 -- a rest does not begin with a field
 abbrev pub HasNoField : Field → List ℕ → Type 0
-HasNoField field rest = (value : Value field.1) (more : List ℕ) → IsRight field.1 value → Ends field.1 more → rest ≢ text_of field.0 ++ (value_text field.1 value ++ more)
+HasNoField field rest = (value : Value field.1) (more : List ℕ) → IsProperValue field.1 value → Ends field.1 more → rest ≢ text_of field.0 ++ (value_text field.1 value ++ more)
 
--- a rest begins with a field: with its text, and a right value that ends where the further rest begins; each has its place
+-- a rest begins with a field: with its text, and a proper value that ends where the further rest begins; each has its place
 pub record IsFieldOf (field : Field) (rest part next : Part) : Type 0 where
   pub value : Value field.1
-  pub right : IsRight field.1 value
+  pub right : IsProperValue field.1 value
   pub part_is : part.text.now ≡ value_text field.1 value
   pub ends : Ends field.1 next.text.now
   pub split : rest.text.now ≡ text_of field.0 ++ (part.text.now ++ next.text.now)

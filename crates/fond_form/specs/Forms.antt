@@ -63,17 +63,17 @@ Value Shorts = List (List ℕ)
 Value Targets = List (List ℕ)
 Value Literals = List WrittenLiteral
 
--- a value is right: an action and each atom is a group of plain leaves, numbers are numbers, targets are targets, and of several there
+-- a value is proper: an action and each atom is a group of plain leaves, numbers are numbers, targets are targets, and of several there
 -- is at least one
-abbrev pub IsRight : (sort : Sort) → Value sort → Type 0
-IsRight Nothing value = ⊤
-IsRight Action leaves = IsGroup leaves
-IsRight Short digits = IsTrue (is_number digits)
-IsRight Long digits = IsTrue (is_number digits)
-IsRight Target word = IsTrue (is_target word)
-IsRight Shorts words = (0 < length words) × AreWords is_number words
-IsRight Targets words = (0 < length words) × AreWords is_target words
-IsRight Literals literals = AreProper literals
+abbrev pub IsProperValue : (sort : Sort) → Value sort → Type 0
+IsProperValue Nothing value = ⊤
+IsProperValue Action leaves = IsGroup leaves
+IsProperValue Short digits = IsTrue (is_number digits)
+IsProperValue Long digits = IsTrue (is_number digits)
+IsProperValue Target word = IsTrue (is_target word)
+IsProperValue Shorts words = (0 < length words) × AreWords is_number words
+IsProperValue Targets words = (0 < length words) × AreWords is_target words
+IsProperValue Literals literals = AreProper literals
 
 -- the bytes of a value
 abbrev pub value_text : (sort : Sort) → Value sort → List ℕ
@@ -91,19 +91,19 @@ abbrev pub Values : List Field → Type 0
 Values [] = ⊤
 Values (field ∷ fields) = Value field.1 × Values fields
 
--- the values of fields are right
-abbrev pub AreRight : (fields : List Field) → Values fields → Type 0
-AreRight [] values = ⊤
-AreRight (field ∷ fields) values = IsRight field.1 values.0 × AreRight fields values.1
+-- the values of fields are proper
+abbrev pub AreProperValues : (fields : List Field) → Values fields → Type 0
+AreProperValues [] values = ⊤
+AreProperValues (field ∷ fields) values = IsProperValue field.1 values.0 × AreProperValues fields values.1
 
 -- the bytes of fields with these values
 abbrev pub fields_text : (fields : List Field) → Values fields → List ℕ
 fields_text [] values = []
 fields_text (field ∷ fields) values = text_of field.0 ++ (value_text field.1 values.0 ++ fields_text fields values.1)
 
--- a text has a form: it is that of the form's fields with right values
+-- a text has a form: it is that of the form's fields with proper values
 abbrev pub HasForm : List Field → List ℕ → Type 0
-HasForm fields text = (values : Values fields) × AreRight fields values × (text ≡ fields_text fields values)
+HasForm fields text = (values : Values fields) × AreProperValues fields values × (text ≡ fields_text fields values)
 
 -- a line as it is written, without its line feed: its kind, and the values of its fields
 pub record Line : Type 0 where
@@ -114,6 +114,6 @@ pub record Line : Type 0 where
 abbrev pub line_text : Line → List ℕ
 line_text line = fields_text (form line.kind) line.values
 
--- a line is proper if the values of its fields are right
+-- a line is proper if the values of its fields are
 abbrev pub IsProper : Line → Type 0
-IsProper line = AreRight (form line.kind) line.values
+IsProper line = AreProperValues (form line.kind) line.values
