@@ -1,5 +1,6 @@
 -- What follows from a state being on the way of a plan.
-use Rattle.std.proofs.Common.{◌≡◌, ℕ, ◌<◌, List, [], ◌∷◌, ◌++◌, Bool, true, Some, length, slice_get, sym, ◌∙◌, subst, ⊎_elim}
+use Rattle.std.proofs.Common.{◌≡◌, ℕ, ◌<◌, ◌≤◌, List, [], ◌∷◌, ◌++◌, Bool, true, Some, length, slice_get, sym, ◌∙◌, subst, ⊎_elim, arith}
+use Rattle.std.specs.Prelude.{Contains}
 use Rattle.std.proofs.lemmas.List.Elements.{Contains-append_left, Contains-append_right, Contains-push_cases}
 use Rattle.std.proofs.lemmas.Option.{same_Some, slice_get_within}
 use Rattle.fond_play.specs.Games.{onward}
@@ -8,7 +9,7 @@ use Rattle.fond_task.specs.Truth.{is_true}
 use Rattle.fond_task.specs.declared.task.Act.{Act}
 use Rattle.fond_task.specs.declared.task.Entry.{Entry}
 use Rattle.fond_task.specs.declared.task.Task.{Task}
-use Rattle.fond_game.proofs.Lists.{Contains-here, Contains_numbered}
+use Rattle.fond_game.proofs.Lists.{Contains-here, Contains_numbered, number_of}
 use Rattle.fond_game.specs.Policies.{IsApplicable}
 use Rattle.fond_explicit.specs.Answers.{ChoiceView, IsReachable}
 use Rattle.fond_draft.specs.Turns.{AreReachable, IsTurn, LeadsFrom}
@@ -64,3 +65,9 @@ fewer_reached task states state all other has = all other (Contains-append_left 
 
 pub last_reached : (task : Task) (states : List (List Bool)) (state : List Bool) → AreReachable task (states ++ state ∷ []) → IsReachable task task.init state
 last_reached task states state all = all state (Contains-append_right states (state ∷ []) state (Contains-here state []))
+
+-- what holds of the elements of a list by their numbers up to the end holds of all
+pub of_all : {X : Type 0} (P : X → Type 0) (xs : List X) (end : ℕ) → length xs ≤ end → ((number : ℕ) (x : X) → number < end → slice_get xs number ≡ Some x → P x) → (x : X) → Contains xs x → P x
+of_all P xs end past each x has =
+    let one = number_of xs x has in
+    each one.0 x (omega (arith, slice_get_within xs one.0 x one.1, past)) one.1

@@ -1,11 +1,11 @@
 use Rattle.std.proofs.Common.{◌≡◌, ◌∙◌, ◌<◌, List, Bool, length, Some, [], get_or, slice_get, refl, sym, ap, subst, ⊎_elim, arith}
 use Rattle.std.proofs.lemmas.Bool.{cases_lt}
-use Rattle.std.proofs.lemmas.Option.{same_Some, slice_get-get_or, slice_get_within}
+use Rattle.std.proofs.lemmas.Option.{same_Some, slice_get-get_or}
+use Rattle.fond_task.specs.Steps.{next_state}
 use Rattle.fond_task.specs.declared.task.Act.{Act}
 use Rattle.fond_policy.proofs.Walking.{few_outcomes}
-use Rattle.fond_game.proofs.Lists.{number_of}
 use Rattle.fond_draft.specs.Targets.{IsCovered}
-use Rattle.fond_draft.proofs.Turned.{turn_long, turn_there}
+use Rattle.fond_draft.proofs.Turned.{of_all, turn_long, turn_there}
 use Rattle.fond_draft.proofs.turn.first_open.Goals as goal
 
 pub overflow_cast-outcome : goal.overflow_cast-outcome
@@ -48,9 +48,6 @@ loop-outcome-preserved c = record {
 
 pub returns-clause-covered : goal.returns-clause-covered
 returns-clause-covered c = λ none act entries at has.
-    let own = c.get.result.now in
-    let same : own ≡ act = same_Some own act (sym c.get.ensures ∙ at) in
-    let one = number_of act.outcomes entries has in
-    let within : one.0 < length act.outcomes = slice_get_within act.outcomes one.0 entries one.1 in
-    let all : length own.outcomes ≡ length act.outcomes = ap (λ (a : Act). length a.outcomes) same in
-    c.loop-outcome.invariant.covered act one.0 entries at (omega (arith, within, all, c.loop-outcome-test.false, c.len-outcome-end.ensures)) one.1
+    let all : length c.get.result.now.outcomes ≡ length act.outcomes = ap (λ (a : Act). length a.outcomes) (same_Some c.get.result.now act (sym c.get.ensures ∙ at)) in
+    of_all (λ entries. IsCovered c.args.t.now c.args.rules.now (next_state c.args.turn.now.state entries)) act.outcomes c.loop-outcome.outcome (omega (arith, all, c.loop-outcome-test.false, c.len-outcome-end.ensures))
+    (λ number one. c.loop-outcome.invariant.covered act number one at) entries has
