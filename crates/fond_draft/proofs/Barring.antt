@@ -9,6 +9,7 @@ use Rattle.std.proofs.lemmas.Option.{none-some, slice_get_within}
 use Rattle.std.proofs.Math.Seq.{take-append_seam}
 use Rattle.fond_state.specs.Cubes.{full_cube, lies_in}
 use Rattle.fond_state.proofs.Tested.{lies_in-Decides}
+use Rattle.fond_task.specs.declared.task.Task.{Task}
 use Rattle.fond_game.specs.declared.rule.Pair.{Pair}
 use Rattle.fond_game.proofs.Lists.{Contains-cases, Contains-here, Contains-later}
 use Rattle.fond_regress.specs.Barred.{Bars, IsBarred}
@@ -19,24 +20,24 @@ use Rattle.fond_draft.proofs.Lists.{push_cases}
 use Rattle.fond_draft.proofs.Unlost.{opposes}
 
 -- of no pairs each bars more
-pub more_none : (atoms : ℕ) → EachBarsMore atoms []
-more_none atoms number pair at = absurd (none-some pair at)
+pub more_none : (task : Task) → EachBarsMore task []
+more_none task number pair at = absurd (none-some pair at)
 
 -- each bars more with one more at the end that does
-pub more_pushed : (atoms : ℕ) (pairs : List Pair) (pair : Pair) → EachBarsMore atoms pairs → BarsMore atoms pairs pair → EachBarsMore atoms (pairs ++ pair ∷ [])
-more_pushed atoms pairs pair each more number one at = ⊎_elim
+pub more_pushed : (task : Task) (pairs : List Pair) (pair : Pair) → EachBarsMore task pairs → BarsMore task pairs pair → EachBarsMore task (pairs ++ pair ∷ [])
+more_pushed task pairs pair each more number one at = ⊎_elim
     (λ was.
     let within : number ≤ length pairs = omega (arith, slice_get_within pairs number one was) in
-    subst (λ (others : List Pair). BarsMore atoms others one) (sym (take-append-le number pairs (pair ∷ []) within)) (each number one was))
+    subst (λ (others : List Pair). BarsMore task others one) (sym (take-append-le number pairs (pair ∷ []) within)) (each number one was))
     (λ last.
     let before : take number (pairs ++ pair ∷ []) ≡ pairs = ap (λ n. take n (pairs ++ pair ∷ [])) last.0 ∙ take-append_seam pairs (pair ∷ []) in
-    subst (λ (p : Pair). BarsMore atoms (take number (pairs ++ pair ∷ [])) p) last.1 (subst (λ (others : List Pair). BarsMore atoms others pair) (sym before) more))
+    subst (λ (p : Pair). BarsMore task (take number (pairs ++ pair ∷ [])) p) last.1 (subst (λ (others : List Pair). BarsMore task others pair) (sym before) more))
     (push_cases pairs pair number one at)
 
 -- the first pair after others bars more than they do
-pub more_first : (atoms : ℕ) (pairs more : List Pair) (pair : Pair) → EachBarsMore atoms (pairs ++ pair ∷ more) → BarsMore atoms pairs pair
-more_first atoms pairs more pair each =
-    subst (λ (others : List Pair). BarsMore atoms others pair) (take-append_seam pairs (pair ∷ more)) (each (length pairs) pair (first_after pairs))
+pub more_first : (task : Task) (pairs more : List Pair) (pair : Pair) → EachBarsMore task (pairs ++ pair ∷ more) → BarsMore task pairs pair
+more_first task pairs more pair each =
+    subst (λ (others : List Pair). BarsMore task others pair) (take-append_seam pairs (pair ∷ more)) (each (length pairs) pair (first_after pairs))
   where
     first_after : (xs : List Pair) → slice_get (xs ++ pair ∷ more) (length xs) ≡ Some pair
     first_after [] = refl

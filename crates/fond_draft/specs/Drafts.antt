@@ -34,7 +34,7 @@ pub record IsDraft (task : Task) (draft : Draft) : Type 0 where
   pub sure : AreSureLayers task draft.layers
   pub pairs : AreFitting task draft.layers draft.pairs
   pub fresh : AreFitting task draft.layers draft.fresh.items
-  pub more : EachBarsMore (length task.atoms) (draft.pairs ++ draft.fresh.items)
+  pub more : EachBarsMore task (draft.pairs ++ draft.fresh.items)
   pub rules : AreLeanRules task draft.pairs draft.rules
 
 -- a draft has become another one of the task, in which a rule holds in a state, and in each state in which one held

@@ -61,7 +61,7 @@ impl Draft {
         ensures kept { IfOk result (λ learnt. learnt ≡ true → self.new.layers ≡ self.old.layers ++ layer ∷ []) }
         ensures decides { IfOk result (λ learnt. Decides learnt (MayComeNext t.now self.old.layers layer)) }
     {
-        if layer.len() >= u32::MAX as usize {
+        if layer.len() > u32::MAX as usize {
             return Ok(false);
         }
         if !is_over(&layer, t.atoms.len()) {

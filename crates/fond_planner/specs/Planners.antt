@@ -1,5 +1,5 @@
 -- Planners: the draft of a policy, and the plans that are kept for its rules; pairs of which one bars more than others.
-use Rattle.std.specs.Prelude.{List, length, Contains}
+use Rattle.std.specs.Prelude.{List, Contains}
 use Rattle.fond_task.specs.declared.task.Task.{Task}
 use Rattle.fond_game.specs.declared.rule.Pair.{Pair}
 use Rattle.fond_draft.specs.Barring.{BarsMore}
@@ -12,6 +12,6 @@ pub record IsPlanner {S : Type 0} (task : Task) (planner : Planner S) : Type 0 w
   pub draft : IsDraft task planner.draft
   pub plans : ArePlans task planner.plans.items
 
--- one of these pairs bars its action in a state in which none of the others does
+-- one of these pairs bars its action in a reachable state in which none of the others does
 abbrev pub BarsMoreThan : Task → List Pair → List Pair → Type 0
-BarsMoreThan task others pairs = (pair : Pair) × Contains pairs pair × BarsMore (length task.atoms) others pair
+BarsMoreThan task others pairs = (pair : Pair) × Contains pairs pair × BarsMore task others pair

@@ -145,7 +145,7 @@ impl<S: Source> Planner<S> {
     }
 
     /// Heeds the fresh pairs of the draft, and drops all rules. If there are none, a sketch missed a state without a rule, and no
-    /// more are made: as long as some are made, a pair bars an action in a state in which no pair of the last round did.
+    /// more are made: as long as some are made, a pair bars an action in a reachable state in which no pair of the last round did.
     pub(crate) fn begin_again(&mut self, alloc: Global, t: &Task) -> Result<(), NoMemory>
         requires { IsPlanner t.now self.old }
         ensures planner { OnOk result (IsPlanner t.now self.new) }

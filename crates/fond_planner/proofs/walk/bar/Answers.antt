@@ -1,4 +1,4 @@
-use Rattle.std.proofs.Common.{◌≡◌, ◌∙◌, ◌++◌, ℕ, List, [], ◌∷◌, length, refl, sym, ap, subst}
+use Rattle.std.proofs.Common.{◌≡◌, ◌∙◌, ◌++◌, ℕ, List, [], ◌∷◌, sym, ap, subst}
 use Rattle.std.specs.Prelude.{Contains}
 use Rattle.std.proofs.lemmas.Bool.{false≢true}
 use Rattle.std.proofs.lemmas.List.{append_assoc}
@@ -33,9 +33,9 @@ returns-clause-draft c =
       pairs = c.requires.draft.pairs;
       fresh = subst (λ (pairs : List Pair). AreFitting task draft.layers pairs) (sym c.in_ok-push.ensures.items)
           (fitting_more task draft.layers draft.fresh.items pair c.requires.draft.fresh c.in_ok-pair.ensures.fitting);
-      more = subst (EachBarsMore (length task.atoms)) grown
-          (more_pushed (length task.atoms) old pair c.requires.draft.more
-          (record { state = step.state; long = state_long task step c.requires.step; lies = c.in_ok-pair.ensures.bars.1; free = free }));
+      more = subst (EachBarsMore task) grown
+          (more_pushed task old pair c.requires.draft.more
+          (record { state = step.state; reachable = c.requires.step.outset.reachable; lies = c.in_ok-pair.ensures.bars.1; free = free }));
       rules = c.requires.draft.rules;
     }
 

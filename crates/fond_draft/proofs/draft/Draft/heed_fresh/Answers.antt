@@ -61,6 +61,6 @@ returns-clause-draft c =
       sure = inv.sure;
       pairs = inv.pairs;
       fresh = λ pair has. absurd (omega (arith, (subst (λ (items : List Pair). Contains items pair) c.clear.ensures.items has).1));
-      more = subst (EachBarsMore (length task.atoms)) (sym moved ∙ sym (append-nil pairs) ∙ ap (λ (fresh : List Pair). pairs ++ fresh) (sym c.clear.ensures.items)) c.requires.more;
+      more = subst (EachBarsMore task) (sym moved ∙ sym (append-nil pairs) ∙ ap (λ (fresh : List Pair). pairs ++ fresh) (sym c.clear.ensures.items)) c.requires.more;
       rules = subst (λ (rules : List Rule). AreLeanRules task pairs rules) (sym inv.rules) (lean_none task pairs);
     }
