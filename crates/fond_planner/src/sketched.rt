@@ -25,7 +25,7 @@ use std::alloc::Global;
 /// A walk along a sketch: the sketch, the states of its nodes by their numbers, and a step that is overwritten.
 #[derive(Drop)]
 pub(crate) struct Trail {
-    sketch: Sketch,
+    sketch: Box<Sketch>,
     states: Store,
     step: Step,
 }
@@ -52,11 +52,17 @@ pub(crate) enum Sketched {
     Past,
 }
 
+/// A sketch without rules and nodes, in a box.
+fn new_sketch(alloc: Global, t: &Task) -> Result<Box<Sketch>, NoMemory> {
+    let sketch = Sketch::new(alloc, t)?;
+    Ok(Box::new(alloc, sketch)?)
+}
+
 /// A trail that has not begun: its only state is the initial one.
 fn trail_of(alloc: Global, t: &Task) -> Result<Trail, NoMemory>
     ensures { IfOk result (IsTrail t.now) }
 {
-    let sketch = Sketch::new(alloc, t)?;
+    let sketch = new_sketch(alloc, t)?;
     let states = one_state(alloc, &t.init)?;
     let step = first_step(alloc, t)?;
     Ok(Trail {
@@ -178,6 +184,31 @@ impl<S: Source> Planner<S> {
         Ok(Followed::GaveUp)
     }
 
+    /// Walks along a trail that has not begun, as `walk_sketch` does.
+    fn walk_trail(
+        &mut self,
+        alloc: Global,
+        t: &Task,
+        budget: u32,
+        trail: &mut Trail,
+    ) -> Result<Sketched, NoMemory>
+        requires few { budget ≤ 1000000 }
+        requires planner { IsPlanner t.now self.old }
+        requires trail { IsTrail t.now trail.old }
+        ensures planner { OnOk result (IsPlanner t.now self.new) }
+        ensures past { IfOk result (λ sketched. sketched ≡ IsPastSketch → IsPast t.now budget) }
+    {
+        self.tell(&mut trail.sketch)?;
+        if !trail.sketch.begin(t)? {
+            return Ok(Sketched::GaveUp);
+        }
+        match self.follow_all(alloc, t, budget, trail)? {
+            Followed::On => Ok(Sketched::Walked(trail.sketch.items(alloc)?)),
+            Followed::GaveUp => Ok(Sketched::GaveUp),
+            Followed::Past => Ok(Sketched::Past),
+        }
+    }
+
     /// Walks along a sketch from the initial state, which is a goal or has a rule, and settles each state that it meets in which no
     /// rule holds and that is no goal: rules are added, or a fresh pair bars the action that led there.
     pub(crate) fn walk_sketch(
@@ -192,14 +223,6 @@ impl<S: Source> Planner<S> {
         ensures past { IfOk result (λ sketched. sketched ≡ IsPastSketch → IsPast t.now budget) }
     {
         let mut trail = trail_of(alloc, t)?;
-        self.tell(&mut trail.sketch)?;
-        if !trail.sketch.begin(t)? {
-            return Ok(Sketched::GaveUp);
-        }
-        match self.follow_all(alloc, t, budget, &mut trail)? {
-            Followed::On => Ok(Sketched::Walked(trail.sketch.items(alloc)?)),
-            Followed::GaveUp => Ok(Sketched::GaveUp),
-            Followed::Past => Ok(Sketched::Past),
-        }
+        self.walk_trail(alloc, t, budget, &mut trail)
     }
 }
