@@ -5,7 +5,7 @@ ghost use Rattle.fond_ground.specs.Patterns.{blank, code, is_variable, leads, le
 ghost use Rattle.fond_lookup.specs.Texts.{number_beside};
 ghost use Rattle.fond_meaning.specs.Patterns.{IsUnfairWith};
 ghost use Rattle.std.specs.Bool.{Decides};
-ghost use Rattle.std.specs.Prelude.{◌≡◌, ◌<◌, ◌+◌, ◌++◌, IfOk, OnOk, is_some, length, map, position, true};
+ghost use Rattle.std.specs.Prelude.{◌≡◌, ◌<◌, ◌+◌, ◌++◌, [], IfOk, OnOk, is_some, length, map, position, true};
 
 use fond_ast::form::{LPatterns, LTerm};
 use fond_ast::task::LSchema;
@@ -181,19 +181,37 @@ fn file_shape(
 }
 
 impl<'a> Patterns<'a> {
-    /// Files the patterns of a schema. Takes time and memory in their length.
-    pub(crate) fn of(alloc: Global, all: &'a LPatterns) -> Result<Patterns<'a>, NoMemory>
-        ensures all { IfOk result (λ patterns. patterns.all.now ≡ all.now) }
-        ensures filed { IfOk result (λ patterns. AreFiled all.now (length all.now) patterns.codes patterns.shapes) }
+    /// Files the patterns, of which none is filed.
+    fn file_all(&mut self, alloc: Global) -> Result<(), NoMemory>
+        requires no_codes { self.old.codes ≡ [] }
+        requires no_shapes { self.old.shapes ≡ [] }
+        ensures same { self.new.all ≡ self.old.all }
+        ensures filed { OnOk result (AreFiled self.old.all.now (length self.old.all.now) self.new.codes self.new.shapes) }
     {
-        let mut codes = TupleIndex::new(alloc);
         let mut seen = TupleIndex::new(alloc);
-        let mut shapes = List::new(alloc);
-        for i in 0..all.len() {
-            file_shape(alloc, all, i, &mut seen, &mut shapes)?;
-            codes.insert(code_of(alloc, all.get(i).as_slice())?, 0)?;
+        for i in 0..self.all.len() {
+            file_shape(alloc, self.all, i, &mut seen, &mut self.shapes)?;
+            self.codes
+                .insert(code_of(alloc, self.all.get(i).as_slice())?, 0)?;
         }
-        Ok(Patterns { all, codes, shapes })
+        Ok(())
+    }
+
+    /// Files the patterns of a schema. Takes time and memory in their length.
+    pub(crate) fn of(alloc: Global, all: &'a LPatterns) -> Result<Box<Patterns<'a>>, NoMemory>
+        ensures all { IfOk result (λ patterns. patterns.value.all.now ≡ all.now) }
+        ensures filed { IfOk result (λ patterns. AreFiled all.now (length all.now) patterns.value.codes patterns.value.shapes) }
+    {
+        let mut patterns = Box::new(
+            alloc,
+            Patterns {
+                all,
+                codes: TupleIndex::new(alloc),
+                shapes: List::new(alloc),
+            },
+        )?;
+        patterns.file_all(alloc)?;
+        Ok(patterns)
     }
 
     /// Whether a pattern of the shape of one of them fits objects.

@@ -58,3 +58,12 @@ returns-in_err-act_of-clause-many c =
     (refuses_map (λ (fault : Fault). (fault ≡ at_domain c.args.schema.now.place TOO_MANY_OUTCOMES) × (has_few effect objects ≡ false))
     (λ (fault : Fault). (fault ≡ at_domain c.args.schema.now.place TOO_MANY_OUTCOMES) × (list_all (has_few effect) lists ≡ false))
     (λ fault h. (h.0, none_after (has_few effect) (drop i lists) objects (drop (i + 1) lists) _ split h.1 c.loop-objects.invariant.few)) _ c.in_err-act_of.ensures.many)
+
+pub returns-in_err-patterns-clause-many : goal.returns-in_err-patterns-clause-many
+returns-in_err-patterns-clause-many c = handed_on _ _ _ c.from_residual.ensures.1 tt
+
+pub returns-in_err-unfair-clause-many : goal.returns-in_err-unfair-clause-many
+returns-in_err-unfair-clause-many c = handed_on _ _ _ c.from_residual-in_err-unfair.ensures.1 tt
+
+pub returns-in_err-push-clause-many : goal.returns-in_err-push-clause-many
+returns-in_err-push-clause-many c = handed_on _ _ _ c.from_residual-in_err-push.ensures.1 tt
