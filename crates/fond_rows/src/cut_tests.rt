@@ -1,7 +1,7 @@
 //! Certificates that are cut off at each byte.
 
 use crate::rows::{CHECK, RUN, check_bytes};
-use crate::tasks::COIN_FILES;
+use crate::tasks::{Task, files_of};
 use fond_text::bytes::Bytes;
 use std::alloc::Global;
 use std::process::Abort;
@@ -25,7 +25,15 @@ fn check_line(
     (line, answer): (&str, &str),
 ) -> Result<(), Fail> {
     for byte in line.as_bytes() {
-        check_bytes(rt, alloc, words, COIN_FILES, cut.as_slice(), 7, answer)?;
+        check_bytes(
+            rt,
+            alloc,
+            words,
+            files_of(Task::Coin),
+            cut.as_slice(),
+            7,
+            answer,
+        )?;
         cut.push(*byte).map_err(|_| "byte")?;
     }
     Ok(())
@@ -51,7 +59,7 @@ fn cut_certificates_are_checked(rt: HostRuntime) -> Result<(), Fail> {
         &rt,
         rt.alloc(),
         &CHECK,
-        COIN_FILES,
+        files_of(Task::Coin),
         whole.as_slice(),
         0,
         "accepted policy lean\n",
@@ -65,7 +73,7 @@ fn cut_certificates_are_not_run(rt: HostRuntime) -> Result<(), Fail> {
         &rt,
         rt.alloc(),
         &RUN,
-        COIN_FILES,
+        files_of(Task::Coin),
         whole.as_slice(),
         8,
         "ended\nstate\n",

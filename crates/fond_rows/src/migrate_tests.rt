@@ -2,91 +2,91 @@
 //! fixed by them, and the rows tell the program's choice.
 
 use crate::rows::{COIN, COIN_P, MIGRATE, Row, check};
-use crate::tasks::{COIN_FILES, MIX_FILES, PIT_FILES, WON_FILES};
+use crate::tasks::{Task, files_of};
 use std::test::Fail;
 
 /// A name, the files of the task, a certificate, and the status and the text of the answer.
-const ROWS: [(&str, [&str; 3], &str, u8, &str); 12] = [
+const ROWS: [(&str, Task, &str, u8, &str); 12] = [
     (
         "a coin",
-        COIN_FILES,
+        Task::Coin,
         "dualfond 1 policy\nrule (flip) fair 0 goal :\nreach 2\nend\n",
         0,
         "dualfond 2 policy\nrule (flip) fair 0 goal :\nitem 0 1 0 :\nitem goal : +(heads)\nstart 0\nend\n",
     ),
     (
         "a goal that holds at once",
-        WON_FILES,
+        Task::Won,
         "dualfond 1 policy\nreach 1\nend\n",
         0,
         "dualfond 2 policy\nitem goal : +(heads)\nstart 0\nend\n",
     ),
     (
         "a rule with a literal too many keeps it, and so does its item",
-        COIN_FILES,
+        Task::Coin,
         "dualfond 1 policy\nrule (flip) fair 0 goal : -(heads)\nreach 2\nend\n",
         0,
         "dualfond 2 policy\nrule (flip) fair 0 goal : -(heads)\nitem 0 1 0 : -(heads)\nitem goal : +(heads)\nstart 0\nend\n",
     ),
     (
         "an opponent who picks one of two states",
-        MIX_FILES,
+        Task::Mix,
         "dualfond 1 policy\nrule (fixl) fair 0 goal : +(left)\nrule (fixr) fair 0 goal : +(right)\nrule (split) unfair 0 1 : +(ready)\nrule (try) fair 0 2 :\nreach 6\nend\n",
         0,
         "dualfond 2 policy\nrule (fixl) fair 0 goal : +(left)\nrule (fixr) fair 0 goal : +(right)\nrule (split) unfair 0 1 : +(ready)\nrule (try) fair 0 2 :\nitem 3 1 0 : -(ready) -(left) -(right)\nitem 2 2 3 : +(ready) -(left) -(right)\nitem 0 4 2 : +(left)\nitem 1 4 3 : -(left) +(right)\nitem goal : +(done)\nstart 0\nend\n",
     ),
     (
         "a refusal stays as it is",
-        PIT_FILES,
+        Task::Pit,
         "dualfond 1 refusal\nlayer\ncube -(g) +(pit)\nlayer\ncube -(g) -(pit)\nend\n",
         0,
         "dualfond 1 refusal\nlayer\ncube -(g) +(pit)\nlayer\ncube -(g) -(pit)\nend\n",
     ),
     (
         "a policy with a cover stays as it is",
-        COIN_FILES,
+        Task::Coin,
         "dualfond 2 policy\nrule (flip) fair 0 goal :\nitem 0 1 0 :\nitem goal : +(heads)\nstart 0\nend\n",
         0,
         "dualfond 2 policy\nrule (flip) fair 0 goal :\nitem 0 1 0 :\nitem goal : +(heads)\nstart 0\nend\n",
     ),
     (
         "a policy with a cover that is not lean stays as it is",
-        COIN_FILES,
+        Task::Coin,
         "dualfond 2 policy\nrule (flip) fair 0 goal :\nitem 0 1 0 : -(heads)\nitem goal : +(heads)\nstart 0\nend\n",
         0,
         "dualfond 2 policy\nrule (flip) fair 0 goal :\nitem 0 1 0 : -(heads)\nitem goal : +(heads)\nstart 0\nend\n",
     ),
     (
         "a wrong reach number",
-        COIN_FILES,
+        Task::Coin,
         "dualfond 1 policy\nrule (flip) fair 0 goal :\nreach 3\nend\n",
         7,
         "rejected V5 fewer\n",
     ),
     (
         "a rule that is not sure",
-        COIN_FILES,
+        Task::Coin,
         "dualfond 1 policy\nrule (flip) fair 1 goal :\nreach 2\nend\n",
         7,
         "rejected V1 rule 0\n",
     ),
     (
         "a start item that is not there",
-        COIN_FILES,
+        Task::Coin,
         "dualfond 2 policy\nrule (flip) fair 0 goal :\nitem 0 1 0 :\nitem goal : +(heads)\nstart 2\nend\n",
         7,
         "rejected V8\n",
     ),
     (
         "a refusal that is not sure",
-        PIT_FILES,
+        Task::Pit,
         "dualfond 1 refusal\nlayer\ncube -(g) -(pit)\nend\n",
         7,
         "rejected V3 layer 0 cube 0 (jump)\n",
     ),
     (
         "a text that is no certificate",
-        COIN_FILES,
+        Task::Coin,
         "dualfond 1 policy\nreach 2\n",
         7,
         "rejected C1 at 26\n",
@@ -95,7 +95,8 @@ const ROWS: [(&str, [&str; 3], &str, u8, &str); 12] = [
 
 #[test]
 fn certificates_are_migrated(rt: HostRuntime) -> Result<(), Fail> {
-    for (name, [domain, problem, side], cert, status, text) in ROWS {
+    for (name, task, cert, status, text) in ROWS {
+        let [domain, problem, side] = files_of(task);
         let row = Row {
             name,
             words: &MIGRATE,
