@@ -41,12 +41,11 @@ fn a_layer_without_cubes_is_sure(rt: HostRuntime) -> Result<(), Fail> {
 }
 
 #[test]
-fn no_pair_bars_the_coin(rt: HostRuntime) -> Result<(), Fail> {
+fn a_draft_without_fresh_pairs_heeds_none(rt: HostRuntime) -> Result<(), Fail> {
     let alloc = rt.alloc();
     let coin = ground_coin(alloc)?;
     let mut draft = Draft::new(alloc, &coin);
     draft.heed_fresh(alloc, &coin)?;
-    assert!(rt; !draft.bars(alloc, &coin, 0, &coin.init)?);
     assert_eq!(rt; draft.pairs.len(), 0);
     Ok(())
 }

@@ -159,7 +159,7 @@ later : (truth : Bool) (state : List Bool) (known : Option Bool) (cube : CubeVie
 later truth state known cube opposed = (suc opposed.0, opposed.1, opposed.2, opposed.3)
 
 -- the full cube of a state that does not lie in a cube of its length contradicts that cube
-pub opposes : (state : List Bool) (cube : CubeView) → length cube ≡ length state → ¬ LiesIn state cube → Contradicts (full_cube state) cube
+opposes : (state : List Bool) (cube : CubeView) → length cube ≡ length state → ¬ LiesIn state cube → Contradicts (full_cube state) cube
 opposes [] [] same out = absurd (out (λ atom sign is. absurd (none-some sign is)))
 opposes [] (known ∷ cube) same out = absurd (omega (arith, same))
 opposes (truth ∷ state) [] same out = absurd (omega (arith, same))

@@ -66,6 +66,7 @@ impl Draft {
         requires stuck { (from : List Bool) × (length from ≡ length t.now.atoms) × AreStuck t.now from layers }
         ensures draft { OnOk result (IsDraft t.now self.new) }
         ensures has { OnOk result ((state : List Bool) → LiesInLayers state layers → LiesInLayers state self.new.layers) }
+        ensures pairs { OnOk result (self.new.pairs ≡ self.old.pairs) }
     {
         if self.layers.len() == 0 {
             self.layers = layers;

@@ -40,6 +40,7 @@ impl Draft {
         ensures draft { OnOk result (IsDraft t.now self.new) }
         ensures kept { IfOk result (λ kept. kept ≡ true → self.new.layers ≡ self.old.layers ++ layer ∷ []) }
         ensures decides { IfOk result (λ kept. Decides kept (IsSureLayer t.now self.old.layers layer)) }
+        ensures pairs { OnOk result (self.new.pairs ≡ self.old.pairs) }
     {
         if self.layers.len() >= u32::MAX - 1 {
             return Err(NoMemory);
@@ -60,6 +61,7 @@ impl Draft {
         ensures draft { OnOk result (IsDraft t.now self.new) }
         ensures kept { IfOk result (λ learnt. learnt ≡ true → self.new.layers ≡ self.old.layers ++ layer ∷ []) }
         ensures decides { IfOk result (λ learnt. Decides learnt (MayComeNext t.now self.old.layers layer)) }
+        ensures pairs { OnOk result (self.new.pairs ≡ self.old.pairs) }
     {
         if layer.len() > u32::MAX as usize {
             return Ok(false);
@@ -77,6 +79,7 @@ impl Draft {
         ensures draft { OnOk result (IsDraft t.now self.new) }
         ensures kept { IfOk result (λ kept. kept ≡ true → self.new.layers ≡ self.old.layers ++ (cube ∷ []) ∷ []) }
         ensures decides { IfOk result (λ kept. Decides kept (IsSureLayer t.now self.old.layers (cube ∷ []))) }
+        ensures pairs { OnOk result (self.new.pairs ≡ self.old.pairs) }
     {
         let mut layer = Layer::new(alloc);
         layer.push(cube)?;
@@ -96,6 +99,7 @@ impl Draft {
         ensures draft { OnOk result (IsDraft t.now self.new) }
         ensures lies { IfOk result (λ learnt. learnt ≡ true → LiesInLayers state.now self.new.layers) }
         ensures decides { IfOk result (λ learnt. Decides learnt (IsDeadAround t.now self.old.layers state.now cube)) }
+        ensures pairs { OnOk result (self.new.pairs ≡ self.old.pairs) }
     {
         if cube.len() != t.atoms.len() {
             return Ok(false);
@@ -119,6 +123,7 @@ impl Draft {
         ensures draft { OnOk result (IsDraft t.now self.new) }
         ensures lies { IfOk result (λ learnt. learnt ≡ true → LiesInLayers state.now self.new.layers) }
         ensures decides { IfOk result (λ learnt. Decides learnt (IsHopeless t.now state.now)) }
+        ensures pairs { OnOk result (self.new.pairs ≡ self.old.pairs) }
     {
         match estimate(alloc, t, state)? {
             Guess::Never(cube) => self.learn_cube(alloc, t, state, cube),

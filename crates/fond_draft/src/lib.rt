@@ -4,7 +4,6 @@
 #![tactic(auto)]
 
 mod append;
-mod barred;
 mod below;
 pub mod draft;
 mod learn;

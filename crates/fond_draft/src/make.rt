@@ -39,6 +39,7 @@ pub fn add_rule(
     requires next_long { length next.old ≡ length t.now.atoms }
     ensures same_length { length next.new ≡ length next.old }
     ensures ruled { OnOk result (IsRuledIn t.now pick.now.state draft.old draft.new) }
+    ensures pairs { OnOk result (draft.new.pairs ≡ draft.old.pairs) }
 {
     if draft.rules.len() >= u32::MAX - 1 {
         return Err(NoMemory);
@@ -74,6 +75,7 @@ fn place(
     requires next_long { length next.old ≡ length t.now.atoms }
     ensures same_length { length next.new ≡ length next.old }
     ensures ruled { (choice : ChoiceView) → slice_get plan.now.choices number ≡ Some choice → OnOk result (IsRuledIn t.now choice.state draft.old draft.new) }
+    ensures pairs { OnOk result (draft.new.pairs ≡ draft.old.pairs) }
 {
     let pick = plan.choices.get(number);
     if draft.rules.select(&pick.state).is_some() {
@@ -98,6 +100,7 @@ fn place_all(
     ensures draft { OnOk result (IsDraft t.now draft.new) }
     ensures kept { OnOk result ((state : List Bool) → HasRule draft.old.rules state → HasRule draft.new.rules state) }
     ensures placed { OnOk result (HavePlaced plan.now.choices places.now (length places.now) draft.new.rules) }
+    ensures pairs { OnOk result (draft.new.pairs ≡ draft.old.pairs) }
 {
     for entry in places {
         place(alloc, t, draft, plan, entry.number, next)?;
@@ -138,6 +141,7 @@ pub fn make_rules(
     requires plan { IsPlan t.now plan.now }
     requires there { number < length plan.now.choices }
     ensures ruled { (choice : ChoiceView) → slice_get plan.now.choices number ≡ Some choice → OnOk result (IsRuledIn t.now choice.state draft.old draft.new) }
+    ensures pairs { OnOk result (draft.new.pairs ≡ draft.old.pairs) }
 {
     let places = places_below(alloc, t, &draft.rules, plan, number)?;
     let mut next = t.init.copy(alloc)?;

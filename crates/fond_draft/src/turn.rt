@@ -12,10 +12,10 @@ ghost use Rattle.fond_task.specs.declared.task.Act.{Act};
 ghost use Rattle.fond_task.specs.declared.task.Entry.{Entry};
 ghost use Rattle.std.specs.Prelude.{◌≡◌, ◌<◌, List, true, false, None, length, slice_get, Some, Contains, Decides, IfOk, IfSome};
 
-use crate::barred::is_unbarred;
 use crate::draft::Draft;
 use fond_explicit::answer::Pick;
 use fond_rules::rules::Rules;
+use fond_state::cube::Cube;
 use fond_state::state::State;
 use fond_task::step::apply_into;
 use fond_task::task::Task;
@@ -89,6 +89,16 @@ fn has_targets(t: &Task, rules: &Rules, turn: &Pick, next: &mut State) -> bool
     is_some_covered(t, rules, turn, next)
 }
 
+/// Whether no pair bars the action in the state.
+fn is_free(alloc: Global, t: &Task, draft: &Draft, turn: &Pick) -> Result<bool, NoMemory>
+    requires draft { IsDraft t.now draft.now }
+    requires turn { IsTurn t.now turn.now }
+    ensures { IfOk result (λ free. Decides free (AllContradict draft.now.pairs turn.now.act (full_cube turn.now.state))) }
+{
+    let cube = Cube::full(alloc, &turn.state)?;
+    Ok(draft.pairs.all_contradict(turn.act, &cube))
+}
+
 /// Whether a rule for the action can be made that holds in the state: the action has targets there, and no pair bars it. Takes
 /// the time of a search of the rules for each outcome, and that of the pairs of the action. `next` is overwritten.
 pub fn is_ready(
@@ -109,6 +119,6 @@ pub fn is_ready(
     if !has_targets(t, &draft.rules, turn, next) {
         return Ok(false);
     }
-    let free = is_unbarred(alloc, t, draft, turn.act, &turn.state)?;
+    let free = is_free(alloc, t, draft, turn)?;
     Ok(free)
 }

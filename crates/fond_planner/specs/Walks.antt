@@ -1,5 +1,5 @@
 -- Walks through the states that a draft's rules reach.
-use Rattle.std.specs.Prelude.{◌≡◌, ◌⊎◌, ◌++◌, List, Some, length, slice_get, IsTrue}
+use Rattle.std.specs.Prelude.{◌≡◌, ◌⊎◌, List, Some, length, slice_get, IsTrue}
 use Rattle.fond_task.specs.declared.task.Act.{Act}
 use Rattle.fond_task.specs.declared.task.Entry.{Entry}
 use Rattle.fond_task.specs.declared.task.Task.{Task}
@@ -37,6 +37,6 @@ pub record IsTrail (task : Task) (trail : Trail) : Type 0 where
   pub state_long : length trail.step.state ≡ length task.atoms
   pub next_long : length trail.step.next ≡ length task.atoms
 
--- the next state of a step is settled: a rule holds in it; or it lies in a layer, and a pair bars the action of the step, fresh or not
+-- the next state of a step is settled: a rule holds in it; or it lies in a layer, and a fresh pair bars the action of the step
 abbrev pub IsSettled : Task → Draft → Step → Type 0
-IsSettled task draft step = HasRule draft.rules step.next ⊎ (LiesInLayers step.next draft.layers × IsBarred (draft.pairs ++ draft.fresh.items) step.act step.state)
+IsSettled task draft step = HasRule draft.rules step.next ⊎ (LiesInLayers step.next draft.layers × IsBarred draft.fresh.items step.act step.state)

@@ -76,6 +76,7 @@ fn make_found(
     requires plans { ArePlans t.now plans.now }
     ensures draft { OnOk result (IsDraft t.now draft.new) }
     ensures ruled { IfOk result (λ found. found ≡ true → HasRule draft.new.rules state.now) }
+    ensures pairs { OnOk result (draft.new.pairs ≡ draft.old.pairs) }
 {
     for plan in plans {
         if let Some(number) = plan.states.find(state) {
@@ -100,6 +101,7 @@ fn make_won(
     requires winning { AreWinning t.now state.now plan.now.choices }
     ensures draft { OnOk result (IsDraft t.now draft.new) }
     ensures ruled { OnOk result (HasRule draft.new.rules state.now) }
+    ensures pairs { OnOk result (draft.new.pairs ≡ draft.old.pairs) }
 {
     let Some(number) = plan.states.find(state) else {
         unreachable!()
@@ -123,6 +125,7 @@ impl<S: Source> Planner<S> {
         requires winning { AreWinning t.now state.now choices }
         ensures planner { OnOk result (IsPlanner t.now self.new) }
         ensures ruled { OnOk result (HasRule self.new.draft.rules state.now) }
+        ensures pairs { OnOk result (self.new.draft.pairs ≡ self.old.draft.pairs) }
     {
         let plan = plan_of(alloc, t, choices)?;
         make_won(alloc, t, &mut self.draft, &plan, state)?;
@@ -144,6 +147,7 @@ impl<S: Source> Planner<S> {
         requires lies { LiesInLayers state.now layers }
         ensures planner { OnOk result (IsPlanner t.now self.new) }
         ensures lies { OnOk result (LiesInLayers state.now self.new.draft.layers) }
+        ensures pairs { OnOk result (self.new.draft.pairs ≡ self.old.draft.pairs) }
     {
         self.learn_lost(alloc, t, &layers)?;
         if self.draft.layers.dead(state).is_some() {
@@ -168,6 +172,7 @@ impl<S: Source> Planner<S> {
         ensures planner { OnOk result (IsPlanner t.now self.new) }
         ensures found { IfOk result (λ found. IfSome found (IsFound self.new.draft state.now)) }
         ensures past { IfOk result (λ found. found ≡ None → IsPast t.now budget) }
+        ensures pairs { OnOk result (self.new.draft.pairs ≡ self.old.draft.pairs) }
     {
         match solve(alloc, t, state, budget)? {
             Solved::Won(choices, _) => {
@@ -193,6 +198,7 @@ impl<S: Source> Planner<S> {
         requires long { length state.now ≡ length t.now.atoms }
         ensures planner { OnOk result (IsPlanner t.now self.new) }
         ensures found { IfOk result (λ found. IfSome found (IsFound self.new.draft state.now)) }
+        ensures pairs { OnOk result (self.new.draft.pairs ≡ self.old.draft.pairs) }
     {
         if self.draft.layers.dead(state).is_some() {
             return Ok(Some(Found::Dead));
@@ -215,6 +221,7 @@ impl<S: Source> Planner<S> {
         requires reachable { IsReachable t.now t.now.init state.now }
         ensures planner { OnOk result (IsPlanner t.now self.new) }
         ensures found { IfOk result (λ found. IfSome found (IsFound self.new.draft state.now)) }
+        ensures pairs { OnOk result (self.new.draft.pairs ≡ self.old.draft.pairs) }
     {
         if self.seek(alloc, t, state, effort)? {
             return Ok(Some(Found::Ruled));
@@ -240,6 +247,7 @@ impl<S: Source> Planner<S> {
         requires open { ¬ IsGoal t.now state.now }
         ensures planner { OnOk result (IsPlanner t.now self.new) }
         ensures found { IfOk result (λ found. IfSome found (IsFound self.new.draft state.now)) }
+        ensures pairs { OnOk result (self.new.draft.pairs ≡ self.old.draft.pairs) }
     {
         if states > self.too_few {
             if let Some(found) = self.find_by_states(alloc, t, states, state)? {
@@ -266,6 +274,7 @@ impl<S: Source> Planner<S> {
         ensures planner { OnOk result (IsPlanner t.now self.new) }
         ensures found { IfOk result (λ found. IfSome found (IsFound self.new.draft state.now)) }
         ensures past { IfOk result (λ found. found ≡ None → IsPast t.now budget) }
+        ensures pairs { OnOk result (self.new.draft.pairs ≡ self.old.draft.pairs) }
     {
         if self.too_few >= budget {
             if let Some(found) = self.find_by_search(alloc, t, state, last_effort(budget))? {
@@ -297,6 +306,7 @@ impl<S: Source> Planner<S> {
         ensures planner { OnOk result (IsPlanner t.now self.new) }
         ensures found { IfOk result (λ found. IfSome found (IsFound self.new.draft state.now)) }
         ensures past { IfOk result (λ found. found ≡ None → IsPast t.now budget) }
+        ensures pairs { OnOk result (self.new.draft.pairs ≡ self.old.draft.pairs) }
     {
         if let Some(found) = self.find_known(alloc, t, state)? {
             return Ok(Some(found));

@@ -39,7 +39,8 @@ impl<S: Source> Planner<S> {
     /// be lies in one, as far as the source tells.
     fn learn_proposed(&mut self, alloc: Global, t: &Task) -> Result<bool, NoMemory>
         requires { IsPlanner t.now self.old }
-        ensures { OnOk result (IsPlanner t.now self.new) }
+        ensures planner { OnOk result (IsPlanner t.now self.new) }
+        ensures pairs { OnOk result (self.new.draft.pairs ≡ self.old.draft.pairs) }
     {
         for _layer in 0..LAYERS {
             match self.source.next_layer(alloc, &self.draft)? {
@@ -66,6 +67,7 @@ impl<S: Source> Planner<S> {
         requires long { length state.now ≡ length t.now.atoms }
         ensures planner { OnOk result (IsPlanner t.now self.new) }
         ensures lies { IfOk result (λ learnt. learnt ≡ true → LiesInLayers state.now self.new.draft.layers) }
+        ensures pairs { OnOk result (self.new.draft.pairs ≡ self.old.draft.pairs) }
     {
         self.source.begin_layers(&self.draft, state)?;
         self.learn_proposed(alloc, t)?;
@@ -76,7 +78,8 @@ impl<S: Source> Planner<S> {
     /// for one of them.
     fn learn_around(&mut self, alloc: Global, t: &Task, layer: &Layer) -> Result<bool, NoMemory>
         requires { IsPlanner t.now self.old }
-        ensures { OnOk result (IsPlanner t.now self.new) }
+        ensures planner { OnOk result (IsPlanner t.now self.new) }
+        ensures pairs { OnOk result (self.new.draft.pairs ≡ self.old.draft.pairs) }
     {
         for cube in layer {
             self.source.begin_layers_in(&self.draft, cube)?;
@@ -91,7 +94,8 @@ impl<S: Source> Planner<S> {
     /// as it finds some for each of them.
     fn learn_around_all(&mut self, alloc: Global, t: &Task, layers: &Layers) -> Result<(), NoMemory>
         requires { IsPlanner t.now self.old }
-        ensures { OnOk result (IsPlanner t.now self.new) }
+        ensures planner { OnOk result (IsPlanner t.now self.new) }
+        ensures pairs { OnOk result (self.new.draft.pairs ≡ self.old.draft.pairs) }
     {
         for number in 0..layers.len() {
             if !self.learn_around(alloc, t, layers.get(number))? {
@@ -110,7 +114,8 @@ impl<S: Source> Planner<S> {
         layers: &Layers,
     ) -> Result<(), NoMemory>
         requires { IsPlanner t.now self.old }
-        ensures { OnOk result (IsPlanner t.now self.new) }
+        ensures planner { OnOk result (IsPlanner t.now self.new) }
+        ensures pairs { OnOk result (self.new.draft.pairs ≡ self.old.draft.pairs) }
     {
         self.allow(alloc, t, lost_effort(count_cubes(layers)))?;
         self.source.know_lost(layers)?;

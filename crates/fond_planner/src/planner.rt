@@ -47,7 +47,8 @@ impl<S: Source> Planner<S> {
     /// Lets the next searches do this much.
     pub(crate) fn allow(&mut self, alloc: Global, t: &Task, effort: Effort) -> Result<(), NoMemory>
         requires { IsPlanner t.now self.old }
-        ensures { OnOk result (IsPlanner t.now self.new) }
+        ensures planner { OnOk result (IsPlanner t.now self.new) }
+        ensures pairs { OnOk result (self.new.draft.pairs ≡ self.old.draft.pairs) }
     {
         self.source.allow(alloc, t, effort)
     }
@@ -55,7 +56,8 @@ impl<S: Source> Planner<S> {
     /// What the source says about plans from the state.
     pub(crate) fn hint(&mut self, alloc: Global, t: &Task, from: &State) -> Result<Hint, NoMemory>
         requires { IsPlanner t.now self.old }
-        ensures { OnOk result (IsPlanner t.now self.new) }
+        ensures planner { OnOk result (IsPlanner t.now self.new) }
+        ensures pairs { OnOk result (self.new.draft.pairs ≡ self.old.draft.pairs) }
     {
         self.source.plan(alloc, &self.draft, from)
     }
@@ -69,7 +71,8 @@ impl<S: Source> Planner<S> {
         outcome: u32,
     ) -> Result<(), NoMemory>
         requires { IsPlanner t.now self.old }
-        ensures { OnOk result (IsPlanner t.now self.new) }
+        ensures planner { OnOk result (IsPlanner t.now self.new) }
+        ensures pairs { OnOk result (self.new.draft.pairs ≡ self.old.draft.pairs) }
     {
         self.source.respond(state, act, outcome)
     }
@@ -77,7 +80,8 @@ impl<S: Source> Planner<S> {
     /// An action leads from the state to the one from which the next search begins: rules near to the state are aimed at.
     pub(crate) fn leave(&mut self, t: &Task, state: &State)
         requires { IsPlanner t.now self.old }
-        ensures { IsPlanner t.now self.new }
+        ensures planner { IsPlanner t.now self.new }
+        ensures pairs { self.new.draft.pairs ≡ self.old.draft.pairs }
     {
         self.source.leave(state);
     }
@@ -90,7 +94,8 @@ impl<S: Source> Planner<S> {
         state: &State,
     ) -> Result<Option<Cube>, NoMemory>
         requires { IsPlanner t.now self.old }
-        ensures { OnOk result (IsPlanner t.now self.new) }
+        ensures planner { OnOk result (IsPlanner t.now self.new) }
+        ensures pairs { OnOk result (self.new.draft.pairs ≡ self.old.draft.pairs) }
     {
         self.source.dead_cube(alloc, &self.draft, state)
     }
@@ -107,6 +112,7 @@ impl<S: Source> Planner<S> {
         requires long { length state.now ≡ length t.now.atoms }
         ensures planner { OnOk result (IsPlanner t.now self.new) }
         ensures lies { IfOk result (λ learnt. learnt ≡ true → LiesInLayers state.now self.new.draft.layers) }
+        ensures pairs { OnOk result (self.new.draft.pairs ≡ self.old.draft.pairs) }
     {
         if let Some(cube) = self.dead_cube(alloc, t, state)? {
             if self.draft.learn_cube(alloc, t, state, cube)? {
@@ -127,6 +133,7 @@ impl<S: Source> Planner<S> {
         requires long { length state.now ≡ length t.now.atoms }
         ensures planner { OnOk result (IsPlanner t.now self.new) }
         ensures lies { IfOk result (λ learnt. learnt ≡ true → LiesInLayers state.now self.new.draft.layers) }
+        ensures pairs { OnOk result (self.new.draft.pairs ≡ self.old.draft.pairs) }
     {
         if self.learn_cube(alloc, t, state)? {
             return Ok(true);

@@ -50,6 +50,7 @@ impl<S: Source> Planner<S> {
         requires next_long { length next.old ≡ length t.now.atoms }
         ensures planner { OnOk result (IsPlanner t.now self.new) }
         ensures reachable { IfOk result (λ found. IfSome found (IsReachable t.now t.now.init)) }
+        ensures pairs { OnOk result (self.new.draft.pairs ≡ self.old.draft.pairs) }
     {
         if !t.acts.get(turn.act as usize).unfair {
             return Ok(None);
@@ -78,6 +79,7 @@ impl<S: Source> Planner<S> {
         requires next_long { length next.old ≡ length t.now.atoms }
         ensures planner { OnOk result (IsPlanner t.now self.new) }
         ensures reachable { IfOk result (λ found. IfSome found (IsReachable t.now t.now.init)) }
+        ensures pairs { OnOk result (self.new.draft.pairs ≡ self.old.draft.pairs) }
     {
         for done in 0..turns.len() {
             let turn = turns.get(turns.len() - 1 - done);
@@ -104,6 +106,7 @@ impl<S: Source> Planner<S> {
         requires reachable { IsReachable t.now t.now.init state.now }
         ensures planner { OnOk result (IsPlanner t.now self.new) }
         ensures sought { IfOk result (IsSought t.now) }
+        ensures pairs { OnOk result (self.new.draft.pairs ≡ self.old.draft.pairs) }
     {
         let turns = replay(alloc, t, state, steps)?;
         let mut next = state.copy(alloc)?;
@@ -136,6 +139,7 @@ impl<S: Source> Planner<S> {
         requires reachable { IsReachable t.now t.now.init state.now }
         ensures planner { OnOk result (IsPlanner t.now self.new) }
         ensures sought { IfOk result (IsSought t.now) }
+        ensures pairs { OnOk result (self.new.draft.pairs ≡ self.old.draft.pairs) }
     {
         if self.is_known(t, state) {
             return Ok(Sought::Known);
@@ -161,6 +165,7 @@ impl<S: Source> Planner<S> {
         requires reached { AreReachable t.now waiting.old.items }
         ensures planner { OnOk result (IsPlanner t.now self.new) }
         ensures reached { OnOk result (AreReachable t.now waiting.new.items) }
+        ensures pairs { OnOk result (self.new.draft.pairs ≡ self.old.draft.pairs) }
     {
         let Some(state) = waiting.pop() else {
             return Ok(false);
@@ -186,6 +191,7 @@ impl<S: Source> Planner<S> {
         requires planner { IsPlanner t.now self.old }
         requires reached { AreReachable t.now waiting.old.items }
         ensures planner { OnOk result (IsPlanner t.now self.new) }
+        ensures pairs { OnOk result (self.new.draft.pairs ≡ self.old.draft.pairs) }
     {
         for _seek in 0..SEEKS {
             if !self.seek_last(alloc, t, waiting)? {
@@ -208,6 +214,7 @@ impl<S: Source> Planner<S> {
         requires reachable { IsReachable t.now t.now.init state.now }
         ensures planner { OnOk result (IsPlanner t.now self.new) }
         ensures ruled { IfOk result (λ found. found ≡ true → HasRule self.new.draft.rules state.now) }
+        ensures pairs { OnOk result (self.new.draft.pairs ≡ self.old.draft.pairs) }
     {
         self.allow(alloc, t, effort)?;
         let mut waiting = Vec::new(alloc);

@@ -8,6 +8,7 @@ ghost use Rattle.fond_planner.specs.Walks.{IsStep, IsTrail};
 ghost use Rattle.fond_planner.specs.declared.sketched.Followed.TheVariants.{Past as IsPastEnd};
 ghost use Rattle.fond_planner.specs.declared.sketched.Sketched.TheVariants.{Past as IsPastSketch};
 ghost use Rattle.fond_explicit.specs.Answers.{IsReachable};
+ghost use Rattle.fond_regress.specs.Barred.{IsBarred};
 ghost use Rattle.std.specs.Prelude.{◌≡◌, ◌≤◌, true, length, IfOk, OnOk};
 
 use crate::planner::Planner;
@@ -116,6 +117,7 @@ impl<S: Source> Planner<S> {
         ensures same { step.new.state ≡ step.old.state }
         ensures long { length step.new.next ≡ length step.old.next }
         ensures step { result ≡ true → IsStep t.now step.new }
+        ensures free { result ≡ true → ¬ IsBarred self.now.draft.pairs step.new.act step.new.state }
     {
         if !self.set_act(t, step) {
             return false;
@@ -143,6 +145,7 @@ impl<S: Source> Planner<S> {
         ensures planner { OnOk result (IsPlanner t.now self.new) }
         ensures trail { OnOk result (IsTrail t.now trail.new) }
         ensures past { IfOk result (λ followed. followed ≡ IsPastEnd → IsPast t.now budget) }
+        ensures pairs { OnOk result (self.new.draft.pairs ≡ self.old.draft.pairs) }
     {
         if edge.node >= trail.states.len() {
             return Ok(Followed::GaveUp);
@@ -171,6 +174,7 @@ impl<S: Source> Planner<S> {
         requires trail { IsTrail t.now trail.old }
         ensures planner { OnOk result (IsPlanner t.now self.new) }
         ensures past { IfOk result (λ followed. followed ≡ IsPastEnd → IsPast t.now budget) }
+        ensures pairs { OnOk result (self.new.draft.pairs ≡ self.old.draft.pairs) }
     {
         for _edge in 0..u64::MAX {
             let Some(edge) = trail.sketch.next() else {
@@ -197,6 +201,7 @@ impl<S: Source> Planner<S> {
         requires trail { IsTrail t.now trail.old }
         ensures planner { OnOk result (IsPlanner t.now self.new) }
         ensures past { IfOk result (λ sketched. sketched ≡ IsPastSketch → IsPast t.now budget) }
+        ensures pairs { OnOk result (self.new.draft.pairs ≡ self.old.draft.pairs) }
     {
         self.tell(&mut trail.sketch)?;
         if !trail.sketch.begin(t)? {
@@ -221,6 +226,7 @@ impl<S: Source> Planner<S> {
         requires planner { IsPlanner t.now self.old }
         ensures planner { OnOk result (IsPlanner t.now self.new) }
         ensures past { IfOk result (λ sketched. sketched ≡ IsPastSketch → IsPast t.now budget) }
+        ensures pairs { OnOk result (self.new.draft.pairs ≡ self.old.draft.pairs) }
     {
         let mut trail = trail_of(alloc, t)?;
         self.walk_trail(alloc, t, budget, &mut trail)

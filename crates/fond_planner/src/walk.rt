@@ -13,7 +13,7 @@ ghost use Rattle.fond_game.specs.declared.rule.Pair.{Pair};
 ghost use Rattle.fond_layers.specs.Deads.{IsFirstDead};
 ghost use Rattle.fond_layers.specs.Over.{AreOver};
 ghost use Rattle.fond_regress.specs.Barred.{Bars, IsBarred};
-ghost use Rattle.std.specs.Prelude.{◌≡◌, ◌<◌, ◌≤◌, ◌++◌, false, true, length, Contains, IfOk, OnOk};
+ghost use Rattle.std.specs.Prelude.{◌≡◌, ◌<◌, ◌≤◌, false, true, length, Contains, IfOk, OnOk};
 
 use crate::find::Found;
 use crate::planner::Planner;
@@ -24,6 +24,7 @@ use fond_draft::draft::Draft;
 use fond_game::rule::Pair;
 use fond_layers::layers::Layers;
 use fond_policy::walk::one_state;
+use fond_regress::barred::is_barred;
 use fond_regress::pair::lean_pair;
 use fond_state::state::State;
 use fond_store::store::Store;
@@ -114,16 +115,18 @@ fn pair_of(
     Ok(pair)
 }
 
-/// Bars the action of a step in its state by a fresh pair, unless a pair bars it already, fresh or not.
+/// Bars the action of a step in its state by a fresh pair, unless one bars it already.
 fn bar(alloc: Global, t: &Task, draft: &mut Draft, step: &Step) -> Result<(), NoMemory>
     requires draft { IsDraft t.now draft.old }
     requires step { IsStep t.now step.now }
     requires lies { LiesInLayers step.now.next draft.old.layers }
+    requires free { ¬ IsBarred draft.old.pairs step.now.act step.now.state }
     ensures draft { OnOk result (IsDraft t.now draft.new) }
     ensures layers { draft.new.layers ≡ draft.old.layers }
-    ensures barred { OnOk result (IsBarred (draft.new.pairs ++ draft.new.fresh.items) step.now.act step.now.state) }
+    ensures barred { OnOk result (IsBarred draft.new.fresh.items step.now.act step.now.state) }
+    ensures pairs { OnOk result (draft.new.pairs ≡ draft.old.pairs) }
 {
-    if draft.bars(alloc, t, step.act, &step.state)? {
+    if is_barred(draft.fresh.as_slice(), step.act, &step.state) {
         return Ok(());
     }
     let Some((layer, cube)) = draft.layers.dead(&step.next) else {
@@ -148,9 +151,11 @@ impl<S: Source> Planner<S> {
         requires planner { IsPlanner t.now self.old }
         requires step { IsStep t.now step.now }
         requires open { ¬ IsGoal t.now step.now.next }
+        requires free { ¬ IsBarred self.old.draft.pairs step.now.act step.now.state }
         ensures planner { OnOk result (IsPlanner t.now self.new) }
         ensures settled { IfOk result (λ within. within ≡ true → IsSettled t.now self.new.draft step.now) }
         ensures past { IfOk result (λ within. within ≡ false → IsPast t.now budget) }
+        ensures pairs { OnOk result (self.new.draft.pairs ≡ self.old.draft.pairs) }
     {
         self.leave(t, &step.state);
         match self.find(alloc, t, budget, &step.next)? {
@@ -175,8 +180,10 @@ impl<S: Source> Planner<S> {
         requires few { budget ≤ 1000000 }
         requires planner { IsPlanner t.now self.old }
         requires step { IsStep t.now step.now }
+        requires free { ¬ IsBarred self.old.draft.pairs step.now.act step.now.state }
         ensures planner { OnOk result (IsPlanner t.now self.new) }
         ensures past { IfOk result (λ within. within ≡ false → IsPast t.now budget) }
+        ensures pairs { OnOk result (self.new.draft.pairs ≡ self.old.draft.pairs) }
     {
         if is_goal(t, &step.next) {
             return Ok(true);
@@ -202,9 +209,11 @@ impl<S: Source> Planner<S> {
         requires planner { IsPlanner t.now self.old }
         requires step { IsStep t.now step.now }
         requires reachable { AreReachable t.now states.old }
+        requires free { ¬ IsBarred self.old.draft.pairs step.now.act step.now.state }
         ensures planner { OnOk result (IsPlanner t.now self.new) }
         ensures reachable { OnOk result (AreReachable t.now states.new) }
         ensures past { IfOk result (λ within. within ≡ false → IsPast t.now budget) }
+        ensures pairs { OnOk result (self.new.draft.pairs ≡ self.old.draft.pairs) }
     {
         if is_goal(t, &step.next) || states.find(&step.next).is_some() {
             return Ok(true);
@@ -231,11 +240,13 @@ impl<S: Source> Planner<S> {
         requires planner { IsPlanner t.now self.old }
         requires outset { IsOutset t.now step.old }
         requires reachable { AreReachable t.now states.old }
+        requires free { ¬ IsBarred self.old.draft.pairs step.old.act step.old.state }
         ensures planner { OnOk result (IsPlanner t.now self.new) }
         ensures reachable { OnOk result (AreReachable t.now states.new) }
         ensures same { step.new.state ≡ step.old.state }
         ensures long { length step.new.next ≡ length step.old.next }
         ensures past { IfOk result (λ within. within ≡ false → IsPast t.now budget) }
+        ensures pairs { OnOk result (self.new.draft.pairs ≡ self.old.draft.pairs) }
     {
         for outcome in 0..t.acts.get(step.act as usize).outcomes.len() {
             step.outcome = outcome as u32;
@@ -256,6 +267,7 @@ impl<S: Source> Planner<S> {
         ensures same { step.new.state ≡ step.old.state }
         ensures next { step.new.next ≡ step.old.next }
         ensures outset { result ≡ true → IsOutset t.now step.new }
+        ensures free { result ≡ true → ¬ IsBarred self.now.draft.pairs step.new.act step.new.state }
     {
         if is_goal(t, &step.state) {
             return false;
@@ -287,6 +299,7 @@ impl<S: Source> Planner<S> {
         ensures same { step.new.state ≡ step.old.state }
         ensures long { length step.new.next ≡ length step.old.next }
         ensures past { IfOk result (λ within. within ≡ false → IsPast t.now budget) }
+        ensures pairs { OnOk result (self.new.draft.pairs ≡ self.old.draft.pairs) }
     {
         if !self.set_act(t, step) {
             return Ok(true);
@@ -300,6 +313,7 @@ impl<S: Source> Planner<S> {
         requires planner { IsPlanner t.now self.old }
         ensures planner { OnOk result (IsPlanner t.now self.new) }
         ensures begun { IfOk result (IsBegun t.now budget self.new.draft) }
+        ensures pairs { OnOk result (self.new.draft.pairs ≡ self.old.draft.pairs) }
     {
         if is_goal(t, &t.init) {
             return Ok(Begun::Ruled);
@@ -330,6 +344,7 @@ impl<S: Source> Planner<S> {
         requires next_long { length step.old.next ≡ length t.now.atoms }
         ensures planner { OnOk result (IsPlanner t.now self.new) }
         ensures past { IfOk result (λ within. within ≡ false → IsPast t.now budget) }
+        ensures pairs { OnOk result (self.new.draft.pairs ≡ self.old.draft.pairs) }
     {
         let mut at = 0;
         while at < states.len() {
@@ -348,6 +363,7 @@ impl<S: Source> Planner<S> {
         requires planner { IsPlanner t.now self.old }
         ensures planner { OnOk result (IsPlanner t.now self.new) }
         ensures past { IfOk result (λ within. within ≡ false → IsPast t.now budget) }
+        ensures pairs { OnOk result (self.new.draft.pairs ≡ self.old.draft.pairs) }
     {
         let mut step = first_step(alloc, t)?;
         let mut states = one_state(alloc, &t.init)?;
@@ -361,6 +377,7 @@ impl<S: Source> Planner<S> {
         requires planner { IsPlanner t.now self.old }
         ensures planner { OnOk result (IsPlanner t.now self.new) }
         ensures round { IfOk result (IsRound t.now budget self.new.draft) }
+        ensures pairs { OnOk result (self.new.draft.pairs ≡ self.old.draft.pairs) }
     {
         if self.sketches {
             match self.walk_sketch(alloc, t, budget)? {
@@ -383,6 +400,7 @@ impl<S: Source> Planner<S> {
         requires planner { IsPlanner t.now self.old }
         ensures planner { OnOk result (IsPlanner t.now self.new) }
         ensures round { IfOk result (IsRound t.now budget self.new.draft) }
+        ensures pairs { OnOk result (self.new.draft.pairs ≡ self.old.draft.pairs) }
     {
         match self.begin(alloc, t, budget)? {
             Begun::Ruled => self.settle_all(alloc, t, budget),

@@ -6,6 +6,8 @@ use fond_tool::laws::{
     correct_are_accepted, hopeless_tasks_are_refused, migrated_are_accepted, planned_are_accepted,
     small_tasks_are_decided, solutions_never_stick,
 };
+use std::alloc::Global;
+use std::process::Abort;
 use std::test::Fail;
 
 /// A name, the files of the task, the budget, and the status and the text of the answer.
@@ -98,9 +100,12 @@ const ROWS: [(&str, Task, &str, u8, &str); 14] = [
     ),
 ];
 
-#[test]
-fn tasks_are_decided(rt: HostRuntime) -> Result<(), Fail> {
-    for (name, task, budget, status, text) in ROWS {
+fn check_decided(
+    rt: &impl Abort,
+    alloc: Global,
+    table: &[(&str, Task, &str, u8, &str)],
+) -> Result<(), Fail> {
+    for &(name, task, budget, status, text) in table {
         let [domain, problem, side] = files_of(task);
         let row = Row {
             name,
@@ -109,9 +114,14 @@ fn tasks_are_decided(rt: HostRuntime) -> Result<(), Fail> {
             status,
             text,
         };
-        check(&rt, rt.alloc(), row)?;
+        check(rt, alloc, row)?;
     }
     Ok(())
+}
+
+#[test]
+fn tasks_are_decided(rt: HostRuntime) -> Result<(), Fail> {
+    check_decided(&rt, rt.alloc(), &ROWS)
 }
 
 /// The row of the coin at its goal, with a problem that is not there, or with a write that fails.

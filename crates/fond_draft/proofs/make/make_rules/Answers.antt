@@ -25,4 +25,5 @@ returns c = record {
         kept = told.kept;
         draft = told.draft;
       };
+  pairs = c.in_ok-place_all.ensures.pairs;
 }

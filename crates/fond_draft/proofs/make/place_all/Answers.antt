@@ -1,4 +1,4 @@
-use Rattle.std.proofs.Common.{◌≡◌, ◌∙◌, get_or, sym, ap, subst, arith}
+use Rattle.std.proofs.Common.{refl, ◌≡◌, ◌∙◌, get_or, sym, ap, subst, arith}
 use Rattle.std.specs.Prelude.{Contains}
 use Rattle.std.proofs.lemmas.Option.{same_Some, slice_get-get_or, slice_get_within}
 use Rattle.fond_game.proofs.Lists.{Contains_numbered}
@@ -15,6 +15,7 @@ pub loop-entry-init : goal.loop-entry-init
 loop-entry-init c = record {
   next_long = c.requires.next_long;
   draft = c.requires.draft;
+  pairs = refl;
   kept = λ state has. has;
   placed = λ number place choice small. absurd (omega (arith, small));
 }
@@ -50,6 +51,7 @@ loop-entry-preserved c =
     record {
       next_long = c.in_ok-place.ensures.same_length ∙ c.loop-entry.invariant.next_long;
       draft = ruled.draft;
+      pairs = c.in_ok-place.ensures.pairs ∙ c.loop-entry.invariant.pairs;
       kept = λ state has. ruled.kept state (c.loop-entry.invariant.kept state has);
       placed = placed_more choices places c.loop-entry.entry-index c.loop-entry.draft.rules c.place.new.draft.rules c.loop-entry.invariant.placed ruled.kept own its.choice at its.numbered ruled.has;
     }
@@ -62,3 +64,6 @@ returns-clause-kept c = c.loop-entry.invariant.kept
 
 pub returns-clause-placed : goal.returns-clause-placed
 returns-clause-placed c = λ number place choice small. c.loop-entry.invariant.placed number place choice (omega (arith, small, c.loop-entry-test.false))
+
+pub returns-clause-pairs : goal.returns-clause-pairs
+returns-clause-pairs c = c.loop-entry.invariant.pairs

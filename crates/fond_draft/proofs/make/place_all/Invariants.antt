@@ -9,6 +9,7 @@ abbrev pub invariant-loop-entry : goal.invariant-loop-entry
 invariant-loop-entry l = record {
   next_long : length l.next ≡ length l.t.atoms;
   draft : IsDraft l.t l.draft;
+  pairs : l.draft.pairs ≡ l.initial.draft.pairs;
   kept : (state : List Bool) → HasRule l.initial.draft.rules state → HasRule l.draft.rules state;
   placed : HavePlaced l.plan.choices l.places l.entry-index l.draft.rules;
 }

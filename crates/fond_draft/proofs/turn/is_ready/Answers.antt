@@ -3,9 +3,6 @@ use Rattle.std.proofs.lemmas.Bool.{true≢false}
 use Rattle.fond_draft.proofs.Turned.{turn_applies, turn_long}
 use Rattle.fond_draft.proofs.turn.is_ready.Goals as goal
 
-pub is_unbarred-requires-clause-long : goal.is_unbarred-requires-clause-long
-is_unbarred-requires-clause-long c = turn_long c.args.t.now c.args.turn.now c.requires.turn
-
 pub returns-clause-ready : goal.returns-clause-ready
 returns-clause-ready c = λ yes. record {
   long = turn_long c.args.t.now c.args.turn.now c.requires.turn;

@@ -40,3 +40,6 @@ look-requires-clause-trail g c =
 
 pub look-requires-clause-next : goal.look-requires-clause-next
 look-requires-clause-next g c = next_reachable c.args.t.now c.set_out.new.step (c.set_out.ensures.step c.if-not-set_out.false)
+
+pub settle_next-requires-clause-free : goal.settle_next-requires-clause-free
+settle_next-requires-clause-free g c = c.set_out.ensures.free c.if-not-set_out.false

@@ -1,7 +1,12 @@
-use Rattle.std.proofs.Common.{◌∙◌, ℕ, sym, subst}
+use Rattle.std.proofs.Common.{◌≡◌, ◌∙◌, ℕ, sym, subst}
 use Rattle.fond_policy.proofs.Walking.{applies, not_goal}
 use Rattle.fond_rules.specs.Select.{AreOver}
+use Rattle.std.proofs.lemmas.Option.{same_Some}
+use Rattle.fond_state.specs.Cubes.{LiesIn}
+use Rattle.fond_game.specs.declared.rule.Rule.{Rule}
+use Rattle.fond_draft.proofs.Barring.{free_by}
 use Rattle.fond_draft.proofs.Ready.{reachable_long}
+use Rattle.fond_draft.proofs.Rules.{selected_holds}
 use Rattle.fond_planner.proofs.planner.Planner.set_act.Goals as goal
 
 pub is_goal-requires : goal.is_goal-requires
@@ -26,3 +31,12 @@ returns-clause-outset g c = λ yes.
       applicable = applies task draft.pairs draft.rules c.args.step.now.state c.in-Some.rule rule (sym c.select.ensures ∙ c.in-Some.is) c.get.ensures lean.sure lean.sure.act lean.sure.has_act;
       long = c.requires.next_long;
     }
+
+pub returns-clause-free : goal.returns-clause-free
+returns-clause-free g c = λ yes.
+    let draft = c.args.self.now.draft in
+    let rule = c.get.result.now in
+    let lean = c.requires.planner.draft.rules.lean c.in-Some.rule rule c.get.ensures in
+    let holds = selected_holds draft.rules c.args.step.now.state c.in-Some.rule (sym c.select.ensures ∙ c.in-Some.is) in
+    let same : holds.rule ≡ rule = same_Some holds.rule rule (sym holds.numbered ∙ c.get.ensures) in
+    free_by draft.pairs rule.act c.args.step.now.state rule.cond (subst (λ (r : Rule). LiesIn c.args.step.now.state r.cond) same holds.lies) lean.sure.barred

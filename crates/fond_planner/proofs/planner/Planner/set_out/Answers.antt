@@ -36,3 +36,6 @@ returns-clause-step g c = λ yes.
       has_outcome = subst (λ (a : Act). slice_get a.outcomes k ≡ Some mine) same there;
       led = c.apply_into.ensures.next own mine c.get.ensures there;
     }
+
+pub returns-clause-free : goal.returns-clause-free
+returns-clause-free g c = λ yes. c.set_act.ensures.free c.if-not-set_act.false

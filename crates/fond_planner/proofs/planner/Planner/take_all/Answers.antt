@@ -4,6 +4,8 @@ use Rattle.fond_task.specs.Truth.{is_true}
 use Rattle.fond_task.specs.declared.task.Act.{Act}
 use Rattle.fond_policy.proofs.Walking.{few_outcomes}
 use Rattle.fond_game.specs.Policies.{IsGoal}
+use Rattle.fond_game.specs.declared.rule.Pair.{Pair}
+use Rattle.fond_regress.specs.Barred.{IsBarred}
 use Rattle.fond_explicit.specs.Answers.{IsReachable}
 use Rattle.fond_draft.proofs.Ready.{reachable_long}
 use Rattle.fond_planner.proofs.planner.Planner.take_all.Goals as goal
@@ -45,3 +47,10 @@ take-requires-clause-step g c =
       has_outcome = subst (λ (a : Act). slice_get a.outcomes k ≡ Some mine) same there;
       led = c.apply_into.ensures.next own mine here there;
     }
+
+pub take-requires-clause-free : goal.take-requires-clause-free
+take-requires-clause-free g c =
+    let inv = c.loop-outcome.invariant in
+    subst (λ (pairs : List Pair). ¬ IsBarred pairs c.loop-outcome.step.act c.loop-outcome.step.state) (sym inv.pairs)
+        (subst (λ (act : ℕ). ¬ IsBarred c.args.self.now.draft.pairs act c.loop-outcome.step.state) (sym inv.act)
+            (subst (λ (state : List Bool). ¬ IsBarred c.args.self.now.draft.pairs c.args.step.now.act state) (sym inv.state) c.requires.free))

@@ -23,6 +23,7 @@ loop-at-preserved g c =
     let here = c.loop-at.invariant.reachable c.get.result.now (Contains_numbered c.loop-at.states c.loop-at.at c.get.result.now c.get.ensures) in
     record {
       planner = told.planner;
+      pairs = told.pairs ∙ c.loop-at.invariant.pairs;
       reachable = told.reachable;
       state_long = ap length told.same ∙ ap length c.copy_from.ensures ∙ reachable_long task task.init task.init_long c.get.result.now here;
       next_long = told.long ∙ c.loop-at.invariant.next_long;

@@ -3,10 +3,11 @@ use Rattle.fond_planner.specs.Planners.{IsPlanner}
 use Rattle.fond_draft.specs.Turns.{AreReachable}
 use Rattle.fond_planner.proofs.planner.Planner.walk_on.Given as goal
 
--- the planner stays one of the task, and the states reachable ones
+-- the planner stays one of the task, with its pairs, and the states reachable ones
 abbrev pub invariant-loop-at : goal.invariant-loop-at
 invariant-loop-at g l = record {
   planner : IsPlanner l.t l.self;
+  pairs : l.self.draft.pairs ≡ l.initial.self.draft.pairs;
   reachable : AreReachable l.t l.states;
   state_long : length l.step.state ≡ length l.t.atoms;
   next_long : length l.step.next ≡ length l.t.atoms;
