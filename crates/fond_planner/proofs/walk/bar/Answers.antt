@@ -25,7 +25,7 @@ returns-clause-draft c =
     let pair = c.in_ok-pair.pair in
     let old = draft.pairs ++ draft.fresh.items in
     let not_fresh : ¬ IsBarred draft.fresh.items step.act step.state = λ barred.
-        false≢true (c.if-is_barred.ensures.1 (subst (λ (pairs : List Pair). IsBarred pairs step.act step.state) (sym c.as_slice.ensures.value) barred)) in
+    false≢true (c.if-is_barred.ensures.1 (subst (λ (pairs : List Pair). IsBarred pairs step.act step.state) (sym c.as_slice.ensures.value) barred)) in
     let free : ¬ IsBarred old pair.act step.state =
     subst (λ (act : ℕ). ¬ IsBarred old act step.state) (sym c.in_ok-pair.ensures.bars.0) (barred_cases draft.pairs draft.fresh.items step.act step.state c.requires.free not_fresh) in
     let grown : old ++ pair ∷ [] ≡ draft.pairs ++ c.push.new.self.items =
@@ -38,7 +38,7 @@ returns-clause-draft c =
           (fitting_more task draft.layers draft.fresh.items pair c.requires.draft.fresh c.in_ok-pair.ensures.fitting);
       more = subst (EachBarsMore task) grown
           (more_pushed task old pair c.requires.draft.more
-              (record { state = step.state; reachable = c.requires.step.outset.reachable; lies = c.in_ok-pair.ensures.bars.1; free = free }));
+          (record { state = step.state; reachable = c.requires.step.outset.reachable; lies = c.in_ok-pair.ensures.bars.1; free = free }));
       rules = c.requires.draft.rules;
     }
 

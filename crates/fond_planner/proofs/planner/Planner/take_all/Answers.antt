@@ -52,5 +52,5 @@ pub take-requires-clause-free : goal.take-requires-clause-free
 take-requires-clause-free g c =
     let inv = c.loop-outcome.invariant in
     subst (λ (pairs : List Pair). ¬ IsBarred pairs c.loop-outcome.step.act c.loop-outcome.step.state) (sym inv.pairs)
-        (subst (λ (act : ℕ). ¬ IsBarred c.args.self.now.draft.pairs act c.loop-outcome.step.state) (sym inv.act)
-            (subst (λ (state : List Bool). ¬ IsBarred c.args.self.now.draft.pairs c.args.step.now.act state) (sym inv.state) c.requires.free))
+    (subst (λ (act : ℕ). ¬ IsBarred c.args.self.now.draft.pairs act c.loop-outcome.step.state) (sym inv.act)
+    (subst (λ (state : List Bool). ¬ IsBarred c.args.self.now.draft.pairs c.args.step.now.act state) (sym inv.state) c.requires.free))
