@@ -22,12 +22,12 @@ use Rattle.fond_game.specs.Policies.{selected}
 use Rattle.fond_rules.specs.Select.{selected_rule}
 use Rattle.fond_exec.specs.Steps.{IsChosen, IsStuck}
 use Rattle.fond_exec.specs.Traces as steps
-use Rattle.fond_exec.specs.Traces.{goal_line, outcome_line, Pick}
+use Rattle.fond_exec.specs.Traces.{outcome_line, Pick, TraceOf, goal, ended, stuck, past, took}
 use Rattle.fond_ground.specs.Grounds.{IsActOf, IsEntryOf, IsGroundOf}
 use Rattle.fond_bridge.specs.Stands.{stands}
 use Rattle.fond_bridge.specs.Games.{IsState, action_of}
 use Rattle.fond_bridge.specs.Solutions.{rules_policy}
-use Rattle.fond_bridge.specs.Traces.{Choose, ChooseNone, Trace, goal, ended, stuck, past, took, step_line}
+use Rattle.fond_bridge.specs.Traces.{Choose, ChooseNone, Trace, step_line}
 use Rattle.fond_bridge.proofs.Agrees.{names_action, restricted}
 use Rattle.fond_bridge.proofs.Lists.{zip-right}
 use Rattle.fond_bridge.proofs.Maps.{and_then}
@@ -91,21 +91,27 @@ module _ (task : LiftedTask) (game : Task) (is : IsGroundOf task game) (rules : 
   -- a trace from a state is one from the state for which it stands
   pub trace_alike : (pick : Pick) (values : List Bool) (words lines : List ℕ) (last : List Bool) → IsState game values → steps.Trace pick game rules values words lines last
       → Trace pick task game rules (stands task values) words lines (stands task last)
-  trace_alike pick values words lines last state (steps.goal one left is_goal) = goal (stands task one) left (((plays task game is).goal one state).0 is_goal)
-  trace_alike pick values words lines last state (steps.ended one open_) = ended (stands task one) (open_alike one state open_)
-  trace_alike pick values words lines last state (steps.stuck one word left open_ none) = stuck (stands task one) word left (open_alike one state open_) (chooses_none one state none)
-  trace_alike pick values words lines last state (steps.past one word left number act open_ chosen beyond) =
-      let same = choices_long number act chosen.numbered in
+  trace_alike pick values words lines last state (TraceOf.goal one left is_goal) = goal (stands task one) left (((plays task game is).goal one state).0 is_goal)
+  trace_alike pick values words lines last state (TraceOf.ended one open_) = ended (stands task one) (open_alike one state open_)
+  trace_alike pick values words lines last state (TraceOf.stuck one word left open_ none) = stuck (stands task one) word left (open_alike one state open_) (chooses_none one state none)
+  trace_alike pick values words lines last state (TraceOf.past one word left choice open_ chosen beyond) =
+      let act = choice.1 in
+      let choices = choices_of choice.0 act chosen.numbered in
+      let same = choices_long choice.0 act chosen.numbered in
       subst (λ count. Trace pick task game rules (stands task one) (word ∷ left) (outcome_line (pick count word) count) (stands task one)) same
-      (past (stands task one) word left act.ground (choices_of number act chosen.numbered) (open_alike one state open_) (chooses one state number act chosen) (subst (λ count. count ≤ pick count word) (sym same) beyond))
-  trace_alike pick values words lines last state (steps.took one word left rule number outcome next text end taken picked trace) =
-      let at = taken.chosen.numbered in
-      let choice = choice_at one state number taken.act at outcome taken.entries taken.picked in
-      let later : IsState game next = ap length taken.given ∙ next_long one state taken.entries in
+      (past (stands task one) word left (act.ground, choices) (open_alike one state open_) (chooses one state choice.0 act chosen) (subst (λ count. count ≤ pick count word) (sym same) beyond))
+  trace_alike pick values words lines last state (TraceOf.took one word left choice line next text end open_ chosen leads trace) =
+      let act = choice.1 in
+      let at = chosen.numbered in
+      let rule = leads.0 in
+      let outcome = pick (length act.outcomes) word in
+      let entries = leads.3.0 in
+      let choices = choices_of choice.0 act at in
+      let own = choice_at one state choice.0 act at outcome entries leads.3.1 in
+      let later : IsState game next = ap length leads.3.2 ∙ next_long one state entries in
       let rest : Trace pick task game rules (stands task next) left text (stands task end) = trace_alike pick next left text end later trace in
-      let there : stands task next ≡ state_after (stands task one) choice.0 = ap (stands task) taken.given ∙ choice.2 in
-      let named : outcome ≡ pick (length (choices_of number taken.act at)) word = picked ∙ ap (λ count. pick count word) (sym (choices_long number taken.act at)) in
-      subst (λ line. Trace pick task game rules (stands task one) (word ∷ left) (line ++ text) (stands task end)) (sym (lines_alike rule number outcome taken.act at ∙ ap (step_line task rule taken.act.ground) named))
-      (took (stands task one) word left rule taken.act.ground (choices_of number taken.act at) choice.0 text (stands task end) (open_alike one state taken.open_)
-      (ap (selected_rule rules) (restricted task game is one state) ∙ taken.selects) (chooses one state number taken.act taken.chosen) (ap (slice_get (choices_of number taken.act at)) (sym named) ∙ choice.1)
-      (subst (λ after. Trace pick task game rules after left text (stands task end)) there rest))
+      let there : stands task next ≡ state_after (stands task one) own.0 = ap (stands task) leads.3.2 ∙ own.2 in
+      let named : outcome ≡ pick (length choices) word = ap (λ count. pick count word) (sym (choices_long choice.0 act at)) in
+      took (stands task one) word left (act.ground, choices) line (stands task next) text (stands task end) (open_alike one state open_) (chooses one state choice.0 act chosen)
+      (rule, ap (selected_rule rules) (restricted task game is one state) ∙ leads.1, leads.2 ∙ lines_alike rule choice.0 outcome act at ∙ ap (step_line task rule act.ground) named, (own.0, ap (slice_get choices) (sym named) ∙ own.1, there))
+      rest

@@ -1,5 +1,5 @@
 -- The trace of a rule list in the states of a task, over a list of words, by the rules of docs/COMMANDS.md.
-use Rattle.std.specs.Prelude.{◌≡◌, ℕ, ◌≤◌, List, [], ◌∷◌, ◌++◌, Some, length, slice_get, codes}
+use Rattle.std.specs.Prelude.{◌≡◌, ℕ, List, ◌++◌, Some, length, slice_get, codes}
 use Rattle.std.specs.Fmt.{decimal}
 use Rattle.fond_text.specs.declared.atom.GroundAction.{GroundAction}
 use Rattle.fond_ast.specs.declared.task.LSchema.{LSchema}
@@ -11,7 +11,7 @@ use Rattle.fond_task.specs.declared.task.Task.{Task}
 use Rattle.fond_task.specs.Texts.{action_text}
 use Rattle.fond_game.specs.declared.rule.Rule.{Rule}
 use Rattle.fond_rules.specs.Select.{selected_rule}
-use Rattle.fond_exec.specs.Traces.{goal_line, outcome_line, Pick}
+use Rattle.fond_exec.specs.Traces.{Pick, Stepping, TraceOf}
 use Rattle.fond_ground.specs.Texts.{labels_of}
 use Rattle.fond_bridge.specs.Stands.{restrict}
 use Rattle.fond_bridge.specs.Solutions.{rules_policy}
@@ -33,15 +33,18 @@ abbrev pub step_line : LiftedTask → ℕ → GroundAction → ℕ → List ℕ
 step_line task rule action outcome =
     codes "rule " ++ decimal rule ++ codes " " ++ action_text (labels_of task) action ++ codes " outcome " ++ decimal outcome ++ codes "\n"
 
--- the trace of rules from a state over words, each of which picks an outcome: its lines and its last state. It ends at a goal,
--- when no word is left, when no applicable action is chosen, or when the chosen action has no outcome of the number that is
--- picked; otherwise it goes on in the state to which that outcome leads
-pub data Trace (pick : Pick) (task : LiftedTask) (game : Task) (rules : List Rule) : State → List ℕ → List ℕ → State → Type 0 where
-  goal : (state : State) (words : List ℕ) → IsGoal task state → Trace pick task game rules state words (goal_line (length words)) state
-  ended : (state : State) → ¬ IsGoal task state → Trace pick task game rules state [] (codes "ended\n") state
-  stuck : (state : State) (word : ℕ) (left : List ℕ) → ¬ IsGoal task state → ChooseNone task game rules state → Trace pick task game rules state (word ∷ left) (codes "stuck\n") state
-  past : (state : State) (word : ℕ) (left : List ℕ) (action : GroundAction) (choices : List (List Literal)) → ¬ IsGoal task state → Choose task game rules state action choices
-      → length choices ≤ pick (length choices) word → Trace pick task game rules state (word ∷ left) (outcome_line (pick (length choices) word) (length choices)) state
-  took : (state : State) (word : ℕ) (left : List ℕ) (rule : ℕ) (action : GroundAction) (choices : List (List Literal)) (outcome : List Literal) (text : List ℕ) (last : State) → ¬ IsGoal task state
-      → selected_rule rules (restrict task state) ≡ Some rule → Choose task game rules state action choices → slice_get choices (pick (length choices) word) ≡ Some outcome
-      → Trace pick task game rules (state_after state outcome) left text last → Trace pick task game rules state (word ∷ left) (step_line task rule action (pick (length choices) word) ++ text) last
+-- a rule list is stepped in the states of a task: it chooses an action with its outcomes, and the line of a step names the first rule
+-- that holds
+abbrev pub stepping : LiftedTask → Task → List Rule → Stepping State (GroundAction × List (List Literal))
+stepping task game rules = record {
+  AtGoal = IsGoal task;
+  AtDeadEnd = ChooseNone task game rules;
+  Chooses = λ state choice. Choose task game rules state choice.0 choice.1;
+  count = λ choice. length choice.1;
+  Leads = λ state choice number line next. (rule : ℕ) × (selected_rule rules (restrict task state) ≡ Some rule) × (line ≡ step_line task rule choice.0 number)
+      × ((outcome : List Literal) × (slice_get choice.1 number ≡ Some outcome) × (next ≡ state_after state outcome));
+}
+
+-- the trace of rules from a state over words, each of which picks an outcome: its lines and its last state
+abbrev pub Trace : Pick → LiftedTask → Task → List Rule → State → List ℕ → List ℕ → State → Type 0
+Trace pick task game rules = TraceOf (stepping task game rules) pick

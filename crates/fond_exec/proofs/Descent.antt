@@ -1,6 +1,6 @@
 -- Lucky steps by sure rules lead to earlier and earlier rules, and so to a goal.
-use Rattle.std.proofs.Common.{◌≡◌, inl, inr, ⊎_elim, ℕ, zero, suc, ◌<◌, ◌≤◌, List, [], ◌∷◌, Bool, true, false, Option, Some, None, length, get_or, refl, sym, ap, ◌∙◌, subst, arith}
-use Rattle.std.specs.Prelude.{◌⊎◌, slice_get, position, option_and_then, find, Contains}
+use Rattle.std.proofs.Common.{◌≡◌, inl, inr, ℕ, zero, suc, ◌<◌, ◌≤◌, List, [], ◌∷◌, Bool, true, Option, Some, None, length, get_or, refl, sym, ap, ◌∙◌, subst, arith}
+use Rattle.std.specs.Prelude.{◌⊎◌, slice_get, position, option_and_then}
 use Rattle.std.proofs.lemmas.Bool.{cases_lt, false≢true}
 use Rattle.std.proofs.lemmas.List.Quantifiers.{position-Some}
 use Rattle.std.proofs.lemmas.Option.{none-some, same_Some, slice_get_within, get_or_from_slice_get, slice_get-get_or}
@@ -25,9 +25,9 @@ use Rattle.fond_game.proofs.Ranks.{yes_true}
 use Rattle.fond_game.proofs.Reached.{length-next_state, next_lies}
 use Rattle.fond_rules.specs.Select.{selected_rule}
 use Rattle.fond_rules.proofs.First.{found_first}
-use Rattle.fond_exec.specs.Lucky.{AreSure, BeginsLucky, IsLucky, LuckyStepsDescend, LuckyStepsEnd, Names}
+use Rattle.fond_exec.specs.Lucky.{AreSure, BeginsLucky, IsLucky, LuckyStepsDescend, LuckyStepsEnd}
 use Rattle.fond_exec.specs.Steps.{IsTaken}
-use Rattle.fond_exec.specs.Traces.{Pick, Trace}
+use Rattle.fond_exec.specs.Traces.{Pick, Trace, TraceOf}
 use Rattle.fond_exec.proofs.Chosen.{chooses}
 
 module _ {X : Type 0} (test : X → Bool) (xs : List X) (k : ℕ) (x : X) (at : slice_get xs k ≡ Some x) (passes : test x ≡ true) where
@@ -117,12 +117,12 @@ module _ (task : Task) (pairs : List Pair) (rules : List Rule) (sure : AreSure t
 
   -- a trace that begins at a goal ends there, and takes no step
   stays : (pick : Pick) (state : List Bool) (words lines : List ℕ) (last : List Bool) → IsGoal task state → (trace : Trace pick task rules state words lines last) → (count : ℕ) → BeginsLucky pick task rules state words lines last count trace → (count ≡ 0) × IsGoal task last
-  stays pick state words lines last is (Trace.goal one left is_too) zero lucky = (refl, is)
-  stays pick state words lines last is (Trace.goal one left is_too) (suc count) lucky = absurd lucky
-  stays pick state words lines last is (Trace.ended one open_) count lucky = absurd (open_ is)
-  stays pick state words lines last is (Trace.stuck one word left open_ none) count lucky = absurd (open_ is)
-  stays pick state words lines last is (Trace.past one word left number act open_ chosen beyond) count lucky = absurd (open_ is)
-  stays pick state words lines last is (Trace.took one word left rule number outcome next text end taken picked later) count lucky = absurd (taken.open_ is)
+  stays pick state words lines last is (TraceOf.goal one left is_too) zero lucky = (refl, is)
+  stays pick state words lines last is (TraceOf.goal one left is_too) (suc count) lucky = absurd lucky
+  stays pick state words lines last is (TraceOf.ended one open_) count lucky = absurd (open_ is)
+  stays pick state words lines last is (TraceOf.stuck one word left open_ none) count lucky = absurd (open_ is)
+  stays pick state words lines last is (TraceOf.past one word left choice open_ chosen beyond) count lucky = absurd (open_ is)
+  stays pick state words lines last is (TraceOf.took one word left choice line next text end open_ chosen leads later) count lucky = absurd (open_ is)
 
   -- one more lucky step than those that come after it
   one_more : (bound rule : ℕ) (last next : List Bool) (count : ℕ) → rule < bound → (IsGoal task next → (count ≡ 0) × IsGoal task last) →
@@ -135,16 +135,20 @@ module _ (task : Task) (pairs : List Pair) (rules : List Rule) (sure : AreSure t
   few : (pick : Pick) (bound : ℕ) (state : List Bool) (words lines : List ℕ) (last : List Bool) → length state ≡ length task.atoms → ((rule : ℕ) → selected_rule rules state ≡ Some rule → rule < bound)
       → (trace : Trace pick task rules state words lines last) → (count : ℕ) → BeginsLucky pick task rules state words lines last count trace → AreFew bound last count
   few pick bound state words lines last long below trace zero lucky = (omega arith, λ some. absurd (omega (arith, some)))
-  few pick bound state words lines last long below (Trace.goal one left is) (suc count) lucky = absurd lucky
-  few pick bound state words lines last long below (Trace.ended one open_) (suc count) lucky = absurd lucky
-  few pick bound state words lines last long below (Trace.stuck one word left open_ none) (suc count) lucky = absurd lucky
-  few pick bound state words lines last long below (Trace.past one word left number act open_ chosen beyond) (suc count) lucky = absurd lucky
-  few pick bound state words lines last long below (Trace.took one word left rule number outcome next text end taken picked later) (suc count) lucky =
-      let here : rule < bound = below rule taken.selects in
-      let long_after : length next ≡ length task.atoms = ap length taken.given ∙ length-next_state one taken.entries ∙ long in
+  few pick bound state words lines last long below (TraceOf.goal one left is) (suc count) lucky = absurd lucky
+  few pick bound state words lines last long below (TraceOf.ended one open_) (suc count) lucky = absurd lucky
+  few pick bound state words lines last long below (TraceOf.stuck one word left open_ none) (suc count) lucky = absurd lucky
+  few pick bound state words lines last long below (TraceOf.past one word left choice open_ chosen beyond) (suc count) lucky = absurd lucky
+  few pick bound state words lines last long below (TraceOf.took one word left choice line next text end open_ chosen leads later) (suc count) lucky =
+      let rule = leads.0 in
+      let entries = leads.3.0 in
+      let outcome = pick (length choice.1.outcomes) word in
+      let taken : IsTaken task rules one outcome rule choice.0 next = record { open_ = open_; selects = leads.1; act = choice.1; chosen = chosen; entries = entries; picked = leads.3.1; given = leads.3.2 } in
+      let here : rule < bound = below rule leads.1 in
+      let long_after : length next ≡ length task.atoms = ap length leads.3.2 ∙ length-next_state one entries ∙ long in
       one_more bound rule last next count here (λ is. stays pick next left text last is later count lucky.1)
       (λ earlier. few pick rule next left text last long_after (λ other selects. subst (λ n. n < rule) (same_Some earlier.0 other (sym earlier.1 ∙ selects)) earlier.2) later count lucky.1)
-      (descends one outcome rule number next long taken lucky.0)
+      (descends one outcome rule choice.0 next long taken lucky.0)
 
 pub lucky_descend : LuckyStepsDescend
 lucky_descend task pairs rules state outcome rule number after long sure taken lucky = descends task pairs rules sure state outcome rule number after long taken lucky

@@ -1,6 +1,6 @@
 -- Traces step by step: the lines so far, and the traces that go on from there.
 use Rattle.std.proofs.Common.{◌≡◌, ℕ, ◌≤◌, List, [], ◌∷◌, ◌++◌, Bool, true, false, length, refl, sym, ap, ◌∙◌, subst, append_assoc, append-nil, arith}
-use Rattle.std.specs.Prelude.{Result, Ok, Err, OnOk, codes, if◌then◌else◌}
+use Rattle.std.specs.Prelude.{slice_get, Result, Ok, Err, OnOk, codes, if◌then◌else◌}
 use Rattle.fond_task.specs.declared.task.Act.{Act}
 use Rattle.fond_task.specs.declared.task.Task.{Task}
 use Rattle.fond_task.specs.Texts.{state_text}
@@ -84,7 +84,7 @@ module _ (pick : Pick) (task : Task) (rules : List Rule) where
           let counted : count ≡ length act.outcomes = is.1.3 in
           let named : number ≡ pick (length act.outcomes) outcome = picked ∙ ap (λ n. pick n outcome) counted in
           let beyond : length act.outcomes ≤ pick (length act.outcomes) outcome = subst (λ n. n ≤ pick (length act.outcomes) outcome) counted (subst (λ n. count ≤ n) named is.2) in
-          one_line (outcome_line (pick (length act.outcomes) outcome) (length act.outcomes)) last after (past state outcome more is.1.0 act is.0 is.1.2 beyond) is.3
+          one_line (outcome_line (pick (length act.outcomes) outcome) (length act.outcomes)) last after (past state outcome more (is.1.0, act) is.0 is.1.2 beyond) is.3
           (put ∙ (λ i. now ++ outcome_line (named i) (counted i)))
 
       -- a step that is taken goes on from the next state
@@ -97,7 +97,8 @@ module _ (pick : Pick) (task : Task) (rules : List Rule) where
             let P : List ℕ → Type 0 = λ w. Trace pick task rules state w (step_line task rule number chosen ++ text) end in
             let Q : List ℕ → Type 0 = λ w. Trace pick task rules start outcomes w end in
             subst Q (sym (append_assoc so_far.front (step_line task rule number chosen) text))
-            (so_far.onward _ end (subst P (sym next) (took state outcome more rule number chosen last text end is picked trace)));
+            (so_far.onward _ end (subst P (sym next) (took state outcome more (number, is.act) (step_line task rule number chosen) last text end is.open_ is.chosen
+            (rule, is.selects, ap (step_line task rule number) picked, (is.entries, ap (slice_get is.act.outcomes) (sym picked) ∙ is.picked, is.given)) trace)));
       }
 
 -- the trace of a run from the initial state, followed by the text of its last state

@@ -1,5 +1,5 @@
 -- What a rule list chooses in a state.
-use Rattle.std.specs.Prelude.{◌≡◌, ℕ, List, Bool, Some, length}
+use Rattle.std.specs.Prelude.{◌≡◌, List, Bool, Some, length}
 use Rattle.fond_task.specs.declared.task.Act.{Act}
 use Rattle.fond_task.specs.declared.task.Task.{Task}
 use Rattle.fond_game.specs.declared.rule.Rule.{Rule}

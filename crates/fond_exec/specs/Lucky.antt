@@ -9,7 +9,7 @@ use Rattle.fond_game.specs.Policies.{IsGoal, IsUnfair}
 use Rattle.fond_game.specs.Rules.{IsSureRule}
 use Rattle.fond_rules.specs.Select.{selected_rule}
 use Rattle.fond_exec.specs.Steps.{IsTaken}
-use Rattle.fond_exec.specs.Traces.{Pick, Trace}
+use Rattle.fond_exec.specs.Traces.{Pick, Trace, TraceOf}
 
 -- a rule names an outcome: it is that of its one target
 pub record Names (rules : List Rule) (number outcome : ℕ) : Type 0 where
@@ -25,8 +25,8 @@ IsLucky task rules rule number outcome = IsUnfair task number ⊎ Names rules ru
 -- a trace begins with this many lucky steps
 abbrev pub BeginsLucky : (pick : Pick) (task : Task) (rules : List Rule) (state : List Bool) (words lines : List ℕ) (last : List Bool) → ℕ → Trace pick task rules state words lines last → Type 0
 BeginsLucky pick task rules state words lines last zero trace = ⊤
-BeginsLucky pick task rules state words lines last (suc count) (Trace.took one word left rule number outcome next text end taken picked later) =
-    IsLucky task rules rule number outcome × BeginsLucky pick task rules next left text end count later
+BeginsLucky pick task rules state words lines last (suc count) (TraceOf.took one word left choice line next text end open_ chosen leads later) =
+    IsLucky task rules leads.0 choice.0 (pick (length choice.1.outcomes) word) × BeginsLucky pick task rules next left text end count later
 BeginsLucky pick task rules state words lines last (suc count) other = ⊥
 
 -- rules are sure, each at its number

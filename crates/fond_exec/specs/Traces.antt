@@ -1,14 +1,17 @@
 -- The trace of a rule list over a list of words, each of which picks an outcome, by the rules of docs/COMMANDS.md.
-use Rattle.std.specs.Prelude.{◌≡◌, ℕ, ◌≤◌, ◌%◌, List, [], ◌∷◌, ◌++◌, Bool, length, codes, slice_get}
+use Rattle.std.specs.Prelude.{◌≡◌, ℕ, ◌≤◌, ◌%◌, List, [], ◌∷◌, ◌++◌, Bool, Some, length, codes, slice_get}
 use Rattle.std.specs.Option.{option_map_or}
 use Rattle.std.specs.Fmt.{decimal}
 use Rattle.fond_task.specs.declared.task.Act.{Act}
+use Rattle.fond_task.specs.declared.task.Entry.{Entry}
 use Rattle.fond_task.specs.declared.task.Task.{Task}
+use Rattle.fond_task.specs.Steps.{next_state}
 use Rattle.fond_task.specs.Texts.{action_text, state_text}
 use Rattle.fond_task.specs.Truth.{is_true}
 use Rattle.fond_game.specs.declared.rule.Rule.{Rule}
 use Rattle.fond_game.specs.Policies.{IsGoal}
-use Rattle.fond_exec.specs.Steps.{IsChosen, IsStuck, IsTaken}
+use Rattle.fond_rules.specs.Select.{selected_rule}
+use Rattle.fond_exec.specs.Steps.{IsChosen, IsStuck}
 
 -- the line at a goal, with the count of the words that are left
 abbrev pub goal_line : ℕ → List ℕ
@@ -35,15 +38,41 @@ as_recorded count word = word
 abbrev pub by_remainder : Pick
 by_remainder count word = word % count
 
--- the trace of rules from a state over words: its lines and its last state
-pub data Trace (pick : Pick) (task : Task) (rules : List Rule) : List Bool → List ℕ → List ℕ → List Bool → Type 0 where
-  goal : (state : List Bool) (words : List ℕ) → IsGoal task state → Trace pick task rules state words (goal_line (length words)) state
-  ended : (state : List Bool) → ¬ IsGoal task state → Trace pick task rules state [] (codes "ended\n") state
-  stuck : (state : List Bool) (word : ℕ) (left : List ℕ) → ¬ IsGoal task state → IsStuck task rules state → Trace pick task rules state (word ∷ left) (codes "stuck\n") state
-  past : (state : List Bool) (word : ℕ) (left : List ℕ) (number : ℕ) (act : Act) → ¬ IsGoal task state → IsChosen task rules state number act → length act.outcomes ≤ pick (length act.outcomes) word
-      → Trace pick task rules state (word ∷ left) (outcome_line (pick (length act.outcomes) word) (length act.outcomes)) state
-  took : (state : List Bool) (word : ℕ) (left : List ℕ) (rule number outcome : ℕ) (next : List Bool) (text : List ℕ) (last : List Bool) (taken : IsTaken task rules state outcome rule number next) → outcome ≡ pick (length taken.act.outcomes) word
-      → Trace pick task rules next left text last → Trace pick task rules state (word ∷ left) (step_line task rule number outcome ++ text) last
+-- how something is stepped: where it is at a goal and where it is stuck, what it may choose in a state, how many outcomes a choice has,
+-- and to which state an outcome of a choice leads, with the line of that step
+pub record Stepping (S C : Type 0) : Type 1 where
+  pub AtGoal : S → Type 0
+  pub AtDeadEnd : S → Type 0
+  pub Chooses : S → C → Type 0
+  pub count : C → ℕ
+  pub Leads : S → C → ℕ → List ℕ → S → Type 0
+
+-- the trace from a state over words, each of which picks an outcome: its lines and its last state. It ends at a goal, when no word is
+-- left, when it is stuck, or when the choice has no outcome of the number that is picked; otherwise it goes on in the state to which
+-- that outcome leads
+pub data TraceOf {S C : Type 0} (steps : Stepping S C) (pick : Pick) : S → List ℕ → List ℕ → S → Type 0 where
+  goal : (state : S) (words : List ℕ) → steps.AtGoal state → TraceOf steps pick state words (goal_line (length words)) state
+  ended : (state : S) → ¬ steps.AtGoal state → TraceOf steps pick state [] (codes "ended\n") state
+  stuck : (state : S) (word : ℕ) (left : List ℕ) → ¬ steps.AtGoal state → steps.AtDeadEnd state → TraceOf steps pick state (word ∷ left) (codes "stuck\n") state
+  past : (state : S) (word : ℕ) (left : List ℕ) (choice : C) → ¬ steps.AtGoal state → steps.Chooses state choice → steps.count choice ≤ pick (steps.count choice) word
+      → TraceOf steps pick state (word ∷ left) (outcome_line (pick (steps.count choice) word) (steps.count choice)) state
+  took : (state : S) (word : ℕ) (left : List ℕ) (choice : C) (line : List ℕ) (next : S) (text : List ℕ) (last : S) → ¬ steps.AtGoal state → steps.Chooses state choice
+      → steps.Leads state choice (pick (steps.count choice) word) line next → TraceOf steps pick next left text last → TraceOf steps pick state (word ∷ left) (line ++ text) last
+
+-- a rule list is stepped: it chooses an action by its number, and the line of a step names the first rule that holds
+abbrev pub stepping : Task → List Rule → Stepping (List Bool) (ℕ × Act)
+stepping task rules = record {
+  AtGoal = IsGoal task;
+  AtDeadEnd = IsStuck task rules;
+  Chooses = λ state choice. IsChosen task rules state choice.0 choice.1;
+  count = λ choice. length choice.1.outcomes;
+  Leads = λ state choice outcome line next. (rule : ℕ) × (selected_rule rules state ≡ Some rule) × (line ≡ step_line task rule choice.0 outcome)
+      × ((entries : List Entry) × (slice_get choice.1.outcomes outcome ≡ Some entries) × (next ≡ next_state state entries));
+}
+
+-- the trace of rules from a state over words
+abbrev pub Trace : Pick → Task → List Rule → List Bool → List ℕ → List ℕ → List Bool → Type 0
+Trace pick task rules = TraceOf (stepping task rules) pick
 
 -- bytes are followed by the trace from the initial state and by the state in which it ends, and it is told whether that is a goal
 abbrev pub AppendsTrace : Pick → Task → List Rule → List ℕ → List ℕ → List ℕ → Bool → Type 0

@@ -13,7 +13,7 @@ use Rattle.fond_policy.specs.declared.cert.Cert.TheVariants.{Policy, Refusal, Co
 use Rattle.fond_rules.specs.Belongs.{BelongTo}
 use Rattle.fond_bridge.specs.Traces.{Trace}
 use Rattle.fond_exec.specs.Traces as steps
-use Rattle.fond_exec.specs.Traces.{Pick, as_recorded, by_remainder}
+use Rattle.fond_exec.specs.Traces.{Pick, TraceOf, as_recorded, by_remainder}
 use Rattle.fond_game.specs.declared.rule.Rule.{Rule}
 use Rattle.fond_ground.specs.Grounds.{IsGroundOf}
 use Rattle.fond_meaning.specs.Solutions.{initial}
@@ -37,12 +37,12 @@ use Rattle.fond_tool.specs.Runs.{AnswersRun}
 
 -- the last state of a trace has a truth value for each atom
 last_long : (pick : Pick) (game : Task) (rules : List Rule) (values : List Bool) (words lines : List ℕ) (last : List Bool) → IsState game values → steps.Trace pick game rules values words lines last → IsState game last
-last_long pick game rules values words lines last state (steps.goal at left is) = state
-last_long pick game rules values words lines last state (steps.ended at open_) = state
-last_long pick game rules values words lines last state (steps.stuck at outcome left open_ none) = state
-last_long pick game rules values words lines last state (steps.past at outcome left number act open_ chosen over) = state
-last_long pick game rules values words lines last state (steps.took at word left rule number outcome next text end taken picked later) =
-    last_long pick game rules next left text end (ap length taken.given ∙ length-by_index _ at ∙ state) later
+last_long pick game rules values words lines last state (TraceOf.goal at left is) = state
+last_long pick game rules values words lines last state (TraceOf.ended at open_) = state
+last_long pick game rules values words lines last state (TraceOf.stuck at outcome left open_ none) = state
+last_long pick game rules values words lines last state (TraceOf.past at outcome left choice open_ chosen over) = state
+last_long pick game rules values words lines last state (TraceOf.took at word left choice line next text end open_ chosen leads later) =
+    last_long pick game rules next left text end (ap length leads.3.2 ∙ length-by_index _ at ∙ state) later
 
 -- the reply by the ground task is that by the task
 reply_alike : (task : LiftedTask) (game : Task) (lines : List ℕ) (last : List Bool) → IsGroundOf task game → IsState game last → ground_reply game lines last ≡ trace_reply task lines (stands task last)

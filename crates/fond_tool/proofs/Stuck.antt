@@ -1,5 +1,5 @@
 -- No trace of a solution gets stuck.
-use Rattle.std.proofs.Common.{◌≡◌, ℕ, List, Some, length, slice_get, subst}
+use Rattle.std.proofs.Common.{◌≡◌, ℕ, List, Some, length, slice_get, sym, subst}
 use Rattle.fond_ast.specs.declared.task.LiftedTask.{LiftedTask}
 use Rattle.fond_play.specs.Games.{start, onward}
 use Rattle.fond_meaning.proofs.Come.{outcomes-come-next}
@@ -11,7 +11,7 @@ use Rattle.fond_task.specs.declared.task.Task.{Task}
 use Rattle.fond_game.proofs.Lists.{Contains-map, Contains_numbered}
 use Rattle.fond_game.specs.declared.rule.Rule.{Rule}
 use Rattle.fond_bridge.specs.Solutions.{rules_policy}
-use Rattle.fond_exec.specs.Traces.{Pick}
+use Rattle.fond_exec.specs.Traces.{Pick, TraceOf}
 use Rattle.fond_bridge.specs.Traces.{Choose, Trace}
 use Rattle.fond_tool.specs.Laws.{SolutionsNeverStick}
 use Rattle.fond_tool.specs.Stuck.{EndsStuck}
@@ -27,12 +27,14 @@ module _ (task : LiftedTask) (game : Task) (rules : List Rule) (solves : IsSolut
       (Contains-map (state_after state) all outcome (Contains_numbered all number outcome here))
 
   never : (pick : Pick) (state : State) (words lines : List ℕ) (last : State) → Reach task (rules_policy task game rules) state → (trace : Trace pick task game rules state words lines last) → ¬ EndsStuck trace
-  never pick state words lines last reached (Trace.goal at left is) stuck = stuck
-  never pick state words lines last reached (Trace.ended at open_) stuck = stuck
-  never pick state words lines last reached (Trace.stuck at word left open_ none) stuck = let choice = solves.acts at reached open_ in none choice.0 choice.1 choice.2
-  never pick state words lines last reached (Trace.past at word left action choices open_ choose over) stuck = stuck
-  never pick state words lines last reached (Trace.took at word left rule action choices outcome text end open_ selects choose here later) stuck =
-      never pick (state_after at outcome) left text end (onward at action (state_after at outcome) reached open_ choose.chosen (comes_next at action choices (pick (length choices) word) outcome choose here)) later stuck
+  never pick state words lines last reached (TraceOf.goal at left is) stuck = stuck
+  never pick state words lines last reached (TraceOf.ended at open_) stuck = stuck
+  never pick state words lines last reached (TraceOf.stuck at word left open_ none) stuck = let choice = solves.acts at reached open_ in none choice.0 choice.1 choice.2
+  never pick state words lines last reached (TraceOf.past at word left choice open_ chosen over) stuck = stuck
+  never pick state words lines last reached (TraceOf.took at word left choice line next text end open_ choose leads later) stuck =
+      let outcome = leads.3.0 in
+      let comes : IsNext task at choice.0 next = subst (IsNext task at choice.0) (sym leads.3.2) (comes_next at choice.0 choice.1 (pick (length choice.1) word) outcome choose leads.3.1) in
+      never pick next left text end (onward at choice.0 next reached open_ choose.chosen comes) later stuck
 
 pub never_stuck : SolutionsNeverStick
 never_stuck pick task game rules words lines last solves trace = never task game rules solves pick _ words lines last start trace

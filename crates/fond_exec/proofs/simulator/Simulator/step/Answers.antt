@@ -1,4 +1,4 @@
-use Rattle.std.proofs.Common.{◌≡◌, ℕ, ◌<◌, ◌^◌, ◌∙◌, length, ap, arith}
+use Rattle.std.proofs.Common.{◌≡◌, ◌∙◌, length, ap, arith}
 use Rattle.fond_game.proofs.Lists.{same_numbered}
 use Rattle.fond_task.specs.declared.task.Act.{Act}
 use Rattle.fond_exec.proofs.Chosen.{counted_outcomes}
