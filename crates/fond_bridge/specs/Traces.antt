@@ -33,12 +33,12 @@ abbrev pub step_line : LiftedTask → ℕ → GroundAction → ℕ → List ℕ
 step_line task rule action outcome =
     codes "rule " ++ decimal rule ++ codes " " ++ action_text (labels_of task) action ++ codes " outcome " ++ decimal outcome ++ codes "\n"
 
--- a rule list is stepped in the states of a task: it chooses an action with its outcomes, and the line of a step names the first rule
--- that holds
+-- how a rule list steps the states of a task: a choice is an action with its outcomes, and the line of a step names the first rule that
+-- holds
 abbrev pub stepping : LiftedTask → Task → List Rule → Stepping State (GroundAction × List (List Literal))
 stepping task game rules = record {
-  AtGoal = IsGoal task;
-  AtDeadEnd = ChooseNone task game rules;
+  IsGoal = IsGoal task;
+  IsStuck = ChooseNone task game rules;
   Chooses = λ state choice. Choose task game rules state choice.0 choice.1;
   count = λ choice. length choice.1;
   Leads = λ state choice number line next. (rule : ℕ) × (selected_rule rules (restrict task state) ≡ Some rule) × (line ≡ step_line task rule choice.0 number)

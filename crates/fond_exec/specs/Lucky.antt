@@ -22,7 +22,7 @@ pub record Names (rules : List Rule) (number outcome : ℕ) : Type 0 where
 abbrev pub IsLucky : Task → List Rule → ℕ → ℕ → ℕ → Type 0
 IsLucky task rules rule number outcome = IsUnfair task number ⊎ Names rules rule outcome
 
--- a trace begins with this many lucky steps
+-- a trace begins with at least this many lucky steps
 abbrev pub BeginsLucky : (pick : Pick) (task : Task) (rules : List Rule) (state : List Bool) (words lines : List ℕ) (last : List Bool) → ℕ → Trace pick task rules state words lines last → Type 0
 BeginsLucky pick task rules state words lines last zero trace = ⊤
 BeginsLucky pick task rules state words lines last (suc count) (TraceOf.took one word left choice line next text end open_ chosen leads later) =

@@ -21,8 +21,8 @@ pub record IsChosen (task : Task) (rules : List Rule) (state : List Bool) (numbe
 abbrev pub IsStuck : Task → List Rule → List Bool → Type 0
 IsStuck task rules state = (number : ℕ) → selected rules state ≡ Some number → ¬ IsApplicable task state number
 
--- in a state that is no goal, the first rule that holds and its action, by their numbers, lead to this state by an
--- outcome
+-- in a state that is no goal, the first rule that holds and its action, by their numbers, lead to this state by the
+-- outcome of this number
 pub record IsTaken (task : Task) (rules : List Rule) (state : List Bool) (outcome rule number : ℕ) (after : List Bool) : Type 0 where
   pub open_ : ¬ IsGoal task state
   pub selects : selected_rule rules state ≡ Some rule

@@ -1,4 +1,4 @@
--- The trace of a rule list over a list of words, each of which picks an outcome, by the rules of docs/COMMANDS.md.
+-- Traces over words that pick outcomes, by the rules of docs/COMMANDS.md, and those of a rule list in a ground task.
 use Rattle.std.specs.Prelude.{◌≡◌, ℕ, ◌≤◌, ◌%◌, List, [], ◌∷◌, ◌++◌, Bool, Some, length, codes, slice_get}
 use Rattle.std.specs.Option.{option_map_or}
 use Rattle.std.specs.Fmt.{decimal}
@@ -30,40 +30,40 @@ step_line task rule number outcome =
 abbrev pub Pick : Type 0
 Pick = ℕ → ℕ → ℕ
 
--- a recorded number is that of the outcome
+-- a number of a script is that of the outcome
 abbrev pub as_recorded : Pick
 as_recorded count word = word
 
--- a drawn word picks the outcome of its remainder
+-- a drawn word picks the outcome whose number is its remainder by the count
 abbrev pub by_remainder : Pick
 by_remainder count word = word % count
 
--- how something is stepped: where it is at a goal and where it is stuck, what it may choose in a state, how many outcomes a choice has,
--- and to which state an outcome of a choice leads, with the line of that step
+-- how states are stepped: which are goals and which are stuck, what is chosen in a state, how many outcomes a choice has, and to which
+-- state an outcome of a choice, by its number below that count, leads with which line
 pub record Stepping (S C : Type 0) : Type 1 where
-  pub AtGoal : S → Type 0
-  pub AtDeadEnd : S → Type 0
+  pub IsGoal : S → Type 0
+  pub IsStuck : S → Type 0
   pub Chooses : S → C → Type 0
   pub count : C → ℕ
   pub Leads : S → C → ℕ → List ℕ → S → Type 0
 
--- the trace from a state over words, each of which picks an outcome: its lines and its last state. It ends at a goal, when no word is
--- left, when it is stuck, or when the choice has no outcome of the number that is picked; otherwise it goes on in the state to which
--- that outcome leads
+-- the trace from a state over words, each of which picks an outcome: its lines and its last state. It ends at a goal; elsewhere when no
+-- word is left; with a word left, when the state is stuck, or when the number that is picked is not below the count of the choice's
+-- outcomes; otherwise it goes on in the state to which that outcome leads
 pub data TraceOf {S C : Type 0} (steps : Stepping S C) (pick : Pick) : S → List ℕ → List ℕ → S → Type 0 where
-  goal : (state : S) (words : List ℕ) → steps.AtGoal state → TraceOf steps pick state words (goal_line (length words)) state
-  ended : (state : S) → ¬ steps.AtGoal state → TraceOf steps pick state [] (codes "ended\n") state
-  stuck : (state : S) (word : ℕ) (left : List ℕ) → ¬ steps.AtGoal state → steps.AtDeadEnd state → TraceOf steps pick state (word ∷ left) (codes "stuck\n") state
-  past : (state : S) (word : ℕ) (left : List ℕ) (choice : C) → ¬ steps.AtGoal state → steps.Chooses state choice → steps.count choice ≤ pick (steps.count choice) word
+  goal : (state : S) (words : List ℕ) → steps.IsGoal state → TraceOf steps pick state words (goal_line (length words)) state
+  ended : (state : S) → ¬ steps.IsGoal state → TraceOf steps pick state [] (codes "ended\n") state
+  stuck : (state : S) (word : ℕ) (left : List ℕ) → ¬ steps.IsGoal state → steps.IsStuck state → TraceOf steps pick state (word ∷ left) (codes "stuck\n") state
+  past : (state : S) (word : ℕ) (left : List ℕ) (choice : C) → ¬ steps.IsGoal state → steps.Chooses state choice → steps.count choice ≤ pick (steps.count choice) word
       → TraceOf steps pick state (word ∷ left) (outcome_line (pick (steps.count choice) word) (steps.count choice)) state
-  took : (state : S) (word : ℕ) (left : List ℕ) (choice : C) (line : List ℕ) (next : S) (text : List ℕ) (last : S) → ¬ steps.AtGoal state → steps.Chooses state choice
+  took : (state : S) (word : ℕ) (left : List ℕ) (choice : C) (line : List ℕ) (next : S) (text : List ℕ) (last : S) → ¬ steps.IsGoal state → steps.Chooses state choice
       → steps.Leads state choice (pick (steps.count choice) word) line next → TraceOf steps pick next left text last → TraceOf steps pick state (word ∷ left) (line ++ text) last
 
--- a rule list is stepped: it chooses an action by its number, and the line of a step names the first rule that holds
+-- how a rule list steps states: a choice is an action with its number, and the line of a step names the first rule that holds
 abbrev pub stepping : Task → List Rule → Stepping (List Bool) (ℕ × Act)
 stepping task rules = record {
-  AtGoal = IsGoal task;
-  AtDeadEnd = IsStuck task rules;
+  IsGoal = IsGoal task;
+  IsStuck = IsStuck task rules;
   Chooses = λ state choice. IsChosen task rules state choice.0 choice.1;
   count = λ choice. length choice.1.outcomes;
   Leads = λ state choice outcome line next. (rule : ℕ) × (selected_rule rules state ≡ Some rule) × (line ≡ step_line task rule choice.0 outcome)
