@@ -1,11 +1,7 @@
 use crate::coin::{ground_coin, ground_idle};
 use fond_draft::draft::Draft;
-use fond_draft::replay::replay;
-use fond_draft::turn::{first_open, is_ready};
-use fond_hint::step::{PlanStep, PlanSteps};
 use fond_layers::layers::Layer;
 use fond_state::cube::Cube;
-use fond_state::state::State;
 use std::test::Fail;
 
 #[test]
@@ -47,22 +43,5 @@ fn a_draft_without_fresh_pairs_heeds_none(rt: HostRuntime) -> Result<(), Fail> {
     let mut draft = Draft::new(alloc, &coin);
     draft.heed_fresh(alloc, &coin)?;
     assert_eq!(rt; draft.pairs.len(), 0);
-    Ok(())
-}
-
-#[test]
-fn a_step_that_may_reach_the_goal_is_ready(rt: HostRuntime) -> Result<(), Fail> {
-    let alloc = rt.alloc();
-    let coin = ground_coin(alloc)?;
-    let draft = Draft::new(alloc, &coin);
-    let mut steps = PlanSteps::new(alloc);
-    steps.push(PlanStep { act: 0, outcome: 0 })?;
-    let turns = replay(alloc, &coin, &coin.init, &steps)?;
-    assert_eq!(rt; turns.len(), 1);
-    let mut next = State::new(alloc, coin.atoms.len() as u32)?;
-    for turn in &turns {
-        assert!(rt; is_ready(alloc, &coin, &draft, turn, &mut next)?);
-        assert_eq!(rt; first_open(&coin, &draft.rules, turn, &mut next), Some(1));
-    }
     Ok(())
 }
