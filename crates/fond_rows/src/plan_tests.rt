@@ -1,13 +1,11 @@
 //! Worked examples of `plan`: what it prints, and that `check` accepts it.
 
-use crate::rows::{COIN, COIN_P, Row, check, check_plan, check_with};
+use crate::rows::{COIN, COIN_P, Row, check, check_decided, check_plan, check_with};
 use crate::tasks::{Task, files_of};
 use fond_tool::laws::{
     correct_are_accepted, hopeless_tasks_are_refused, migrated_are_accepted, planned_are_accepted,
     small_tasks_are_decided, solutions_never_stick,
 };
-use std::alloc::Global;
-use std::process::Abort;
 use std::test::Fail;
 
 /// A name, the files of the task, the budget, and the status and the text of the answer.
@@ -100,28 +98,12 @@ const ROWS: [(&str, Task, &str, u8, &str); 14] = [
     ),
 ];
 
-fn check_decided(
-    rt: &impl Abort,
-    alloc: Global,
-    table: &[(&str, Task, &str, u8, &str)],
-) -> Result<(), Fail> {
-    for &(name, task, budget, status, text) in table {
-        let [domain, problem, side] = files_of(task);
-        let row = Row {
-            name,
-            words: &["plan", "domain", "problem", "side", budget],
-            files: &[("domain", domain), ("problem", problem), ("side", side)],
-            status,
-            text,
-        };
-        check(rt, alloc, row)?;
-    }
-    Ok(())
-}
-
 #[test]
 fn tasks_are_decided(rt: HostRuntime) -> Result<(), Fail> {
-    check_decided(&rt, rt.alloc(), &ROWS)
+    for (_name, task, budget, status, text) in ROWS {
+        check_decided(&rt, rt.alloc(), files_of(task), budget, status, text)?;
+    }
+    Ok(())
 }
 
 /// The row of the coin at its goal, with a problem that is not there, or with a write that fails.

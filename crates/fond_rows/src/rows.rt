@@ -282,6 +282,23 @@ pub fn check_bytes(
     Ok(())
 }
 
+/// `plan` answers these files and this budget with this status and this text.
+pub fn check_decided(
+    rt: &impl Abort,
+    alloc: Global,
+    [domain, problem, side]: [&str; 3],
+    budget: &str,
+    status: u8,
+    text: &str,
+) -> Result<(), Fail> {
+    let task = [("domain", domain), ("problem", problem), ("side", side)];
+    let words = ["plan", "domain", "problem", "side", budget];
+    let told = answer_to(alloc, &words, shelf_files(alloc, &task)?, None, None)?;
+    assert_eq!(rt; told.status, status, "{domain}");
+    assert_eq!(rt; told.text.as_slice(), text.as_bytes(), "{domain}");
+    Ok(())
+}
+
 /// `plan` answers these files and this budget with this status, and `check` its text with this one.
 pub fn check_plan(
     rt: &impl Abort,
