@@ -90,15 +90,6 @@ fn goal_form(alloc: Global, table: &Table) -> Result<Form, NoMemory>
     form_of(alloc, table, &table.facts.task.goal, &mut env)
 }
 
-/// A copy of a name. What the bytes of a name are is known from the call that reads them.
-fn name_copy(alloc: Global, name: &Name) -> Result<Name, NoMemory>
-    ensures copy { IfOk result (λ copy. copy ≡ name.now) }
-    ensures name { IfOk result IsName }
-{
-    let _bytes = name.bytes();
-    name.copy(alloc)
-}
-
 /// The names of the predicates, in order.
 fn predicate_names(alloc: Global, task: &LiftedTask) -> Result<Names, NoMemory>
     ensures names { IfOk result (λ names. names ≡ map (λ predicate. predicate.name) task.now.predicates) }
@@ -106,7 +97,7 @@ fn predicate_names(alloc: Global, task: &LiftedTask) -> Result<Names, NoMemory>
 {
     let mut names = Names::new(alloc);
     for i in 0..task.predicates.len() {
-        names.push(name_copy(alloc, &task.predicates.get(i).name)?)?;
+        names.push(task.predicates.get(i).name.copy(alloc)?)?;
     }
     Ok(names)
 }
@@ -118,7 +109,7 @@ fn object_names(alloc: Global, task: &LiftedTask) -> Result<Names, NoMemory>
 {
     let mut names = Names::new(alloc);
     for i in 0..task.objects.len() {
-        names.push(name_copy(alloc, task.objects.get(i))?)?;
+        names.push(task.objects.get(i).copy(alloc)?)?;
     }
     Ok(names)
 }
@@ -130,7 +121,7 @@ fn schema_names(alloc: Global, task: &LiftedTask) -> Result<Names, NoMemory>
 {
     let mut names = Names::new(alloc);
     for i in 0..task.schemas.len() {
-        names.push(name_copy(alloc, &task.schemas.get(i).name)?)?;
+        names.push(task.schemas.get(i).name.copy(alloc)?)?;
     }
     Ok(names)
 }

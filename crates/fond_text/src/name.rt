@@ -43,7 +43,8 @@ impl Name {
 
     /// A copy of the name.
     pub fn copy(&self, alloc: Global) -> Result<Name, NoMemory>
-        ensures { IfOk result (λ n. n ≡ self.now) }
+        ensures copy { IfOk result (λ n. n ≡ self.now) }
+        ensures name { IfOk result IsName }
     {
         Ok(Name {
             bytes: Vec::from_slice(alloc, self.bytes.as_slice())?,

@@ -13,12 +13,12 @@ pub returns-clause-named : goal.returns-clause-named
 returns-clause-named c =
     let names = c.args.names.now in
     let none : is_some (number_beside c.args.numbers.now c.args.name.now) ≡ false = cc in
-    c.in_ok-push.ensures.ok ∙ ap (λ name. names ++ name ∷ []) c.in_ok-copy.ensures ∙ sym (declared_new c.args.numbers.now names c.requires.numbered c.args.name.now none)
+    c.in_ok-push.ensures.ok ∙ ap (λ name. names ++ name ∷ []) c.in_ok-copy.ensures.copy ∙ sym (declared_new c.args.numbers.now names c.requires.numbered c.args.name.now none)
 
 pub returns-clause-numbered : goal.returns-clause-numbered
 returns-clause-numbered c =
     let numbers = c.args.numbers.now in
     let names = c.args.names.now in
     let none : is_some (number_beside numbers c.args.name.now) ≡ false = cc in
-    let named = c.in_ok-push.ensures.ok ∙ ap (λ name. names ++ name ∷ []) c.in_ok-copy.ensures ∙ sym (declared_new numbers names c.requires.numbered c.args.name.now none) in
+    let named = c.in_ok-push.ensures.ok ∙ ap (λ name. names ++ name ∷ []) c.in_ok-copy.ensures.copy ∙ sym (declared_new numbers names c.requires.numbered c.args.name.now none) in
     c.in_ok-insert_name.ensures ∙ numbered_new numbers names c.requires.numbered c.args.name.now none c.len.result c.len.ensures ∙ ap (numbered_from 0) (sym named)

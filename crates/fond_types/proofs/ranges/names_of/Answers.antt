@@ -9,6 +9,6 @@ loop-i-preserved c =
     let kinds = c.args.kinds.now in
     let kind = c.get.result.now in
     let rest = kind_names (drop (c.loop-i.i + 1) kinds) in
-    ap (λ names. names ++ rest) (c.in_ok-push.ensures.ok ∙ ap (λ name. c.loop-i.names ++ name ∷ []) c.in_ok-copy.ensures)
+    ap (λ names. names ++ rest) (c.in_ok-push.ensures.ok ∙ ap (λ name. c.loop-i.names ++ name ∷ []) c.in_ok-copy.ensures.copy)
     ∙ append_assoc c.loop-i.names (kind.name ∷ []) rest
     ∙ ap (λ (some : List Kind). c.loop-i.names ++ kind_names some) (sym (next_left kinds c.loop-i.i kind c.get.ensures)) ∙ c.loop-i.invariant

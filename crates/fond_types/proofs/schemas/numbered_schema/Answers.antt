@@ -24,7 +24,7 @@ returns-clause-numbered c =
     record {
       resolved = record {
         place = refl;
-        named = c.in_ok-name.ensures;
+        named = c.in_ok-name.ensures.copy;
         ranges = c.in_ok-ranges.ensures.ranges;
         pre = body.pre_is.resolved;
         effect = body.effect_is.resolved;
