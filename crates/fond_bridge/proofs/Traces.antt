@@ -1,11 +1,10 @@
 -- A trace of a ground task is one of its task, with the same lines.
-use Rattle.std.proofs.Common.{◌≡◌, ℕ, ◌≤◌, List, [], ◌∷◌, ◌++◌, Bool, not, ◌&&◌, ◌||◌, Some, length, refl, sym, ap, ◌∙◌, subst}
-use Rattle.std.specs.Prelude.{slice_get, codes, option_and_then}
-use Rattle.std.specs.Fmt.{decimal}
+use Rattle.std.proofs.Common.{◌≡◌, ℕ, ◌≤◌, List, ◌∷◌, ◌++◌, Bool, not, ◌&&◌, ◌||◌, Some, length, refl, sym, ap, ◌∙◌, subst}
+use Rattle.std.specs.Prelude.{slice_get, option_and_then}
 use Rattle.std.specs.List.{AllZip}
-use Rattle.std.specs.Option.{option_map_or}
 use Rattle.std.proofs.lemmas.Option.{same_Some}
 use Rattle.std.proofs.lemmas.Slice.Zip.{AllZip-long}
+use Rattle.fond_text.specs.declared.atom.GroundAction.{GroundAction}
 use Rattle.fond_ast.specs.declared.task.LiftedTask.{LiftedTask}
 use Rattle.fond_meaning.specs.Outcomes.{Literal, outcomes, state_after}
 use Rattle.fond_meaning.specs.Solutions as lifted
@@ -14,20 +13,21 @@ use Rattle.fond_task.specs.declared.task.Entry.{Entry}
 use Rattle.fond_task.specs.declared.task.Labels.{Labels}
 use Rattle.fond_task.specs.declared.task.Task.{Task}
 use Rattle.fond_task.specs.Steps.{adds, deletes, next_state}
-use Rattle.fond_task.specs.Texts.{action_text}
 use Rattle.fond_task.proofs.Indices.{length-by_index}
 use Rattle.fond_game.specs.declared.rule.Rule.{Rule}
 use Rattle.fond_game.specs.Policies as ground
 use Rattle.fond_game.specs.Policies.{selected}
 use Rattle.fond_rules.specs.Select.{selected_rule}
-use Rattle.fond_exec.specs.Steps.{IsChosen, IsStuck}
+use Rattle.fond_exec.specs.Steps.{IsChosen}
 use Rattle.fond_exec.specs.Traces as steps
-use Rattle.fond_exec.specs.Traces.{outcome_line, Pick, TraceOf, goal, ended, stuck, past, took}
+use Rattle.fond_exec.specs.Traces.{step_line}
+use Rattle.fond_play.specs.Traces.{outcome_line, Pick, TraceOf, goal, ended, stuck, bad_outcome, took}
 use Rattle.fond_ground.specs.Grounds.{IsActOf, IsEntryOf, IsGroundOf}
+use Rattle.fond_ground.specs.Texts.{labels_of}
 use Rattle.fond_bridge.specs.Stands.{stands}
 use Rattle.fond_bridge.specs.Games.{IsState, action_of}
 use Rattle.fond_bridge.specs.Solutions.{rules_policy}
-use Rattle.fond_bridge.specs.Traces.{Choose, ChooseNone, Trace, step_line}
+use Rattle.fond_bridge.specs.Traces.{Choose, Trace}
 use Rattle.fond_bridge.proofs.Agrees.{names_action, restricted}
 use Rattle.fond_bridge.proofs.Lists.{zip-right}
 use Rattle.fond_bridge.proofs.Maps.{and_then}
@@ -64,10 +64,12 @@ module _ (task : LiftedTask) (game : Task) (is : IsGroundOf task game) (rules : 
           choices_are = refl;
         }
 
-    chooses_none : IsStuck game rules values → ChooseNone task game rules (stands task values)
-    chooses_none none action chosen applies =
-        let from = and_then (action_of game) (selected rules values) action (sym policy_is ∙ chosen) in
-        none from.0 from.1 (((plays task game is).applicable values from.0 action state from.2).1 applies)
+    -- where no act is chosen, no action is
+    chooses_none : ((choice : ℕ × Act) → ¬ IsChosen game rules values choice.0 choice.1) → (choice : GroundAction × List (List Literal)) → ¬ Choose task game rules (stands task values) choice.0 choice.1
+    chooses_none none choice choose =
+        let from = and_then (action_of game) (selected rules values) choice.0 (sym policy_is ∙ choose.chosen) in
+        let applies = ((plays task game is).applicable values from.0 choice.0 state from.2).1 choose.applicable in
+        none (from.0, applies.act) (record { selects = from.1; numbered = applies.numbered; holds = applies.holds })
 
     open_alike : ¬ ground.IsGoal game values → ¬ lifted.IsGoal task (stands task values)
     open_alike open_ is_goal = open_ (((plays task game is).goal values state).1 is_goal)
@@ -82,24 +84,18 @@ module _ (task : LiftedTask) (game : Task) (is : IsGroundOf task game) (rules : 
     next_long : (entries : List Entry) → IsState game (next_state values entries)
     next_long entries = length-by_index (λ atom value. adds values entries atom || (value && not (deletes values entries atom))) values ∙ state
 
-  -- a step is written alike in both games
-  lines_alike : (rule number outcome : ℕ) (act : Act) → slice_get game.acts number ≡ Some act → steps.step_line game rule number outcome ≡ step_line task rule act.ground outcome
-  lines_alike rule number outcome act at =
-      ap (λ text. codes "rule " ++ decimal rule ++ codes " " ++ text ++ codes " outcome " ++ decimal outcome ++ codes "\n")
-      (ap (λ o. option_map_or (λ (one : Act). action_text game.labels one.ground) o []) at ∙ ap (λ (labels : Labels). action_text labels act.ground) is.labels)
-
   -- a trace from a state is one from the state for which it stands
   pub trace_alike : (pick : Pick) (values : List Bool) (words lines : List ℕ) (last : List Bool) → IsState game values → steps.Trace pick game rules values words lines last
       → Trace pick task game rules (stands task values) words lines (stands task last)
   trace_alike pick values words lines last state (TraceOf.goal one left is_goal) = goal (stands task one) left (((plays task game is).goal one state).0 is_goal)
   trace_alike pick values words lines last state (TraceOf.ended one open_) = ended (stands task one) (open_alike one state open_)
   trace_alike pick values words lines last state (TraceOf.stuck one word left open_ none) = stuck (stands task one) word left (open_alike one state open_) (chooses_none one state none)
-  trace_alike pick values words lines last state (TraceOf.past one word left choice open_ chosen beyond) =
+  trace_alike pick values words lines last state (TraceOf.bad_outcome one word left choice open_ chosen beyond) =
       let act = choice.1 in
       let choices = choices_of choice.0 act chosen.numbered in
       let same = choices_long choice.0 act chosen.numbered in
       subst (λ count. Trace pick task game rules (stands task one) (word ∷ left) (outcome_line (pick count word) count) (stands task one)) same
-      (past (stands task one) word left (act.ground, choices) (open_alike one state open_) (chooses one state choice.0 act chosen) (subst (λ count. count ≤ pick count word) (sym same) beyond))
+      (bad_outcome (stands task one) word left (act.ground, choices) (open_alike one state open_) (chooses one state choice.0 act chosen) (subst (λ count. count ≤ pick count word) (sym same) beyond))
   trace_alike pick values words lines last state (TraceOf.took one word left choice line next text end open_ chosen leads trace) =
       let act = choice.1 in
       let at = chosen.numbered in
@@ -113,5 +109,5 @@ module _ (task : LiftedTask) (game : Task) (is : IsGroundOf task game) (rules : 
       let there : stands task next ≡ state_after (stands task one) own.0 = ap (stands task) leads.3.2 ∙ own.2 in
       let named : outcome ≡ pick (length choices) word = ap (λ count. pick count word) (sym (choices_long choice.0 act at)) in
       took (stands task one) word left (act.ground, choices) line (stands task next) text (stands task end) (open_alike one state open_) (chooses one state choice.0 act chosen)
-      (rule, ap (selected_rule rules) (restricted task game is one state) ∙ leads.1, leads.2 ∙ lines_alike rule choice.0 outcome act at ∙ ap (step_line task rule act.ground) named, (own.0, ap (slice_get choices) (sym named) ∙ own.1, there))
+      (rule, ap (selected_rule rules) (restricted task game is one state) ∙ leads.1, leads.2 ∙ ap (λ (labels : Labels). step_line labels rule act.ground outcome) is.labels ∙ ap (step_line (labels_of task) rule act.ground) named, (own.0, ap (slice_get choices) (sym named) ∙ own.1, there))
       rest

@@ -5,7 +5,7 @@ use Rattle.fond_ast.specs.declared.task.LiftedTask.{LiftedTask}
 use Rattle.fond_meaning.specs.Outcomes.{outcomes, state_after}
 use Rattle.fond_meaning.specs.Solutions.{initial}
 use Rattle.fond_exec.specs.Traces as ground
-use Rattle.fond_exec.specs.Traces.{Pick}
+use Rattle.fond_play.specs.Traces.{Pick}
 use Rattle.fond_game.specs.declared.rule.Rule.{Rule}
 use Rattle.fond_ground.specs.Grounds.{IsActOf, IsGroundOf}
 use Rattle.fond_ground.specs.Texts.{state_text}

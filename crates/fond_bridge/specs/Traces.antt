@@ -1,6 +1,5 @@
 -- The trace of a rule list in the states of a task, over a list of words, by the rules of docs/COMMANDS.md.
-use Rattle.std.specs.Prelude.{◌≡◌, ℕ, List, ◌++◌, Some, length, slice_get, codes}
-use Rattle.std.specs.Fmt.{decimal}
+use Rattle.std.specs.Prelude.{◌≡◌, ℕ, List, Some, length, slice_get}
 use Rattle.fond_text.specs.declared.atom.GroundAction.{GroundAction}
 use Rattle.fond_ast.specs.declared.task.LSchema.{LSchema}
 use Rattle.fond_ast.specs.declared.task.LiftedTask.{LiftedTask}
@@ -8,15 +7,15 @@ use Rattle.fond_meaning.specs.Outcomes.{Literal, outcomes, state_after}
 use Rattle.fond_meaning.specs.Solutions.{IsApplicable, IsGoal}
 use Rattle.fond_meaning.specs.States.{State}
 use Rattle.fond_task.specs.declared.task.Task.{Task}
-use Rattle.fond_task.specs.Texts.{action_text}
 use Rattle.fond_game.specs.declared.rule.Rule.{Rule}
 use Rattle.fond_rules.specs.Select.{selected_rule}
-use Rattle.fond_exec.specs.Traces.{Pick, Stepping, TraceOf}
+use Rattle.fond_play.specs.Traces.{Pick, Stepping, TraceOf}
+use Rattle.fond_exec.specs.Traces.{step_line}
 use Rattle.fond_ground.specs.Texts.{labels_of}
 use Rattle.fond_bridge.specs.Stands.{restrict}
 use Rattle.fond_bridge.specs.Solutions.{rules_policy}
 
--- the rules choose an action in a state, which is applicable there and has these outcomes
+-- the rules choose an action in a state, which is applicable there, and its outcomes are these
 pub record Choose (task : LiftedTask) (game : Task) (rules : List Rule) (state : State) (action : GroundAction) (choices : List (List Literal)) : Type 0 where
   pub chosen : rules_policy task game rules state ≡ Some action
   pub applicable : IsApplicable task state action
@@ -24,24 +23,14 @@ pub record Choose (task : LiftedTask) (game : Task) (rules : List Rule) (state :
   pub numbered : slice_get task.schemas action.schema ≡ Some schema
   pub choices_are : choices ≡ outcomes action.objects schema.effect
 
--- the rules choose no action in a state, or one that is not applicable there
-abbrev pub ChooseNone : LiftedTask → Task → List Rule → State → Type 0
-ChooseNone task game rules state = (action : GroundAction) → rules_policy task game rules state ≡ Some action → ¬ IsApplicable task state action
-
--- the line of a step: the rule, its action and the outcome
-abbrev pub step_line : LiftedTask → ℕ → GroundAction → ℕ → List ℕ
-step_line task rule action outcome =
-    codes "rule " ++ decimal rule ++ codes " " ++ action_text (labels_of task) action ++ codes " outcome " ++ decimal outcome ++ codes "\n"
-
 -- how a rule list steps the states of a task: a choice is an action with its outcomes, and the line of a step names the first rule that
 -- holds
 abbrev pub stepping : LiftedTask → Task → List Rule → Stepping State (GroundAction × List (List Literal))
 stepping task game rules = record {
   IsGoal = IsGoal task;
-  IsStuck = ChooseNone task game rules;
   Chooses = λ state choice. Choose task game rules state choice.0 choice.1;
   count = λ choice. length choice.1;
-  Leads = λ state choice number line next. (rule : ℕ) × (selected_rule rules (restrict task state) ≡ Some rule) × (line ≡ step_line task rule choice.0 number)
+  Leads = λ state choice number line next. (rule : ℕ) × (selected_rule rules (restrict task state) ≡ Some rule) × (line ≡ step_line (labels_of task) rule choice.0 number)
       × ((outcome : List Literal) × (slice_get choice.1 number ≡ Some outcome) × (next ≡ state_after state outcome));
 }
 

@@ -27,7 +27,8 @@ use Rattle.fond_rules.specs.Select.{selected_rule}
 use Rattle.fond_rules.proofs.First.{found_first}
 use Rattle.fond_exec.specs.Lucky.{AreSure, BeginsLucky, IsLucky, LuckyStepsDescend, LuckyStepsEnd}
 use Rattle.fond_exec.specs.Steps.{IsTaken}
-use Rattle.fond_exec.specs.Traces.{Pick, Trace, TraceOf}
+use Rattle.fond_play.specs.Traces.{Pick, TraceOf}
+use Rattle.fond_exec.specs.Traces.{Trace}
 use Rattle.fond_exec.proofs.Chosen.{chooses}
 
 module _ {X : Type 0} (test : X → Bool) (xs : List X) (k : ℕ) (x : X) (at : slice_get xs k ≡ Some x) (passes : test x ≡ true) where
@@ -121,7 +122,7 @@ module _ (task : Task) (pairs : List Pair) (rules : List Rule) (sure : AreSure t
   stays pick state words lines last is (TraceOf.goal one left is_too) (suc count) lucky = absurd lucky
   stays pick state words lines last is (TraceOf.ended one open_) count lucky = absurd (open_ is)
   stays pick state words lines last is (TraceOf.stuck one word left open_ none) count lucky = absurd (open_ is)
-  stays pick state words lines last is (TraceOf.past one word left choice open_ chosen beyond) count lucky = absurd (open_ is)
+  stays pick state words lines last is (TraceOf.bad_outcome one word left choice open_ chosen beyond) count lucky = absurd (open_ is)
   stays pick state words lines last is (TraceOf.took one word left choice line next text end open_ chosen leads later) count lucky = absurd (open_ is)
 
   -- one more lucky step than those that come after it
@@ -138,7 +139,7 @@ module _ (task : Task) (pairs : List Pair) (rules : List Rule) (sure : AreSure t
   few pick bound state words lines last long below (TraceOf.goal one left is) (suc count) lucky = absurd lucky
   few pick bound state words lines last long below (TraceOf.ended one open_) (suc count) lucky = absurd lucky
   few pick bound state words lines last long below (TraceOf.stuck one word left open_ none) (suc count) lucky = absurd lucky
-  few pick bound state words lines last long below (TraceOf.past one word left choice open_ chosen beyond) (suc count) lucky = absurd lucky
+  few pick bound state words lines last long below (TraceOf.bad_outcome one word left choice open_ chosen beyond) (suc count) lucky = absurd lucky
   few pick bound state words lines last long below (TraceOf.took one word left choice line next text end open_ chosen leads later) (suc count) lucky =
       let rule = leads.0 in
       let entries = leads.3.0 in

@@ -1,6 +1,7 @@
 -- Traces step by step: the lines so far, and the traces that go on from there.
 use Rattle.std.proofs.Common.{◌≡◌, ℕ, ◌≤◌, List, [], ◌∷◌, ◌++◌, Bool, true, false, length, refl, sym, ap, ◌∙◌, subst, append_assoc, append-nil, arith}
-use Rattle.std.specs.Prelude.{slice_get, Result, Ok, Err, OnOk, codes, if◌then◌else◌}
+use Rattle.std.specs.Prelude.{slice_get, Some, Result, Ok, Err, OnOk, codes, if◌then◌else◌}
+use Rattle.std.proofs.lemmas.Option.{same_Some}
 use Rattle.fond_task.specs.declared.task.Act.{Act}
 use Rattle.fond_task.specs.declared.task.Task.{Task}
 use Rattle.fond_task.specs.Texts.{state_text}
@@ -10,7 +11,8 @@ use Rattle.fond_game.specs.Policies.{IsGoal}
 use Rattle.fond_exec.specs.declared.step.Step.{Step}
 use Rattle.fond_exec.specs.Runs.{Run}
 use Rattle.fond_exec.specs.Steps.{IsChosen, IsStuck, IsTaken, IsStep}
-use Rattle.fond_exec.specs.Traces.{goal_line, outcome_line, step_line, AppendsTrace, Pick, Trace, goal, ended, stuck, past, took}
+use Rattle.fond_play.specs.Traces.{goal_line, outcome_line, Pick, goal, ended, stuck, bad_outcome, took}
+use Rattle.fond_exec.specs.Traces.{step_line, AppendsTrace, Trace}
 use Rattle.fond_exec.proofs.Chosen.{differs}
 
 -- what an Ok gives, through a function
@@ -74,32 +76,35 @@ module _ (pick : Pick) (task : Task) (rules : List Rule) where
           ends_by line last after (subst Q (sym next) (subst P (sym same) trace)) put
 
       pub at_stuck : (last : List Bool) (after : List ℕ) → (¬ IsGoal task state) × IsStuck task rules state × (last ≡ state) → after ≡ now ++ codes "stuck\n" → IsTraced start outcomes last before after
-      at_stuck last after is put = one_line (codes "stuck\n") last after (stuck state outcome more is.0 is.1) is.2 put
+      at_stuck last after is put = one_line (codes "stuck\n") last after (stuck state outcome more is.0 (λ choice chosen. is.1 choice.0 chosen.selects (record { act = choice.1; numbered = chosen.numbered; holds = chosen.holds }))) is.2 put
 
-      pub at_past : (count number : ℕ) (last : List Bool) (after : List ℕ) →
+      pub at_bad_outcome : (count number : ℕ) (last : List Bool) (after : List ℕ) →
           (¬ IsGoal task state) × ((chosen : ℕ) × (act : Act) × IsChosen task rules state chosen act × (count ≡ length act.outcomes)) × (count ≤ number) × (last ≡ state) → number ≡ pick count outcome →
           after ≡ now ++ outcome_line number count → IsTraced start outcomes last before after
-      at_past count number last after is picked put =
+      at_bad_outcome count number last after is picked put =
           let act = is.1.1 in
           let counted : count ≡ length act.outcomes = is.1.3 in
           let named : number ≡ pick (length act.outcomes) outcome = picked ∙ ap (λ n. pick n outcome) counted in
           let beyond : length act.outcomes ≤ pick (length act.outcomes) outcome = subst (λ n. n ≤ pick (length act.outcomes) outcome) counted (subst (λ n. count ≤ n) named is.2) in
-          one_line (outcome_line (pick (length act.outcomes) outcome) (length act.outcomes)) last after (past state outcome more (is.1.0, act) is.0 is.1.2 beyond) is.3
+          one_line (outcome_line (pick (length act.outcomes) outcome) (length act.outcomes)) last after (bad_outcome state outcome more (is.1.0, act) is.0 is.1.2 beyond) is.3
           (put ∙ (λ i. now ++ outcome_line (named i) (counted i)))
 
-      -- a step that is taken goes on from the next state
-      pub went_on : (rule number chosen : ℕ) (last : List Bool) (after : List ℕ) → (taken : IsTaken task rules state chosen rule number last) → chosen ≡ pick (length taken.act.outcomes) outcome → after ≡ now ++ step_line task rule number chosen →
-          Progress start outcomes last more before after
-      went_on rule number chosen last after is picked put = record {
-        front = so_far.front ++ step_line task rule number chosen;
-        written = put ∙ ap (λ w. w ++ step_line task rule number chosen) so_far.written ∙ append_assoc before so_far.front _;
-        onward = λ text end trace.
-            let P : List ℕ → Type 0 = λ w. Trace pick task rules state w (step_line task rule number chosen ++ text) end in
-            let Q : List ℕ → Type 0 = λ w. Trace pick task rules start outcomes w end in
-            subst Q (sym (append_assoc so_far.front (step_line task rule number chosen) text))
-            (so_far.onward _ end (subst P (sym next) (took state outcome more (number, is.act) (step_line task rule number chosen) last text end is.open_ is.chosen
-            (rule, is.selects, ap (step_line task rule number) picked, (is.entries, ap (slice_get is.act.outcomes) (sym picked) ∙ is.picked, is.given)) trace)));
-      }
+      -- a step that is taken goes on from the next state; its line is that of the action of its number
+      pub went_on : (rule number chosen : ℕ) (last : List Bool) (after : List ℕ) (act : Act) → (taken : IsTaken task rules state chosen rule number last) → chosen ≡ pick (length taken.act.outcomes) outcome →
+          slice_get task.acts number ≡ Some act → after ≡ now ++ step_line task.labels rule act.ground chosen → Progress start outcomes last more before after
+      went_on rule number chosen last after act is picked at put_act =
+          let same : act ≡ is.act = same_Some act is.act (sym at ∙ is.chosen.numbered) in
+          let put : after ≡ now ++ step_line task.labels rule is.act.ground chosen = put_act ∙ ap (λ (a : Act). now ++ step_line task.labels rule a.ground chosen) same in
+          record {
+            front = so_far.front ++ step_line task.labels rule is.act.ground chosen;
+            written = put ∙ ap (λ w. w ++ step_line task.labels rule is.act.ground chosen) so_far.written ∙ append_assoc before so_far.front _;
+            onward = λ text end trace.
+                let P : List ℕ → Type 0 = λ w. Trace pick task rules state w (step_line task.labels rule is.act.ground chosen ++ text) end in
+                let Q : List ℕ → Type 0 = λ w. Trace pick task rules start outcomes w end in
+                subst Q (sym (append_assoc so_far.front (step_line task.labels rule is.act.ground chosen) text))
+                (so_far.onward _ end (subst P (sym next) (took state outcome more (number, is.act) (step_line task.labels rule is.act.ground chosen) last text end is.open_ is.chosen
+                (rule, is.selects, ap (step_line task.labels rule is.act.ground) picked, (is.entries, ap (slice_get is.act.outcomes) (sym picked) ∙ is.picked, is.given)) trace)));
+          }
 
 -- the trace of a run from the initial state, followed by the text of its last state
 pub traced_and_state : (pick : Pick) (task : Task) (rules : List Rule) (outcomes : List ℕ) (start end : Run) (before now after : List ℕ) (is_goal : Bool) (last : List Bool) →

@@ -9,7 +9,8 @@ use Rattle.fond_game.specs.Policies.{IsGoal, IsUnfair}
 use Rattle.fond_game.specs.Rules.{IsSureRule}
 use Rattle.fond_rules.specs.Select.{selected_rule}
 use Rattle.fond_exec.specs.Steps.{IsTaken}
-use Rattle.fond_exec.specs.Traces.{Pick, Trace, TraceOf}
+use Rattle.fond_play.specs.Traces.{Pick, TraceOf}
+use Rattle.fond_exec.specs.Traces.{Trace}
 
 -- a rule names an outcome: it is that of its one target
 pub record Names (rules : List Rule) (number outcome : ℕ) : Type 0 where

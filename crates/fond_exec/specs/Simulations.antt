@@ -3,7 +3,7 @@ use Rattle.std.specs.Prelude.{◌≡◌, ℕ, ◌+◌, ◌<◌, ◌^◌, List, B
 use Rattle.fond_game.specs.Policies.{IsGoal}
 use Rattle.fond_exec.specs.Runs.{Run}
 use Rattle.fond_exec.specs.Steps.{IsStuck, IsTaken}
-use Rattle.fond_exec.specs.Traces.{by_remainder}
+use Rattle.fond_play.specs.Traces.{by_remainder}
 use Rattle.fond_exec.specs.declared.step.SimStep.{SimStep}
 use Rattle.fond_exec.specs.declared.step.SimStep.TheVariants.{Took, Done, Stuck}
 

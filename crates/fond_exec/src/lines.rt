@@ -1,12 +1,12 @@
 //! The lines of traces.
 
-ghost use Rattle.std.specs.Prelude.{◌≡◌, ◌++◌, ℕ, List, [], codes, slice_get, if◌then◌else◌, OnOk, OnErr};
-ghost use Rattle.std.specs.Option.{option_map_or};
-ghost use Rattle.fond_task.specs.Texts.{action_text};
-ghost use Rattle.fond_exec.specs.Traces.{goal_line, outcome_line, step_line};
+ghost use Rattle.std.specs.Prelude.{◌≡◌, ◌++◌, ℕ, List, codes, if◌then◌else◌, OnOk};
+ghost use Rattle.fond_play.specs.Traces.{goal_line, outcome_line};
+ghost use Rattle.fond_exec.specs.Traces.{step_line};
 
-use fond_task::task::Task;
+use fond_task::task::Labels;
 use fond_task::text::put_action;
+use fond_text::atom::GroundAction;
 use fond_text::fault::NoMemory;
 use fond_text::number::put_number;
 
@@ -43,32 +43,21 @@ pub(crate) fn put_outcome(outcome: u32, count: u32, out: &mut Vec<u8>) -> Result
     Ok(())
 }
 
-/// Appends the text of the action of this number, or nothing if the task has none.
-fn put_act(task: &Task, act: u32, out: &mut Vec<u8>) -> Result<(), NoMemory>
-    ensures ok { OnOk result (out.new.items ≡ out.old.items ++ option_map_or (λ a. action_text task.now.labels a.ground) (slice_get task.now.acts act) []) }
-    ensures err { OnErr result (out.new.items ≡ out.old.items) }
-{
-    if (act as usize) < task.acts.len() {
-        put_action(&task.labels, &task.acts.get(act as usize).ground, out)?;
-    }
-    Ok(())
-}
-
 /// Appends the line of a step that is taken.
 pub(crate) fn put_taken(
-    task: &Task,
+    labels: &Labels,
     rule: u32,
-    act: u32,
+    action: &GroundAction,
     outcome: u32,
     out: &mut Vec<u8>,
 ) -> Result<(), NoMemory>
-    ensures ok { OnOk result (out.new.items ≡ out.old.items ++ step_line task.now rule act outcome) }
+    ensures ok { OnOk result (out.new.items ≡ out.old.items ++ step_line labels.now rule action.now outcome) }
     ensures grew { (more : List ℕ) × (out.new.items ≡ out.old.items ++ more) }
 {
     out.extend_from_slice(b"rule ")?;
     put_number(out, u64::from(rule))?;
     out.extend_from_slice(b" ")?;
-    put_act(task, act, out)?;
+    put_action(labels, action, out)?;
     out.extend_from_slice(b" outcome ")?;
     put_number(out, u64::from(outcome))?;
     out.extend_from_slice(b"\n")?;

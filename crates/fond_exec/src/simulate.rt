@@ -4,7 +4,8 @@ ghost use Rattle.std.specs.Prelude.{◌≡◌, ◌++◌, ℕ, ◌<◌, List, get
 ghost use Rattle.fond_game.specs.declared.rule.Rule.{Rule};
 ghost use Rattle.fond_rules.specs.Belongs.{BelongTo};
 ghost use Rattle.fond_exec.specs.Simulations.{IsChooser, PicksBy};
-ghost use Rattle.fond_exec.specs.Traces.{by_remainder, AppendsTrace, Trace};
+ghost use Rattle.fond_play.specs.Traces.{by_remainder};
+ghost use Rattle.fond_exec.specs.Traces.{AppendsTrace, Trace};
 
 use crate::executor::Executor;
 use crate::lines::{put_end, put_goal, put_stuck, put_taken};
@@ -34,7 +35,10 @@ fn put_steps<F: Fn(u64, u32) -> u32>(
 {
     for at in 0..words.len() {
         match sim.step() {
-            SimStep::Took { rule, act, outcome } => put_taken(task, rule, act, outcome, out)?,
+            SimStep::Took { rule, act, outcome } => {
+                let action = &task.acts.get(act as usize).ground;
+                put_taken(&task.labels, rule, action, outcome, out)?;
+            }
             SimStep::Done => return put_goal(words.len() - at, out),
             SimStep::Stuck => return put_stuck(out),
         }

@@ -3,7 +3,8 @@
 ghost use Rattle.std.specs.Prelude.{◌≡◌, ◌++◌, ℕ, List, IfOk, OnOk, OnErr};
 ghost use Rattle.fond_game.specs.declared.rule.Rule.{Rule};
 ghost use Rattle.fond_rules.specs.Belongs.{BelongTo};
-ghost use Rattle.fond_exec.specs.Traces.{as_recorded, AppendsTrace, Trace};
+ghost use Rattle.fond_play.specs.Traces.{as_recorded};
+ghost use Rattle.fond_exec.specs.Traces.{AppendsTrace, Trace};
 
 use crate::executor::Executor;
 use crate::lines::{put_end, put_goal, put_outcome, put_stuck, put_taken};
@@ -30,7 +31,10 @@ fn put_steps(
     let mut left = outcomes;
     while let Some((outcome, after)) = left.split_first() {
         match run.step(*outcome) {
-            Step::Took { rule, act } => put_taken(task, rule, act, *outcome, out)?,
+            Step::Took { rule, act } => {
+                let action = &task.acts.get(act as usize).ground;
+                put_taken(&task.labels, rule, action, *outcome, out)?;
+            }
             Step::Done => return put_goal(left.len(), out),
             Step::Stuck => return put_stuck(out),
             Step::BadOutcome { count } => return put_outcome(*outcome, count, out),

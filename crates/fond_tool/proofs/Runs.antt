@@ -13,7 +13,7 @@ use Rattle.fond_policy.specs.declared.cert.Cert.TheVariants.{Policy, Refusal, Co
 use Rattle.fond_rules.specs.Belongs.{BelongTo}
 use Rattle.fond_bridge.specs.Traces.{Trace}
 use Rattle.fond_exec.specs.Traces as steps
-use Rattle.fond_exec.specs.Traces.{Pick, TraceOf, as_recorded, by_remainder}
+use Rattle.fond_play.specs.Traces.{Pick, TraceOf, as_recorded, by_remainder}
 use Rattle.fond_game.specs.declared.rule.Rule.{Rule}
 use Rattle.fond_ground.specs.Grounds.{IsGroundOf}
 use Rattle.fond_meaning.specs.Solutions.{initial}
@@ -40,7 +40,7 @@ last_long : (pick : Pick) (game : Task) (rules : List Rule) (values : List Bool)
 last_long pick game rules values words lines last state (TraceOf.goal at left is) = state
 last_long pick game rules values words lines last state (TraceOf.ended at open_) = state
 last_long pick game rules values words lines last state (TraceOf.stuck at outcome left open_ none) = state
-last_long pick game rules values words lines last state (TraceOf.past at outcome left choice open_ chosen over) = state
+last_long pick game rules values words lines last state (TraceOf.bad_outcome at outcome left choice open_ chosen over) = state
 last_long pick game rules values words lines last state (TraceOf.took at word left choice line next text end open_ chosen leads later) =
     last_long pick game rules next left text end (ap length leads.3.2 ∙ length-by_index _ at ∙ state) later
 

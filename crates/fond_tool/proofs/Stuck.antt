@@ -1,5 +1,5 @@
 -- No trace of a solution gets stuck.
-use Rattle.std.proofs.Common.{◌≡◌, ℕ, List, Some, length, slice_get, sym, subst}
+use Rattle.std.proofs.Common.{◌≡◌, ℕ, List, Some, length, slice_get, refl, sym, subst}
 use Rattle.fond_ast.specs.declared.task.LiftedTask.{LiftedTask}
 use Rattle.fond_play.specs.Games.{start, onward}
 use Rattle.fond_meaning.proofs.Come.{outcomes-come-next}
@@ -11,7 +11,7 @@ use Rattle.fond_task.specs.declared.task.Task.{Task}
 use Rattle.fond_game.proofs.Lists.{Contains-map, Contains_numbered}
 use Rattle.fond_game.specs.declared.rule.Rule.{Rule}
 use Rattle.fond_bridge.specs.Solutions.{rules_policy}
-use Rattle.fond_exec.specs.Traces.{Pick, TraceOf}
+use Rattle.fond_play.specs.Traces.{Pick, TraceOf}
 use Rattle.fond_bridge.specs.Traces.{Choose, Trace}
 use Rattle.fond_tool.specs.Laws.{SolutionsNeverStick}
 use Rattle.fond_tool.specs.Stuck.{EndsStuck}
@@ -29,8 +29,12 @@ module _ (task : LiftedTask) (game : Task) (rules : List Rule) (solves : IsSolut
   never : (pick : Pick) (state : State) (words lines : List ℕ) (last : State) → Reach task (rules_policy task game rules) state → (trace : Trace pick task game rules state words lines last) → ¬ EndsStuck trace
   never pick state words lines last reached (TraceOf.goal at left is) stuck = stuck
   never pick state words lines last reached (TraceOf.ended at open_) stuck = stuck
-  never pick state words lines last reached (TraceOf.stuck at word left open_ none) stuck = let choice = solves.acts at reached open_ in none choice.0 choice.1 choice.2
-  never pick state words lines last reached (TraceOf.past at word left choice open_ chosen over) stuck = stuck
+  never pick state words lines last reached (TraceOf.stuck at word left open_ none) stuck =
+      let choice = solves.acts at reached open_ in
+      let applies = choice.2 in
+      let outcomes_are = outcomes choice.0.objects applies.schema.effect in
+      none (choice.0, outcomes_are) (record { chosen = choice.1; applicable = applies; schema = applies.schema; numbered = applies.numbered; choices_are = refl })
+  never pick state words lines last reached (TraceOf.bad_outcome at word left choice open_ chosen over) stuck = stuck
   never pick state words lines last reached (TraceOf.took at word left choice line next text end open_ choose leads later) stuck =
       let outcome = leads.3.0 in
       let comes : IsNext task at choice.0 next = subst (IsNext task at choice.0) (sym leads.3.2) (comes_next at choice.0 choice.1 (pick (length choice.1) word) outcome choose leads.3.1) in

@@ -10,7 +10,7 @@ use Rattle.fond_meaning.specs.States.{State}
 use Rattle.fond_game.specs.declared.rule.Rule.{Rule}
 use Rattle.fond_bridge.specs.Solutions.{rules_policy}
 use Rattle.fond_bridge.specs.Traces.{Trace}
-use Rattle.fond_exec.specs.Traces.{Pick}
+use Rattle.fond_play.specs.Traces.{Pick}
 use Rattle.fond_tool.specs.Certified.{DescribeGround, IsCertText}
 use Rattle.fond_demo.specs.Demos.{demo_domain, demo_problem, demo_side}
 use Rattle.fond_tool.specs.Demos.{demo_text, demo_texts}

@@ -6,7 +6,7 @@ use Rattle.fond_meaning.specs.Solutions.{initial}
 use Rattle.fond_task.specs.declared.task.Task.{Task}
 use Rattle.fond_cert.specs.Faults.{IsCertFault}
 use Rattle.fond_policy.specs.declared.cert.Cert.{Cert}
-use Rattle.fond_exec.specs.Traces.{as_recorded}
+use Rattle.fond_play.specs.Traces.{as_recorded}
 use Rattle.fond_exec.specs.Scripts.{IsScript, IsScriptFault}
 use Rattle.fond_bridge.specs.Traces.{Trace}
 use Rattle.fond_front.specs.Texts.{Texts}

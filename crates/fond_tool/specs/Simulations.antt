@@ -6,7 +6,7 @@ use Rattle.fond_meaning.specs.Solutions.{initial}
 use Rattle.fond_task.specs.declared.task.Task.{Task}
 use Rattle.fond_cert.specs.Faults.{IsCertFault}
 use Rattle.fond_policy.specs.declared.cert.Cert.{Cert}
-use Rattle.fond_exec.specs.Traces.{by_remainder}
+use Rattle.fond_play.specs.Traces.{by_remainder}
 use Rattle.fond_bridge.specs.Traces.{Trace}
 use Rattle.fond_front.specs.Texts.{Texts}
 use Rattle.fond_random.specs.Words.{drawn_words}

@@ -4,7 +4,7 @@ use Rattle.fond_ast.specs.declared.task.LiftedTask.{LiftedTask}
 use Rattle.fond_meaning.specs.States.{State}
 use Rattle.fond_task.specs.declared.task.Task.{Task}
 use Rattle.fond_game.specs.declared.rule.Rule.{Rule}
-use Rattle.fond_exec.specs.Traces.{Pick, TraceOf}
+use Rattle.fond_play.specs.Traces.{Pick, TraceOf}
 use Rattle.fond_bridge.specs.Traces.{Trace}
 
 -- a trace ends with the line `stuck`: in a state that is no goal, with a word left, no applicable action is chosen
@@ -12,5 +12,5 @@ abbrev pub EndsStuck : {pick : Pick} {task : LiftedTask} {game : Task} {rules : 
 EndsStuck (TraceOf.goal state words is) = ⊥
 EndsStuck (TraceOf.ended state open_) = ⊥
 EndsStuck (TraceOf.stuck state word left open_ none) = ⊤
-EndsStuck (TraceOf.past state word left choice open_ chosen over) = ⊥
+EndsStuck (TraceOf.bad_outcome state word left choice open_ chosen over) = ⊥
 EndsStuck (TraceOf.took state word left choice line next text last open_ chosen leads later) = EndsStuck later

@@ -1,6 +1,6 @@
 //! The command `run`: the trace of a policy over recorded outcomes.
 
-ghost use Rattle.fond_exec.specs.Traces.{as_recorded};
+ghost use Rattle.fond_play.specs.Traces.{as_recorded};
 ghost use Rattle.fond_rules.specs.Belongs.{BelongTo};
 ghost use Rattle.fond_tool.specs.Rejections.{Rejects};
 ghost use Rattle.fond_tool.specs.GroundRuns.{IsTraceReply};

@@ -1,6 +1,6 @@
 //! The command `simulate`: the trace of a policy over drawn outcomes.
 
-ghost use Rattle.fond_exec.specs.Traces.{by_remainder};
+ghost use Rattle.fond_play.specs.Traces.{by_remainder};
 ghost use Rattle.fond_ground.specs.Grounds.{IsGroundOf};
 ghost use Rattle.fond_random.specs.Words.{drawn_words};
 ghost use Rattle.fond_rules.specs.Belongs.{BelongTo};

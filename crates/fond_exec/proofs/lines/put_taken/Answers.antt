@@ -1,8 +1,6 @@
-use Rattle.std.proofs.Common.{◌++◌, ◌∙◌, ap, [], slice_get}
+use Rattle.std.proofs.Common.{◌++◌, ◌∙◌, ap}
 use Rattle.std.specs.Prelude.{codes}
 use Rattle.std.specs.Fmt.{decimal}
-use Rattle.std.specs.Option.{option_map_or}
-use Rattle.fond_task.specs.declared.task.Act.{Act}
 use Rattle.fond_task.specs.Texts.{action_text}
 use Rattle.fond_text.proofs.Grown.{grew_more}
 use Rattle.fond_exec.proofs.Grown.{grew_none, grew_same, text_more}
@@ -24,13 +22,13 @@ returns-in_err-extend_from_slice-2-clause-grew c =
     let two = grew_more _ _ _ _ one c.in_ok-put_number.ensures.ok in
     grew_same _ _ _ two c.in_err-extend_from_slice-2.ensures.items
 
-pub returns-in_err-put_act-clause-grew : goal.returns-in_err-put_act-clause-grew
-returns-in_err-put_act-clause-grew c =
+pub returns-in_err-put_action-clause-grew : goal.returns-in_err-put_action-clause-grew
+returns-in_err-put_action-clause-grew c =
     let none = grew_none c.args.out.now.items _ (λ i. c.args.out.now.items) in
     let one = grew_more _ _ _ _ none c.in_ok-extend_from_slice.ensures.items in
     let two = grew_more _ _ _ _ one c.in_ok-put_number.ensures.ok in
     let three = grew_more _ _ _ _ two c.in_ok-extend_from_slice-2.ensures.items in
-    grew_same _ _ _ three c.in_err-put_act.ensures.err
+    grew_same _ _ _ three c.in_err-put_action.ensures.err
 
 pub returns-in_err-extend_from_slice-3-clause-grew : goal.returns-in_err-extend_from_slice-3-clause-grew
 returns-in_err-extend_from_slice-3-clause-grew c =
@@ -38,7 +36,7 @@ returns-in_err-extend_from_slice-3-clause-grew c =
     let one = grew_more _ _ _ _ none c.in_ok-extend_from_slice.ensures.items in
     let two = grew_more _ _ _ _ one c.in_ok-put_number.ensures.ok in
     let three = grew_more _ _ _ _ two c.in_ok-extend_from_slice-2.ensures.items in
-    let four = grew_more _ _ _ _ three c.in_ok-put_act.ensures.ok in
+    let four = grew_more _ _ _ _ three c.in_ok-put_action.ensures.ok in
     grew_same _ _ _ four c.in_err-extend_from_slice-3.ensures.items
 
 pub returns-in_err-put_number-2-clause-grew : goal.returns-in_err-put_number-2-clause-grew
@@ -47,7 +45,7 @@ returns-in_err-put_number-2-clause-grew c =
     let one = grew_more _ _ _ _ none c.in_ok-extend_from_slice.ensures.items in
     let two = grew_more _ _ _ _ one c.in_ok-put_number.ensures.ok in
     let three = grew_more _ _ _ _ two c.in_ok-extend_from_slice-2.ensures.items in
-    let four = grew_more _ _ _ _ three c.in_ok-put_act.ensures.ok in
+    let four = grew_more _ _ _ _ three c.in_ok-put_action.ensures.ok in
     let five = grew_more _ _ _ _ four c.in_ok-extend_from_slice-3.ensures.items in
     grew_same _ _ _ five c.in_err-put_number-2.ensures.err
 
@@ -57,7 +55,7 @@ returns-in_err-extend_from_slice-4-clause-grew c =
     let one = grew_more _ _ _ _ none c.in_ok-extend_from_slice.ensures.items in
     let two = grew_more _ _ _ _ one c.in_ok-put_number.ensures.ok in
     let three = grew_more _ _ _ _ two c.in_ok-extend_from_slice-2.ensures.items in
-    let four = grew_more _ _ _ _ three c.in_ok-put_act.ensures.ok in
+    let four = grew_more _ _ _ _ three c.in_ok-put_action.ensures.ok in
     let five = grew_more _ _ _ _ four c.in_ok-extend_from_slice-3.ensures.items in
     let six = grew_more _ _ _ _ five c.in_ok-put_number-2.ensures.ok in
     grew_same _ _ _ six c.in_err-extend_from_slice-4.ensures.items
@@ -68,7 +66,7 @@ returns-clause-grew c =
     let one = grew_more _ _ _ _ none c.in_ok-extend_from_slice.ensures.items in
     let two = grew_more _ _ _ _ one c.in_ok-put_number.ensures.ok in
     let three = grew_more _ _ _ _ two c.in_ok-extend_from_slice-2.ensures.items in
-    let four = grew_more _ _ _ _ three c.in_ok-put_act.ensures.ok in
+    let four = grew_more _ _ _ _ three c.in_ok-put_action.ensures.ok in
     let five = grew_more _ _ _ _ four c.in_ok-extend_from_slice-3.ensures.items in
     let six = grew_more _ _ _ _ five c.in_ok-put_number-2.ensures.ok in
     grew_more _ _ _ _ six c.in_ok-extend_from_slice-4.ensures.items
@@ -80,8 +78,8 @@ returns-clause-ok c =
     let text2 = start ++ decimal c.args.rule in
     let three = text_more _ _ _ text2 (codes " ") two c.in_ok-extend_from_slice-2.ensures.items in
     let text3 = text2 ++ codes " " in
-    let four = text_more _ _ _ text3 (option_map_or (λ (act : Act). action_text c.args.task.now.labels act.ground) (slice_get c.args.task.now.acts c.args.act) []) three c.in_ok-put_act.ensures.ok in
-    let text4 = text3 ++ option_map_or (λ (act : Act). action_text c.args.task.now.labels act.ground) (slice_get c.args.task.now.acts c.args.act) [] in
+    let four = text_more _ _ _ text3 (action_text c.args.labels.now c.args.action.now) three c.in_ok-put_action.ensures.ok in
+    let text4 = text3 ++ action_text c.args.labels.now c.args.action.now in
     let five = text_more _ _ _ text4 (codes " outcome ") four c.in_ok-extend_from_slice-3.ensures.items in
     let text5 = text4 ++ codes " outcome " in
     let six = text_more _ _ _ text5 (decimal c.args.outcome) five (c.in_ok-put_number-2.ensures.ok ∙ ap (λ n. c.extend_from_slice-3.new.self.items ++ decimal n) c.from-2.ensures) in

@@ -1,11 +1,12 @@
-use Rattle.std.proofs.Common.{◌≡◌, ◌+◌, ◌-◌, ◌<◌, ◌++◌, ◌∙◌, List, drop, get_or, length, sym, ap, subst, arith}
+use Rattle.std.proofs.Common.{◌≡◌, ◌+◌, ◌-◌, ◌<◌, ◌++◌, ◌∙◌, List, drop, get_or, length, slice_get, sym, ap, subst, arith}
 use Rattle.std.proofs.lemmas.List.{drop_more, length-drop}
 use Rattle.fond_task.specs.declared.task.Task.{Task}
 use Rattle.fond_task.specs.Truth.{is_true}
 use Rattle.fond_game.specs.declared.rule.Rule.{Rule}
 use Rattle.fond_game.specs.Policies.{IsGoal}
 use Rattle.fond_exec.specs.Steps.{IsStuck, IsTaken}
-use Rattle.fond_exec.specs.Traces.{by_remainder, goal_line, step_line}
+use Rattle.fond_play.specs.Traces.{by_remainder, goal_line}
+use Rattle.fond_exec.specs.Traces.{step_line}
 use Rattle.fond_exec.proofs.Chosen.{counted_outcomes}
 use Rattle.fond_exec.proofs.Grown.{grew_after}
 use Rattle.fond_exec.proofs.Traced.{on_ok, at_end, at_done, at_stuck, none_left, went_on}
@@ -64,8 +65,9 @@ loop-at-preserved g c =
       pick = c.in-Took.ensures.pick ∙ so_far.pick;
       steps = c.in-Took.ensures.steps ∙ ap (λ n. n + 1) so_far.steps;
       so_far = went_on by_remainder run.task run.rules run.state words here.state (drop at words) c.args.out.now.items c.loop-at.out.items so_far.so_far
-          (get_or words at 0) (drop (at + 1) words) (drop_more words at 0 within) rule act outcome last c.put_taken.new.out.items moved.0 moved.1
-          (c.in_ok-put_taken-in-Took.ensures.ok ∙ ap (λ (t : Task). c.loop-at.out.items ++ step_line t rule act outcome) (sym c.requires.task));
+          (get_or words at 0) (drop (at + 1) words) (drop_more words at 0 within) rule act outcome last c.put_taken.new.out.items c.get.result.now moved.0 moved.1
+          (ap (λ (t : Task). slice_get t.acts act) c.requires.task ∙ c.get.ensures)
+          (c.in_ok-put_taken-in-Took.ensures.ok ∙ ap (λ (t : Task). c.loop-at.out.items ++ step_line t.labels rule c.get.result.now.ground outcome) (sym c.requires.task));
     }
 
 pub returns-clause-ok : goal.returns-clause-ok

@@ -1,10 +1,11 @@
-use Rattle.std.proofs.Common.{◌++◌, ◌∙◌, refl, sym, ap}
+use Rattle.std.proofs.Common.{◌++◌, ◌∙◌, refl, slice_get, sym, ap}
 use Rattle.fond_task.specs.declared.task.Task.{Task}
 use Rattle.fond_task.specs.Truth.{is_true}
-use Rattle.fond_exec.specs.Traces.{as_recorded, step_line}
+use Rattle.fond_play.specs.Traces.{as_recorded}
+use Rattle.fond_exec.specs.Traces.{step_line}
 use Rattle.fond_exec.specs.declared.step.Step.TheVariants.{Took, Done, Stuck, BadOutcome}
 use Rattle.fond_exec.proofs.Grown.{grew_after}
-use Rattle.fond_exec.proofs.Traced.{on_ok, step_of, at_end, at_done, at_stuck, at_past, went_on, none_left}
+use Rattle.fond_exec.proofs.Traced.{on_ok, step_of, at_end, at_done, at_stuck, at_bad_outcome, went_on, none_left}
 use Rattle.fond_exec.proofs.trace.put_steps.Goals as goal
 
 pub returns-in-Done-clause-ok : goal.returns-in-Done-clause-ok
@@ -28,7 +29,7 @@ returns-in-BadOutcome-clause-ok c =
     let run = c.args.run.now in
     let so_far = c.loop-outcome.invariant in
     let is = step_of as_recorded run.task run.rules c.loop-outcome.run.task c.loop-outcome.run.rules c.loop-outcome.run.state c.in-Some.outcome.now (BadOutcome c.in-BadOutcome.count) c.step.new.self.state so_far.task so_far.rules c.in-BadOutcome.ensures.step in
-    on_ok c.put_outcome.result (λ put. at_past as_recorded run.task run.rules run.state c.args.outcomes.now c.loop-outcome.run.state c.loop-outcome.left.now c.args.out.now.items c.loop-outcome.out.items so_far.so_far
+    on_ok c.put_outcome.result (λ put. at_bad_outcome as_recorded run.task run.rules run.state c.args.outcomes.now c.loop-outcome.run.state c.loop-outcome.left.now c.args.out.now.items c.loop-outcome.out.items so_far.so_far
     c.in-Some.outcome.now c.in-Some.after.now c.in-Some.ensures.cases.0 c.in-BadOutcome.count c.in-Some.outcome.now c.step.new.self.state c.put_outcome.new.out.items is refl put) c.put_outcome.ensures.ok
 
 pub loop-outcome-preserved : goal.loop-outcome-preserved
@@ -40,8 +41,9 @@ loop-outcome-preserved c =
       task = c.in-Took.ensures.task ∙ so_far.task;
       rules = c.in-Took.ensures.rules ∙ so_far.rules;
       so_far = went_on as_recorded run.task run.rules run.state c.args.outcomes.now c.loop-outcome.run.state c.loop-outcome.left.now c.args.out.now.items c.loop-outcome.out.items so_far.so_far
-          c.in-Some.outcome.now c.in-Some.after.now c.in-Some.ensures.cases.0 c.in-Took.rule c.in-Took.act c.in-Some.outcome.now c.step.new.self.state c.put_taken.new.out.items is refl
-          (c.in_ok-put_taken-in-Took.ensures.ok ∙ ap (λ (t : Task). c.loop-outcome.out.items ++ step_line t c.in-Took.rule c.in-Took.act c.in-Some.outcome.now) (sym c.requires));
+          c.in-Some.outcome.now c.in-Some.after.now c.in-Some.ensures.cases.0 c.in-Took.rule c.in-Took.act c.in-Some.outcome.now c.step.new.self.state c.put_taken.new.out.items c.get.result.now is refl
+          (ap (λ (t : Task). slice_get t.acts c.in-Took.act) c.requires ∙ c.get.ensures)
+          (c.in_ok-put_taken-in-Took.ensures.ok ∙ ap (λ (t : Task). c.loop-outcome.out.items ++ step_line t.labels c.in-Took.rule c.get.result.now.ground c.in-Some.outcome.now) (sym c.requires));
     }
 
 pub returns-clause-ok : goal.returns-clause-ok
