@@ -22,3 +22,22 @@ fn a_layer_of_no_cubes_is_sure(rt: HostRuntime) -> Result<(), Fail> {
     assert_eq!(rt; layers.len(), 1);
     Ok(())
 }
+
+#[test]
+fn a_cube_lies_in_layers_that_have_a_wider_one(rt: HostRuntime) -> Result<(), Fail> {
+    let alloc = rt.alloc();
+    let mut heads = Cube::new(alloc, 1)?;
+    heads.put_literal(0, true);
+    let mut layer = Layer::new(alloc);
+    layer.push(Cube::new(alloc, 1)?)?;
+    let mut layers = Layers::new(alloc);
+    if layers.are_over(heads.len()) {
+        assert!(rt; !layers.has_around(&heads));
+    }
+    layers.add_raw(layer)?;
+    assert!(rt; layers.are_over(1));
+    if layers.are_over(heads.len()) {
+        assert!(rt; layers.has_around(&heads));
+    }
+    Ok(())
+}

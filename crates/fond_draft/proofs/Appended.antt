@@ -1,12 +1,10 @@
 -- Layers stay sure when cubes that lie in earlier layers are left out of them.
 use Rattle.std.proofs.Common.{inl, inr, ◌≡◌, ℕ, zero, suc, ◌<◌, List, [], ◌∷◌, ◌++◌, Bool, Option, Some, None, length, length-append, refl, sym, ap, ◌∙◌, subst, ⊎_elim, arith}
-use Rattle.std.specs.Prelude.{◌⊎◌, Contains, Decides, MatchOption, is_some}
-use Rattle.std.proofs.lemmas.Bool.{false≢true}
+use Rattle.std.specs.Prelude.{◌⊎◌, Contains}
 use Rattle.std.proofs.lemmas.List.{length-map}
 use Rattle.std.proofs.lemmas.List.Elements.{All-contains, All-push, Contains-append_left, Contains-push, Contains-push_cases}
-use Rattle.std.proofs.lemmas.Option.{none-some}
 use Rattle.fond_state.proofs.Tested.{LiesIn-through}
-use Rattle.fond_state.specs.Cubes.{CubeLiesIn, LiesIn, full_cube, literal_at, truth_at}
+use Rattle.fond_state.specs.Cubes.{CubeLiesIn, LiesIn}
 use Rattle.fond_task.specs.Images.{image}
 use Rattle.fond_task.specs.declared.task.Act.{Act}
 use Rattle.fond_task.specs.declared.task.Entry.{Entry}
@@ -15,14 +13,12 @@ use Rattle.fond_game.proofs.Lists.{Contains-cases, Contains-here, Contains-later
 use Rattle.fond_game.proofs.Stacked.{AreSureLayers-push}
 use Rattle.fond_game.specs.Certificates.{LiesInLayers}
 use Rattle.fond_game.specs.Layers.{CubeView, Forces, IsSureLayer, Leads, SomeLeads}
-use Rattle.fond_layers.specs.Deads.{IsFirstDead}
 use Rattle.fond_layers.specs.Leads.{LiesInSome}
 use Rattle.fond_layers.specs.Over.{AreOver, IsOver}
 use Rattle.fond_explicit.specs.Answers.{AreStuck}
-use Rattle.fond_draft.specs.Appends.{AreFresh, AreFull, HaveGrown, IsAppended, IsFull}
+use Rattle.fond_draft.specs.Appends.{AreFresh, HaveGrown, IsAppended}
 use Rattle.fond_draft.proofs.Lists.{all_numbered, push_keeps}
 use Rattle.fond_draft.proofs.Ready.{reachable_long}
-use Rattle.fond_draft.proofs.Full.{lies_own, lies_same}
 
 abbrev pub LayerList : Type 0
 LayerList = List (List CubeView)
@@ -54,32 +50,6 @@ some_more layers more cube some = (some.0, Contains-append_left layers more some
 pub state_through : (layers : LayerList) (state : List Bool) (cube : CubeView) → LiesIn state cube → LiesInSome cube layers → LiesInLayers state layers
 state_through layers state cube lies some =
     record { layer = some.0; one = some.1; cube = some.2.other; has = some.2.one; lies = LiesIn-through state cube some.2.other lies some.2.lies }
-
--- the full cube of a state lies in each cube of its length in which the state lies
-full_lies : (state : List Bool) (other : CubeView) → length other ≡ length state → LiesIn state other → CubeLiesIn (full_cube state) other
-full_lies state [] long lies atom sign is = absurd (none-some sign is)
-full_lies [] (known ∷ other) long lies atom sign is = absurd (omega (arith, long))
-full_lies (value ∷ state) (known ∷ other) long lies zero sign is = ap (λ v. Some v) (lies zero sign is)
-full_lies (value ∷ state) (known ∷ other) long lies (suc atom) sign is = full_lies state other (omega (arith, long)) (λ n s at. lies (suc n) s at) atom sign is
-
-module _ (layers : LayerList) (cube : CubeView) (state : List Bool) (full : cube ≡ full_cube state) where
-  -- the full cube of a state that is dead lies in a layer
-  dead_lies : (number one : ℕ) → AreOver (length state) layers → IsFirstDead state layers number one → LiesInSome cube layers
-  dead_lies number one over dead =
-      let has = Contains_numbered layers number dead.layer dead.has_layer in
-      let other = dead.one.cube in
-      let one_of = Contains_numbered dead.layer one other dead.one.has_cube in
-      let long = All-contains (λ (c : CubeView). length c ≡ length state) dead.layer other (All-contains (IsOver (length state)) layers dead.layer over has) one_of in
-      subst (λ (c : CubeView). LiesInSome c layers) (sym full) (dead.layer, has, record { other = other; one = one_of; lies = full_lies state other long dead.one.lies })
-
-  -- the full cube of a state that is not dead lies in no layer
-  alive : ¬ LiesInLayers state layers → ¬ LiesInSome cube layers
-  alive free some = free (state_through layers state (full_cube state) (lies_own state) (subst (λ (c : CubeView). LiesInSome c layers) full some))
-
-  -- whether a state is dead tells whether its full cube lies in a layer
-  pub dead_tells : (found : Option (ℕ × ℕ)) → AreOver (length state) layers → MatchOption found (¬ LiesInLayers state layers) (λ r. IsFirstDead state layers r.0 r.1) → Decides (is_some found) (LiesInSome cube layers)
-  dead_tells None over free = (λ e. absurd (false≢true e), λ some. absurd (alive free some))
-  dead_tells (Some r) over dead = (λ e. dead_lies r.0 r.1 over dead, λ some. refl)
 
 module _ (layers : LayerList) (layer fresh : List CubeView) (last : CubeView) (are : AreFresh layers layer fresh) where
   -- a cube that lies in one of the layers is left out
@@ -155,11 +125,7 @@ module _ (done layers : LayerList) (layer fresh : List CubeView) (held : Holds l
       (λ some. some_more layers (fresh ∷ []) cube some)
       (are.rest cube has)
 
--- a full cube is over its atoms
-full_long : (atoms : ℕ) (cube : CubeView) → IsFull atoms cube → length cube ≡ atoms
-full_long atoms cube full = ap length full.full ∙ length-map full.state (λ value. Some value) ∙ full.long
-
-module _ (task : Task) (old done layers : LayerList) (layer : List CubeView) (grown : HaveGrown task old done layers) (sure : IsSureLayer task done layer) (full : AreFull (length task.atoms) layer) where
+module _ (task : Task) (old done layers : LayerList) (layer : List CubeView) (grown : HaveGrown task old done layers) (sure : IsSureLayer task done layer) (layer_over : IsOver (length task.atoms) layer) where
   -- layers that have grown stay as they are at a layer of which no cube is fresh
   grown_same : AreFresh layers layer [] → HaveGrown task old (done ++ layer ∷ []) layers
   grown_same are = record {
@@ -176,7 +142,7 @@ module _ (task : Task) (old done layers : LayerList) (layer : List CubeView) (gr
   grown_push : (fresh : List CubeView) → AreFresh layers layer fresh → HaveGrown task old (done ++ layer ∷ []) (layers ++ fresh ∷ [])
   grown_push fresh are = record {
     over = All-push (IsOver (length task.atoms)) layers fresh grown.over
-        (all_numbered (λ (cube : CubeView). length cube ≡ length task.atoms) fresh (λ i cube at. full_long (length task.atoms) cube (full cube (are.part cube (Contains_numbered fresh i cube at)))));
+        (all_numbered (λ (cube : CubeView). length cube ≡ length task.atoms) fresh (λ i cube at. All-contains (λ (one : CubeView). length one ≡ length task.atoms) layer cube layer_over (are.part cube (Contains_numbered fresh i cube at))));
     sure = AreSureLayers-push task layers fresh grown.sure (sure_fresh done layers layer fresh grown.has are task sure);
     kept = λ number one at. push_keeps layers (fresh ∷ []) number one (grown.kept number one at);
     has = λ one has cube in_one. ⊎_elim
@@ -192,26 +158,8 @@ module _ (task : Task) (old done layers : LayerList) (layer : List CubeView) (gr
       (λ last. subst (λ (ls : LayerList). HaveGrown task old (done ++ layer ∷ []) ls) (sym last.1) (grown_push appended.fresh appended.are))
       appended.appended
 
--- the cubes of stuck layers are full
-pub stuck_full : (task : Task) (from : List Bool) (layers : LayerList) → length from ≡ length task.atoms → AreStuck task from layers → (layer : List CubeView) → Contains layers layer → AreFull (length task.atoms) layer
-stuck_full task from layers long stuck layer has cube one =
-    let its = stuck.each layer has cube one in
-    record { state = its.state; long = reachable_long task from long its.state its.reachable; full = its.full }
-
 -- stuck layers are over the atoms of the task
 pub stuck_over : (task : Task) (from : List Bool) (layers : LayerList) → length from ≡ length task.atoms → AreStuck task from layers → AreOver (length task.atoms) layers
 stuck_over task from layers long stuck = all_numbered (IsOver (length task.atoms)) layers (λ number layer at. all_numbered (λ (cube : CubeView). length cube ≡ length task.atoms) layer (λ i cube is.
-    full_long (length task.atoms) cube (stuck_full task from layers long stuck layer (Contains_numbered layers number layer at) cube (Contains_numbered layer i cube is))))
-
--- an atom that has a literal is one of the cube's atoms
-literal_within : (cube : CubeView) (k : ℕ) (sign : Bool) → literal_at cube k ≡ Some sign → k < length cube
-literal_within [] k sign is = absurd (none-some sign is)
-literal_within (known ∷ cube) zero sign is = omega arith
-literal_within (known ∷ cube) (suc k) sign is = let rest = literal_within cube k sign is in omega (arith, rest)
-
--- a state of the length of a full cube, whose values are the signs of the literals, is its state
-pub read_full : (cube : CubeView) (state : List Bool) (atoms : ℕ) → length state ≡ atoms → IsFull atoms cube → ((k : ℕ) (sign : Bool) → k < atoms → literal_at cube k ≡ Some sign → truth_at state k ≡ sign) → cube ≡ full_cube state
-read_full cube state atoms long full read =
-    full.full ∙ ap full_cube (sym (lies_same state full.state (long ∙ sym full.long) (λ k sign is.
-    let at : literal_at cube k ≡ Some sign = ap (λ (c : CubeView). literal_at c k) full.full ∙ is in
-    read k sign (subst (λ (n : ℕ). k < n) (full_long atoms cube full) (literal_within cube k sign at)) at)))
+    let its = stuck.each layer (Contains_numbered layers number layer at) cube (Contains_numbered layer i cube is) in
+    ap length its.full ∙ length-map its.state (λ value. Some value) ∙ reachable_long task from long its.state its.reachable))

@@ -11,15 +11,6 @@ lies_own [] atom sign is = absurd (none-some sign is)
 lies_own (value ∷ state) zero sign is = same_Some value sign is
 lies_own (value ∷ state) (suc atom) sign is = lies_own state atom sign is
 
--- a state that lies in the full cube of another one of its length is that one
-pub lies_same : (state other : List Bool) → length state ≡ length other → LiesIn state (full_cube other) → state ≡ other
-lies_same [] [] long lies = refl
-lies_same [] (value ∷ other) long lies = absurd (omega (arith, long))
-lies_same (value ∷ state) [] long lies = absurd (omega (arith, long))
-lies_same (value ∷ state) (known ∷ other) long lies =
-    let rest = lies_same state other (omega (arith, long)) (λ atom sign is. lies (suc atom) sign is) in
-    ap (λ b. b ∷ state) (lies zero known refl) ∙ ap (λ s. known ∷ s) rest
-
 -- the full cube of a state has a literal of each atom, of its truth value
 full_literal : (state : List Bool) (atom : ℕ) → atom < length state → literal_at (full_cube state) atom ≡ Some (truth_at state atom)
 full_literal [] atom below = absurd (omega (arith, below))

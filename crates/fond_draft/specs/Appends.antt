@@ -1,22 +1,11 @@
 -- Cubes of a layer that are appended to other layers.
-use Rattle.std.specs.Prelude.{◌≡◌, ◌⊎◌, ◌≤◌, ℕ, List, [], ◌∷◌, ◌++◌, Bool, Some, length, slice_get, Contains}
-use Rattle.fond_state.specs.Cubes.{full_cube}
+use Rattle.std.specs.Prelude.{◌≡◌, ◌⊎◌, ◌≤◌, ℕ, List, [], ◌∷◌, ◌++◌, Some, length, slice_get, Contains}
 use Rattle.fond_task.specs.declared.task.Task.{Task}
 use Rattle.fond_game.specs.Layers.{AreSureLayers, CubeView}
 use Rattle.fond_layers.specs.Leads.{LiesInSome}
 use Rattle.fond_layers.specs.Over.{AreOver}
 
--- a cube is the full cube of a state over this many atoms
-pub record IsFull (atoms : ℕ) (cube : CubeView) : Type 0 where
-  pub state : List Bool
-  pub long : length state ≡ atoms
-  pub full : cube ≡ full_cube state
-
--- each cube of a layer is the full cube of a state over this many atoms
-abbrev pub AreFull : ℕ → List CubeView → Type 0
-AreFull atoms layer = (cube : CubeView) → Contains layer cube → IsFull atoms cube
-
--- fresh cubes are those of a layer that lie in no cube of the layers
+-- fresh cubes are those of a layer that lie in no cube of the layers, in a list that is no longer than the layer
 pub record AreFresh (layers : List (List CubeView)) (layer fresh : List CubeView) : Type 0 where
   pub few : length fresh ≤ length layer
   pub part : (cube : CubeView) → Contains fresh cube → Contains layer cube
@@ -29,10 +18,10 @@ pub record IsAppended (old : List (List CubeView)) (layer : List CubeView) (new 
   pub are : AreFresh old layer fresh
   pub appended : ((fresh ≡ []) × (new ≡ old)) ⊎ ((¬ fresh ≡ []) × (new ≡ old ++ fresh ∷ []))
 
--- layers have grown by further ones: they are over the task's atoms and sure, layers keep their numbers, and each cube of
--- the further layers lies in one of theirs
-pub record HaveGrown (task : Task) (old done new : List (List CubeView)) : Type 0 where
+-- old layers have grown to new ones that cover further layers: the new ones are over the task's atoms and sure, the old ones keep
+-- their numbers, and each cube of the further layers lies in some cube of the new ones
+pub record HaveGrown (task : Task) (old further new : List (List CubeView)) : Type 0 where
   pub over : AreOver (length task.atoms) new
   pub sure : AreSureLayers task new
   pub kept : (number : ℕ) (layer : List CubeView) → slice_get old number ≡ Some layer → slice_get new number ≡ Some layer
-  pub has : (layer : List CubeView) → Contains done layer → (cube : CubeView) → Contains layer cube → LiesInSome cube new
+  pub has : (layer : List CubeView) → Contains further layer → (cube : CubeView) → Contains layer cube → LiesInSome cube new

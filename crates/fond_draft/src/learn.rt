@@ -20,8 +20,8 @@ use fond_task::task::Task;
 use fond_text::fault::NoMemory;
 use std::alloc::Global;
 
-/// Reports a fault only if memory ran out: otherwise it tells that the layer is not sure.
-fn unless_full(fault: LayerFault) -> Result<(), NoMemory>
+/// Tells that a layer with this fault is not sure, unless the fault is that memory ran out.
+fn not_sure(fault: LayerFault) -> Result<(), NoMemory>
     ensures { OnOk result ((task : Task) (layers : List (List CubeView)) (layer : List CubeView) → IsLayerFault task layers layer fault → ¬ IsSureLayer task layers layer) }
 {
     match fault {
@@ -49,7 +49,7 @@ impl Draft {
         match self.layers.push(t, layer, &mut image) {
             Ok(()) => Ok(true),
             Err(fault) => {
-                unless_full(fault)?;
+                not_sure(fault)?;
                 Ok(false)
             }
         }

@@ -12,7 +12,7 @@ use fond_task::image::image_of;
 use fond_task::task::Act;
 
 /// Whether the cube lies in a cube of one of the layers.
-fn lies_in_some(cube: &Cube, layers: &[Indexed]) -> bool
+pub(crate) fn lies_in_some(cube: &Cube, layers: &[Indexed]) -> bool
     requires { AreOver (length cube.now) layers.now }
     ensures { Decides result (LiesInSome cube.now layers.now) }
 {

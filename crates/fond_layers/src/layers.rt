@@ -4,11 +4,13 @@ ghost use Rattle.fond_game.specs.Certificates.{LiesInLayers};
 ghost use Rattle.fond_game.specs.Layers.{CubeView, IsSureLayer, AreSureLayers};
 ghost use Rattle.fond_layers.specs.Deads.{IsFirstDead};
 ghost use Rattle.fond_layers.specs.Faults.{IsSpot, IsLayerFault};
+ghost use Rattle.fond_layers.specs.Leads.{LiesInSome};
 ghost use Rattle.fond_layers.specs.Over.{IsOver, AreOver};
 ghost use Rattle.fond_state.specs.Cubes.{LiesIn};
 ghost use Rattle.std.specs.Prelude.{◌≡◌, ◌<◌, ◌-◌, ◌^◌, List, [], ◌∷◌, ◌++◌, length, take, slice_get, Some, Contains, All, Decides, MatchOption, IfErr, OnOk, OnErr};
 
 use crate::fault::{LayerFault, Spot};
+use crate::force::lies_in_some;
 use crate::indexed::Indexed;
 use crate::sure::spot;
 use fond_state::cube::Cube;
@@ -141,6 +143,15 @@ impl Layers {
             }
         }
         None
+    }
+
+    /// Whether the cube lies in a cube of one of the layers. Takes time in the number of cubes that share their first literals with
+    /// it, times that of the atoms.
+    pub fn has_around(&self, cube: &Cube) -> bool
+        requires { AreOver (length cube.now) self.now }
+        ensures { Decides result (LiesInSome cube.now self.now) }
+    {
+        lies_in_some(cube, self.items.as_slice())
     }
 
     /// What is wrong with the layer of this number, if it is not sure above those before it: the first cube that is not

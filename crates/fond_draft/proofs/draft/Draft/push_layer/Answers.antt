@@ -37,4 +37,4 @@ pub returns-clause-kept : goal.returns-clause-kept
 returns-clause-kept c = λ yes. absurd (false≢true yes)
 
 pub returns-clause-decides : goal.returns-clause-decides
-returns-clause-decides c = (λ yes. absurd (false≢true yes), λ sure. absurd (c.in_ok-unless_full-in-Err.ensures c.args.t.now c.args.self.now.layers c.args.layer c.in-Err.ensures.fault sure))
+returns-clause-decides c = (λ yes. absurd (false≢true yes), λ sure. absurd (c.in_ok-not_sure-in-Err.ensures c.args.t.now c.args.self.now.layers c.args.layer c.in-Err.ensures.fault sure))

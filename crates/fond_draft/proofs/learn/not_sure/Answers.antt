@@ -3,7 +3,7 @@ use Rattle.fond_layers.specs.Faults.{IsLayerFault}
 use Rattle.fond_layers.specs.declared.fault.LayerFault.{LayerFault}
 use Rattle.fond_layers.specs.declared.fault.Spot.TheVariants.{Goal, NotSure}
 use Rattle.fond_draft.proofs.Spots.{spot_refutes}
-use Rattle.fond_draft.proofs.learn.unless_full.Goals as goal
+use Rattle.fond_draft.proofs.learn.not_sure.Goals as goal
 
 pub returns-in-Goal : goal.returns-in-Goal
 returns-in-Goal c = λ task layers layer told.
