@@ -1,9 +1,10 @@
 //! The applicable actions of a state, without a look at all actions: each action is filed under one atom that its
 //! precondition needs to be true.
 
+use crate::boxes::boxed;
 use crate::condition::{Condition, Mask};
 use crate::index::{put_bit, size, word_at};
-use crate::moves::Moves;
+use crate::moves::{Move, Moves};
 use fond_text::fault::NoMemory;
 use std::alloc::Global;
 
@@ -25,6 +26,15 @@ pub fn sure_masks(condition: &Condition) -> &[Mask] {
         },
         Condition::Any(_) => &[],
     }
+}
+
+/// This many lists without numbers.
+pub fn no_numbers(alloc: Global, count: u32) -> Result<Vec<Vec<u32>>, NoMemory> {
+    let mut lists = Vec::new(alloc);
+    for _ in 0..count {
+        lists.push(Vec::new(alloc))?;
+    }
+    Ok(lists)
 }
 
 impl ActIndex {
@@ -75,19 +85,22 @@ impl ActIndex {
     }
 
     /// Files all actions.
-    pub fn new(alloc: Global, moves: &Moves) -> Result<ActIndex, NoMemory> {
-        let mut lists = Vec::new(alloc);
-        for _ in 0..moves.atoms {
-            lists.push(Vec::new(alloc))?;
+    fn add_all(&mut self, acts: &[Move]) -> Result<(), NoMemory> {
+        for i in 0..acts.len() {
+            self.add(size(i), &acts[i].needs)?;
         }
-        let mut index = ActIndex {
-            lists,
-            others: Vec::new(alloc),
+        Ok(())
+    }
+
+    /// The index of a task's actions.
+    pub fn new(alloc: Global, moves: &Moves) -> Result<Box<ActIndex>, NoMemory> {
+        let index = ActIndex {
             filed: vec![in alloc; 0; moves.width as usize]?,
+            others: Vec::new(alloc),
+            lists: no_numbers(alloc, moves.atoms)?,
         };
-        for (act, one) in moves.acts.iter().enumerate() {
-            index.add(size(act), &one.needs)?;
-        }
+        let mut index = boxed(alloc, index)?;
+        index.add_all(&moves.acts)?;
         Ok(index)
     }
 

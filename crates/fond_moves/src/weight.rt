@@ -1,6 +1,7 @@
 //! How much a literal is worth as a reason why actions do not apply: the more preconditions it contradicts, and the fewer
 //! actions change it, the more.
 
+use crate::boxes::boxed;
 use crate::index::{Literal, at, put};
 use fond_task::form::Form;
 use fond_task::task::{Act, Outcome, Task};
@@ -64,20 +65,21 @@ fn count_acts(task: &Task, opposites: &mut [u32], changes: &mut [u32]) {
 
 /// Makes the numbers of opposites the weights.
 fn weigh(opposites: &mut [u32], changes: &[u32]) {
-    for (weight, change) in opposites.iter_mut().zip(changes.iter()) {
-        *weight = weight.saturating_mul(SCALE) / change.saturating_add(1).max(1);
+    for i in 0..opposites.len().min(changes.len()) {
+        let change = changes[i].saturating_add(1).max(1);
+        opposites[i] = opposites[i].saturating_mul(SCALE) / change;
     }
 }
 
 impl Weights {
     /// The weights of a task's literals.
-    pub fn new(alloc: Global, task: &Task, atoms: u32) -> Result<Weights, NoMemory> {
+    pub fn new(alloc: Global, task: &Task, atoms: u32) -> Result<Box<Weights>, NoMemory> {
         let places = (atoms as usize).saturating_mul(2);
         let mut weights = vec![in alloc; 0; places]?;
         let mut changes = vec![in alloc; 0; places]?;
         count_acts(task, &mut weights, &mut changes);
         weigh(&mut weights, &changes);
-        Ok(Weights { weights })
+        boxed(alloc, Weights { weights })
     }
 
     /// The weight of a literal.
