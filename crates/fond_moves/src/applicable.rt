@@ -4,7 +4,7 @@
 use crate::boxes::boxed;
 use crate::condition::{Condition, Mask};
 use crate::index::{put_bit, size, word_at};
-use crate::moves::{Move, Moves};
+use crate::moves::Moves;
 use fond_text::fault::NoMemory;
 use std::alloc::Global;
 
@@ -26,15 +26,6 @@ pub fn sure_masks(condition: &Condition) -> &[Mask] {
         },
         Condition::Any(_) => &[],
     }
-}
-
-/// This many lists without numbers.
-pub fn no_numbers(alloc: Global, count: u32) -> Result<Vec<Vec<u32>>, NoMemory> {
-    let mut lists = Vec::new(alloc);
-    for _ in 0..count {
-        lists.push(Vec::new(alloc))?;
-    }
-    Ok(lists)
 }
 
 impl ActIndex {
@@ -85,23 +76,20 @@ impl ActIndex {
     }
 
     /// Files all actions.
-    fn add_all(&mut self, acts: &[Move]) -> Result<(), NoMemory> {
-        for i in 0..acts.len() {
-            self.add(size(i), &acts[i].needs)?;
-        }
-        Ok(())
-    }
-
-    /// The index of a task's actions.
     pub fn new(alloc: Global, moves: &Moves) -> Result<Box<ActIndex>, NoMemory> {
-        let index = ActIndex {
-            filed: vec![in alloc; 0; moves.width as usize]?,
+        let mut lists = Vec::new(alloc);
+        for _ in 0..moves.atoms {
+            lists.push(Vec::new(alloc))?;
+        }
+        let mut index = ActIndex {
+            lists,
             others: Vec::new(alloc),
-            lists: no_numbers(alloc, moves.atoms)?,
+            filed: vec![in alloc; 0; moves.width as usize]?,
         };
-        let mut index = boxed(alloc, index)?;
-        index.add_all(&moves.acts)?;
-        Ok(index)
+        for (act, one) in moves.acts.iter().enumerate() {
+            index.add(size(act), &one.needs)?;
+        }
+        boxed(alloc, index)
     }
 
     /// Adds those of the actions to the list that apply in the state.

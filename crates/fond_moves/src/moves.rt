@@ -83,9 +83,11 @@ impl Moves {
 
     /// The step of this number.
     pub fn step(&self, number: u32) -> PlanStep {
-        match self.steps.get(number as usize) {
-            Some(step) => *step,
-            None => PlanStep { act: 0, outcome: 0 },
+        let i = number as usize;
+        if i < self.steps.len() {
+            self.steps[i]
+        } else {
+            PlanStep { act: 0, outcome: 0 }
         }
     }
 
@@ -106,33 +108,33 @@ impl Moves {
 
     /// How many outcomes the action has.
     pub fn outcomes(&self, act: u32) -> u32 {
-        match self.acts.get(act as usize) {
-            Some(one) => size(one.effects.len()),
-            None => 0,
+        let i = act as usize;
+        if i < self.acts.len() {
+            size(self.acts[i].effects.len())
+        } else {
+            0
         }
     }
 
     /// Whether an opponent picks the outcome of the action.
     pub fn is_unfair(&self, act: u32) -> bool {
-        match self.acts.get(act as usize) {
-            Some(one) => one.unfair,
-            None => false,
-        }
+        let i = act as usize;
+        i < self.acts.len() && self.acts[i].unfair
     }
 
     /// The number of the action's first step.
     pub fn first_step(&self, act: u32) -> u32 {
-        match self.acts.get(act as usize) {
-            Some(one) => one.first,
-            None => 0,
+        let i = act as usize;
+        if i < self.acts.len() {
+            self.acts[i].first
+        } else {
+            0
         }
     }
 
     /// Whether the action applies in the state.
     pub fn applies(&self, act: u32, state: &[u64]) -> bool {
-        match self.acts.get(act as usize) {
-            Some(one) => one.needs.holds(state),
-            None => false,
-        }
+        let i = act as usize;
+        i < self.acts.len() && self.acts[i].needs.holds(state)
     }
 }
