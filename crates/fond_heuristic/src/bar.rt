@@ -5,10 +5,12 @@ use crate::net::Net;
 use crate::together::Together;
 use fond_hint::step::PlanStep;
 use fond_moves::applicable::sure_masks;
+use fond_moves::boxes::boxed;
 use fond_moves::condition::Mask;
 use fond_moves::effect::Effect;
 use fond_moves::index::{Literal, bit_of, size};
 use fond_moves::moves::{Move, Moves};
+use fond_task::task::Task;
 use fond_text::fault::NoMemory;
 use std::alloc::Global;
 
@@ -20,6 +22,7 @@ const MOST_FOR_ALL: u64 = 400_000_000;
 /// The steps that surely give each literal: two lists for each atom, the negative literal first.
 #[derive(Drop)]
 pub struct Givers {
+    together: Box<Together>,
     steps: Vec<Vec<u32>>,
     found: Vec<u32>,
     /// The words times steps that may still be looked at.
@@ -113,13 +116,14 @@ impl Givers {
         effect.list_gifts(number, &mut self.steps)
     }
 
-    /// The lists of all steps.
-    pub fn new(alloc: Global, moves: &Moves) -> Result<Givers, NoMemory> {
+    /// The lists of all steps of a task.
+    pub fn new(alloc: Global, task: &Task, moves: &Moves) -> Result<Box<Givers>, NoMemory> {
         let mut steps = Vec::new(alloc);
         for _ in 0..moves.atoms.saturating_mul(2) {
             steps.push(Vec::new(alloc))?;
         }
         let mut givers = Givers {
+            together: Together::new(alloc, task, moves)?,
             steps,
             found: Vec::new(alloc),
             left: MOST_FOR_ALL,
@@ -127,7 +131,7 @@ impl Givers {
         for (number, step) in moves.steps.iter().enumerate() {
             givers.add(moves, size(number), *step)?;
         }
-        Ok(givers)
+        boxed(alloc, givers)
     }
 
     /// Adds the steps that give a literal of the mask to those found.
@@ -167,13 +171,7 @@ impl Givers {
     }
 
     /// Strengthens the actions of the net of which an outcome would lead into the cube but for one literal.
-    pub fn bar(
-        &mut self,
-        moves: &Moves,
-        together: &Together,
-        net: &mut Net,
-        cube: &[Mask],
-    ) -> Result<(), NoMemory> {
+    pub fn bar(&mut self, moves: &Moves, net: &mut Net, cube: &[Mask]) -> Result<(), NoMemory> {
         self.find(cube)?;
         for number in &self.found {
             let step = moves.step(*number);
@@ -183,7 +181,7 @@ impl Givers {
             let Some(effect) = one.effects.get(step.outcome as usize) else {
                 continue;
             };
-            match gap_of(one, effect, cube, together) {
+            match gap_of(one, effect, cube, &self.together) {
                 Gap::Wide => {}
                 Gap::Nothing => net.close_act(step.act),
                 Gap::One(literal) => net.strengthen(step.act, literal)?,

@@ -2,7 +2,7 @@
 //! heuristic search*, 2001). Facts are settled in the order of their costs, which are kept in buckets.
 
 use crate::net::{Counter, Net, Operator};
-use fond_moves::index::{NONE, fill, has, link_at, put, size};
+use fond_moves::index::{Literal, NONE, fill, has, link_at, put, size};
 use fond_text::fault::NoMemory;
 use std::alloc::Global;
 
@@ -31,6 +31,18 @@ pub struct Costs {
     buckets: Vec<u32>,
     waiting: Vec<Waiting>,
     pub work: u64,
+}
+
+/// The literals that hold in the state cost nothing, and the others are not reached.
+fn reset_costs(costs: &mut [u32], literals: &[Literal], state: &[u64]) {
+    for i in 0..costs.len().min(literals.len()) {
+        let literal = literals[i];
+        costs[i] = if has(state, literal.atom) == literal.sign {
+            0
+        } else {
+            FAR
+        };
+    }
 }
 
 impl Costs {
@@ -131,13 +143,7 @@ impl Costs {
         let counters = if hopeful { &net.hoped } else { &net.sure };
         self.counters.clear();
         self.counters.extend_from_slice(counters)?;
-        for (cost, literal) in self.costs.iter_mut().zip(net.literals.iter()) {
-            *cost = if has(state, literal.atom) == literal.sign {
-                0
-            } else {
-                FAR
-            };
-        }
+        reset_costs(&mut self.costs, &net.literals, state);
         put(&mut self.costs, net.goal(), FAR);
         fill(&mut self.by, NONE);
         self.buckets.clear();

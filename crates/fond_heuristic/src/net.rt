@@ -120,6 +120,14 @@ fn marks_of(alloc: Global, task: &Task, atoms: u32) -> Result<Vec<u32>, NoMemory
     Ok(marks)
 }
 
+/// The literal that an entry gives.
+fn literal_of(entry: &Entry) -> Literal {
+    Literal {
+        atom: entry.atom,
+        sign: entry.add,
+    }
+}
+
 /// Whether all effects give the literal.
 fn all_give(effects: &[Effect], literal: Literal) -> bool {
     for effect in effects {
@@ -284,14 +292,13 @@ impl Net {
         needs: &[Literal],
         sure: bool,
     ) -> Result<(), NoMemory> {
-        for (k, outcome) in source.act.outcomes.as_slice().iter().enumerate() {
-            for entry in outcome {
-                let literal = Literal {
-                    atom: entry.atom,
-                    sign: entry.add,
-                };
-                if self.is_due(source, entry, size(k), sure) {
-                    self.give(needs, literal, source.one.first.saturating_add(size(k)))?;
+        let outcomes = source.act.outcomes.as_slice();
+        for i in 0..outcomes.len() {
+            let outcome = size(i);
+            let step = source.one.first.saturating_add(outcome);
+            for entry in &outcomes[i] {
+                if self.is_due(source, entry, outcome, sure) {
+                    self.give(needs, literal_of(entry), step)?;
                 }
             }
         }
@@ -312,10 +319,6 @@ impl Net {
 
     /// Whether the entry of an outcome is to be among the sure gifts, or among the others.
     fn is_due(&self, source: &Source<'_>, entry: &Entry, outcome: u32, sure: bool) -> bool {
-        let literal = Literal {
-            atom: entry.atom,
-            sign: entry.add,
-        };
         if !is_plain(entry) {
             return false;
         }
@@ -332,7 +335,7 @@ impl Net {
         if !source.one.unfair {
             return sure;
         }
-        if all_give(&source.one.effects, literal) {
+        if all_give(&source.one.effects, literal_of(entry)) {
             sure && outcome == 0
         } else {
             !sure
@@ -366,10 +369,7 @@ impl Net {
         entry: &Entry,
         step: u32,
     ) -> Result<(), NoMemory> {
-        let literal = Literal {
-            atom: entry.atom,
-            sign: entry.add,
-        };
+        let literal = literal_of(entry);
         if self.fact(literal) == NONE {
             return Ok(());
         }
@@ -382,9 +382,10 @@ impl Net {
 
     /// Adds the operators of all entries with a condition.
     fn add_entries(&mut self, alloc: Global, source: &Source<'_>) -> Result<(), NoMemory> {
-        for (k, outcome) in source.act.outcomes.as_slice().iter().enumerate() {
-            let step = source.one.first.saturating_add(size(k));
-            for entry in outcome {
+        let outcomes = source.act.outcomes.as_slice();
+        for i in 0..outcomes.len() {
+            let step = source.one.first.saturating_add(size(i));
+            for entry in &outcomes[i] {
                 if !is_plain(entry) {
                     self.add_entry(alloc, source, entry, step)?;
                 }
@@ -434,9 +435,11 @@ impl Net {
 
     /// Adds the operators of all actions.
     fn add_acts(&mut self, alloc: Global, task: &Task, moves: &Moves) -> Result<(), NoMemory> {
-        for (act, one) in task.acts.as_slice().iter().zip(moves.acts.iter()) {
+        let acts = task.acts.as_slice();
+        let all = moves.acts.as_slice();
+        for i in 0..acts.len().min(all.len()) {
             self.firsts.push(size(self.operators.len()))?;
-            self.add_act(alloc, act, one)?;
+            self.add_act(alloc, &acts[i], &all[i])?;
         }
         self.firsts.push(size(self.operators.len()))?;
         Ok(())
@@ -463,15 +466,7 @@ impl Net {
         end.saturating_sub(first) <= 1
     }
 
-    /// Adds a literal to those that an aim needs, unless no condition of the task needs it.
-    fn add_needed(&self, literal: Literal, needs: &mut Literals) -> Result<(), NoMemory> {
-        if self.fact(literal) != NONE {
-            needs.push(literal)?;
-        }
-        Ok(())
-    }
-
-    /// Adds the literals of a mask to those that an aim needs.
+    /// Adds the literals of a mask to those that an aim needs, but for those that no condition of the task needs.
     fn add_mask(&self, mask: &Mask, needs: &mut Literals) -> Result<(), NoMemory> {
         let mut bits = mask.care;
         for _ in 0..64 {
@@ -484,7 +479,9 @@ impl Net {
                 atom: mask.word.saturating_mul(64).saturating_add(bit),
                 sign: mask.value & bit_of(bit) != 0,
             };
-            self.add_needed(literal, needs)?;
+            if self.fact(literal) != NONE {
+                needs.push(literal)?;
+            }
         }
         Ok(())
     }

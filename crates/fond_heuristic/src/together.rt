@@ -4,6 +4,7 @@
 //! an atom that it needs has grown.
 
 use fond_moves::applicable::sure_masks;
+use fond_moves::boxes::boxed;
 use fond_moves::condition::Mask;
 use fond_moves::effect::Effect;
 use fond_moves::index::{at, clear_words, copy_words, put, put_bit, size, word_at};
@@ -31,6 +32,13 @@ pub struct Together {
     now: u32,
     left: u64,
     changed: bool,
+}
+
+/// Keeps those bits of the words that the others have too.
+fn meet_words(words: &mut [u64], others: &[u64]) {
+    for i in 0..words.len().min(others.len()) {
+        words[i] &= others[i];
+    }
 }
 
 impl Together {
@@ -76,9 +84,7 @@ impl Together {
     fn keep_with(&mut self, atom: u32) {
         self.tick();
         if let Some(row) = self.rows.get(atom as usize) {
-            for (word, other) in self.before.iter_mut().zip(row.iter()) {
-                *word &= *other;
-            }
+            meet_words(&mut self.before, row);
         }
     }
 
@@ -225,7 +231,7 @@ impl Together {
     }
 
     /// The pairs of a task that may be true together.
-    pub fn new(alloc: Global, task: &Task, moves: &Moves) -> Result<Together, NoMemory> {
+    pub fn new(alloc: Global, task: &Task, moves: &Moves) -> Result<Box<Together>, NoMemory> {
         let mut together = Together::empty(alloc, moves)?;
         for atom in 0..task.init.len() as u32 {
             let value = task.init.get(atom);
@@ -237,10 +243,10 @@ impl Together {
         }
         for _ in 0..moves.atoms.saturating_mul(moves.atoms) {
             if together.left == 0 || !together.round(moves) {
-                return Ok(together);
+                break;
             }
         }
-        Ok(together)
+        boxed(alloc, together)
     }
 
     /// The atoms of a word that are false in each state in which this one is true.
