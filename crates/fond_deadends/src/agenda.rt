@@ -27,17 +27,17 @@ pub(crate) struct Agenda {
 
 /// The first bit of the words, as a number.
 fn first_bit(words: &[u64]) -> Option<u32> {
-    for (i, word) in words.iter().enumerate() {
-        if *word != 0 {
+    for i in 0..words.len() {
+        if words[i] != 0 {
             let before = size(i).saturating_mul(64);
-            return Some(before.saturating_add(word.trailing_zeros()));
+            return Some(before.saturating_add(words[i].trailing_zeros()));
         }
     }
     None
 }
 
 /// A word with this many of its first bits.
-fn low_bits(count: u32) -> u64 {
+pub(crate) fn low_bits(count: u32) -> u64 {
     if count >= 64 {
         return u64::MAX;
     }

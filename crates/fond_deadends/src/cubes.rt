@@ -1,8 +1,9 @@
 //! Sets of cubes, each filed under one of its literals, so that only few of them are looked at to tell whether one holds
 //! in a state.
 
+use fond_moves::boxes::boxed;
 use fond_moves::condition::{Mask, all_hold, copy_mentioned};
-use fond_moves::index::{Literal, NONE, bit_of, has, put_bit, size, word_at};
+use fond_moves::index::{Literal, NONE, bit_of, clear_words, has, put_bit, size, word_at};
 use fond_moves::part::Part;
 use fond_text::fault::NoMemory;
 use std::alloc::Global;
@@ -45,13 +46,14 @@ fn all_known(masks: &[Mask], part: &Part) -> bool {
 /// The masks of a partial state.
 pub fn masks_of(alloc: Global, part: &Part) -> Result<Masks, NoMemory> {
     let mut masks = Vec::new(alloc);
-    for (word, (care, value)) in part.care.iter().zip(part.value.iter()).enumerate() {
-        if *care != 0 {
-            masks.push(Mask {
-                word: size(word),
-                care: *care,
-                value: *value,
-            })?;
+    for word in 0..size(part.care.len()) {
+        let mask = Mask {
+            word,
+            care: word_at(&part.care, word),
+            value: word_at(&part.value, word),
+        };
+        if mask.care != 0 {
+            masks.push(mask)?;
         }
     }
     Ok(masks)
@@ -59,7 +61,7 @@ pub fn masks_of(alloc: Global, part: &Part) -> Result<Masks, NoMemory> {
 
 impl CubeSet {
     /// No cubes, over this many atoms.
-    pub fn new(alloc: Global, atoms: u32, width: u32) -> Result<CubeSet, NoMemory> {
+    pub fn new(alloc: Global, atoms: u32, width: u32) -> Result<Box<CubeSet>, NoMemory> {
         let mut lists = Vec::new(alloc);
         for _ in 0..atoms {
             lists.push(Lists {
@@ -67,13 +69,14 @@ impl CubeSet {
                 negative: Vec::new(alloc),
             })?;
         }
-        Ok(CubeSet {
+        let cubes = CubeSet {
             cubes: Vec::new(alloc),
             lists,
             filed_true: vec![in alloc; 0; width as usize]?,
             filed_false: vec![in alloc; 0; width as usize]?,
             whole: None,
-        })
+        };
+        boxed(alloc, cubes)
     }
 
     /// Drops all cubes.
@@ -83,12 +86,8 @@ impl CubeSet {
             lists.positive.clear();
             lists.negative.clear();
         }
-        for word in self.filed_true.iter_mut() {
-            *word = 0;
-        }
-        for word in self.filed_false.iter_mut() {
-            *word = 0;
-        }
+        clear_words(&mut self.filed_true);
+        clear_words(&mut self.filed_false);
         self.whole = None;
     }
 
@@ -235,16 +234,21 @@ impl CubeSet {
         None
     }
 
+    /// The atoms of a word under whose literals cubes are filed, of those that are true and those that are false.
+    fn filed(&self, word: u32, are_true: u64, are_false: u64) -> u64 {
+        (are_true & word_at(&self.filed_true, word))
+            | (are_false & word_at(&self.filed_false, word))
+    }
+
     /// Whether one of the cubes holds in the state. Takes time in the width of the state and in the number of cubes that
     /// are filed under its literals.
     pub fn holds(&self, state: &[u64]) -> bool {
         if self.whole.is_some() {
             return true;
         }
-        for (i, word) in state.iter().enumerate() {
+        for i in 0..state.len() {
             let number = size(i);
-            let bits = (*word & word_at(&self.filed_true, number))
-                | (!*word & word_at(&self.filed_false, number));
+            let bits = self.filed(number, state[i], !state[i]);
             if bits != 0 && self.holds_under(state, number, bits) {
                 return true;
             }
@@ -286,10 +290,9 @@ impl CubeSet {
     /// The number of the first cube that holds in the state, or `NONE`. Takes time as `holds` does.
     pub fn first(&self, state: &[u64]) -> u32 {
         let mut first = self.whole.unwrap_or(NONE);
-        for (i, word) in state.iter().enumerate() {
+        for i in 0..state.len() {
             let number = size(i);
-            let bits = (*word & word_at(&self.filed_true, number))
-                | (!*word & word_at(&self.filed_false, number));
+            let bits = self.filed(number, state[i], !state[i]);
             first = self.first_under(state, number, bits, first);
         }
         first
@@ -308,11 +311,10 @@ impl CubeSet {
         if self.whole.is_some() {
             return self.whole;
         }
-        for (i, (care, value)) in part.care.iter().zip(part.value.iter()).enumerate() {
-            let number = size(i);
-            let bits = (*value & word_at(&self.filed_true, number))
-                | (*care & !*value & word_at(&self.filed_false, number));
-            let cover = self.cover_under(part, number, bits);
+        for word in 0..size(part.care.len()) {
+            let value = word_at(&part.value, word);
+            let bits = self.filed(word, value, word_at(&part.care, word) & !value);
+            let cover = self.cover_under(part, word, bits);
             if cover.is_some() {
                 return cover;
             }

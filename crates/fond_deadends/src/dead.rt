@@ -65,15 +65,16 @@ impl Prover {
         )
     }
 
-    /// The outcome that leads from what is left into a dead cube, and that cube.
-    fn blocked(&mut self, facts: &Facts, one: &Move) -> Option<(u32, u32)> {
+    /// A dead cube into which some outcome leads from what is left.
+    fn blocked(&mut self, facts: &Facts, one: &Move) -> Option<u32> {
         if facts.dead.is_empty() {
             return None;
         }
-        for (k, effect) in one.effects.iter().enumerate() {
+        for effect in &one.effects {
             effect.image(&self.part, &mut self.image);
-            if let Some(cube) = facts.dead.cover(&self.image) {
-                return Some((size(k), cube));
+            let cube = facts.dead.cover(&self.image);
+            if cube.is_some() {
+                return cube;
             }
         }
         None
@@ -84,12 +85,13 @@ impl Prover {
         let mut best = 0;
         let mut least = NONE;
         let mut harmless = true;
-        for (k, effect) in one.effects.iter().enumerate() {
-            let count = effect.count_lost(&self.part);
+        let effects = one.effects.as_slice();
+        for i in 0..effects.len() {
+            let count = effects[i].count_lost(&self.part);
             harmless &= count == 0;
             if count < least {
                 least = count;
-                best = size(k);
+                best = size(i);
             }
         }
         (best, least, harmless)
@@ -97,9 +99,10 @@ impl Prover {
 
     /// Drops what the outcomes of an action may take away, or what one of them may.
     fn lose(&mut self, one: &Move, only: u32) {
-        for (k, effect) in one.effects.iter().enumerate() {
-            if !one.unfair || size(k) == only {
-                effect.forget_lost(&mut self.part);
+        let effects = one.effects.as_slice();
+        for i in 0..effects.len() {
+            if !one.unfair || size(i) == only {
+                effects[i].forget_lost(&mut self.part);
             }
         }
     }
@@ -167,7 +170,7 @@ impl Prover {
         std::mem::swap(&mut self.part, &mut self.best);
         let blocked = self.blocked(facts, one);
         std::mem::swap(&mut self.part, &mut self.best);
-        if let Some((_, cube)) = blocked {
+        if let Some(cube) = blocked {
             facts.dead.mention(cube, &self.best, &mut self.part);
         }
         for effect in &one.effects {

@@ -10,7 +10,7 @@
 //! Once no look is left, the cubes of the nodes are a layer. Like a lazy abstraction, it distinguishes states only as far as an
 //! action made that necessary, and no state is visited but those of the nodes.
 
-use crate::agenda::{Agenda, Look};
+use crate::agenda::{Agenda, Look, low_bits};
 use crate::dead::Prover;
 use crate::facts::Facts;
 use crate::nodes::Nodes;
@@ -20,7 +20,7 @@ use fond_heuristic::relaxed::Estimate;
 use fond_moves::boxes::boxed;
 use fond_moves::condition::Mask;
 use fond_moves::effect::Effect;
-use fond_moves::index::{NONE, bit_of, copy_words, size, word_at};
+use fond_moves::index::{NONE, copy_words, size, word_at};
 use fond_moves::moves::Move;
 use fond_moves::part::Part;
 use fond_task::form::Kleene;
@@ -75,58 +75,41 @@ pub struct LayerSearch {
 /// What is looked at.
 #[derive(Drop)]
 struct View {
-    /// The cube of the node that is looked at, all that is known in its state, and an image.
+    /// The cube of the node that is looked at, its state, and an image. All atoms of the state are known.
     part: Part,
     whole: Part,
     image: Part,
-    /// A next state, and all that is known in it.
-    next: Vec<u64>,
-    other: Part,
+    /// A next state, of which all atoms are known too.
+    next: Part,
 }
 
 impl View {
-    /// Nothing is looked at yet, in states of this many words.
-    fn new(alloc: Global, width: u32) -> Result<Box<View>, NoMemory> {
-        let part = Part::new(alloc, width)?;
-        let whole = Part::new(alloc, width)?;
-        let image = Part::new(alloc, width)?;
-        let other = Part::new(alloc, width)?;
-        let next = vec![in alloc; 0; width as usize]?;
-        boxed(
-            alloc,
-            View {
-                part,
-                whole,
-                image,
-                next,
-                other,
-            },
-        )
-    }
-
-    /// Makes the image what is known after an effect on the cube.
-    fn follow(&mut self, effect: &Effect) {
-        effect.image(&self.part, &mut self.image);
+    /// Nothing is looked at yet, in states of this many atoms and words.
+    fn new(alloc: Global, atoms: u32, width: u32) -> Result<Box<View>, NoMemory> {
+        let view = View {
+            part: Part::new(alloc, width)?,
+            whole: Part::new(alloc, width)?,
+            image: Part::new(alloc, width)?,
+            next: Part::new(alloc, width)?,
+        };
+        let mut view = boxed(alloc, view)?;
+        know_all(&mut view.whole.care, atoms);
+        know_all(&mut view.next.care, atoms);
+        Ok(view)
     }
 
     /// Makes the next state the one after an effect in the node's state.
     fn enter(&mut self, effect: &Effect) {
-        effect.apply(&self.whole.value, &mut self.next);
+        effect.apply(&self.whole.value, &mut self.next.value);
     }
 
     /// Makes the image reasons why the next state is no goal.
     fn explain_next(&mut self, facts: &Facts) {
-        know_all(&mut self.other, &self.next, facts.moves.atoms);
         self.image.clear();
         facts
             .moves
             .goal
-            .refute(&self.other, facts.weights, &mut self.image);
-    }
-
-    /// Adds reasons why an action does not apply in the node's state.
-    fn refute(&mut self, facts: &Facts, one: &Move) {
-        one.needs.refute(&self.whole, facts.weights, &mut self.part);
+            .refute(&self.next, facts.weights, &mut self.image);
     }
 
     /// Adds what has to be known before an effect, so that these literals hold after it, which they do in the node's state.
@@ -142,17 +125,11 @@ impl View {
     }
 }
 
-/// Makes the partial state that in which all these atoms are known.
-fn know_all(whole: &mut Part, state: &[u64], atoms: u32) {
-    copy_words(&mut whole.value, state);
-    for (i, word) in whole.care.iter_mut().enumerate() {
+/// Makes all these atoms known.
+fn know_all(care: &mut [u64], atoms: u32) {
+    for i in 0..care.len() {
         let before = size(i).saturating_mul(64);
-        let count = atoms.saturating_sub(before);
-        *word = if count >= 64 {
-            u64::MAX
-        } else {
-            bit_of(count).wrapping_sub(1)
-        };
+        care[i] = low_bits(atoms.saturating_sub(before));
     }
 }
 
@@ -163,7 +140,7 @@ impl LayerSearch {
         let prover = Prover::new(alloc, width)?;
         let estimate = Estimate::new(alloc, facts.net, facts.moves.steps.len())?;
         let lost = boxed(alloc, StateSet::new(alloc, width)?)?;
-        let view = View::new(alloc, width)?;
+        let view = View::new(alloc, facts.moves.atoms, width)?;
         boxed(
             alloc,
             LayerSearch {
@@ -207,7 +184,7 @@ impl LayerSearch {
     fn add_node(&mut self, facts: &Facts) -> Result<u32, NoMemory> {
         self.view.explain_next(facts);
         self.agenda.add_node()?;
-        self.nodes.add(&self.view.next, &self.view.image.care)
+        self.nodes.add(&self.view.next.value, &self.view.image.care)
     }
 
     /// Begins with a state, and lets the search take this much.
@@ -216,8 +193,8 @@ impl LayerSearch {
         self.agenda.clear();
         self.most = limits.states.min(NODES);
         self.left = limits.work;
-        copy_words(&mut self.view.next, state);
-        if facts.moves.goal.holds(&self.view.next) {
+        copy_words(&mut self.view.next.value, state);
+        if facts.moves.goal.holds(&self.view.next.value) {
             self.left = 0;
             return Ok(());
         }
@@ -248,7 +225,8 @@ impl LayerSearch {
     ) -> Result<bool, NoMemory> {
         self.inside.clear();
         for effect in &one.effects {
-            self.view.follow(effect);
+            let view = &mut *self.view;
+            effect.image(&view.part, &mut view.image);
             if facts.dead.cover(&self.view.image).is_some() {
                 return Ok(true);
             }
@@ -308,11 +286,12 @@ impl LayerSearch {
         if facts.dead.is_empty() {
             return None;
         }
-        for (k, effect) in one.effects.iter().enumerate() {
-            self.view.enter(effect);
-            let cube = facts.dead.first(&self.view.next);
+        let effects = one.effects.as_slice();
+        for i in 0..effects.len() {
+            self.view.enter(&effects[i]);
+            let cube = facts.dead.first(&self.view.next.value);
             if cube != NONE {
-                return Some((k, cube));
+                return Some((i, cube));
             }
         }
         None
@@ -337,22 +316,24 @@ impl LayerSearch {
 
     /// The node whose cube holds in the next state: the one that is looked at, or else the first one.
     fn node_of_next(&mut self, node: u32) -> u32 {
-        if self.nodes.holds(node, &self.view.next) {
+        if self.nodes.holds(node, &self.view.next.value) {
             return node;
         }
         let count = self.nodes.len() as u64;
         self.spend(count);
-        self.nodes.first_holding(&self.view.next).unwrap_or(NONE)
+        self.nodes
+            .first_holding(&self.view.next.value)
+            .unwrap_or(NONE)
     }
 
     /// Whether the next state, which lies in no cube, can be a node: it is no goal, and there is room. If it is dead by itself, its
     /// cube comes first.
     fn judge_next(&mut self, facts: &Facts) -> Result<Stage, NoMemory> {
-        if facts.moves.goal.holds(&self.view.next) || self.nodes.len() >= self.most {
+        if facts.moves.goal.holds(&self.view.next.value) || self.nodes.len() >= self.most {
             return Ok(Stage::Failed);
         }
         let before = self.prover.work;
-        let is_dead = self.prover.find(facts, &self.view.next)?;
+        let is_dead = self.prover.find(facts, &self.view.next.value)?;
         let looks = self.prover.work.saturating_sub(before);
         let cost = 1 + facts.moves.width as u64 / 8;
         self.left = self.left.saturating_sub(looks.saturating_mul(cost));
@@ -389,7 +370,7 @@ impl LayerSearch {
     /// How much the opponent likes the next state as a response: most of all to stay in the cube, then to go into another one, then
     /// to be far from the goal. 0 if it is a goal, or no lost state though some are known.
     fn like(&mut self, facts: &Facts, node: u32) -> Result<u32, NoMemory> {
-        if facts.moves.goal.holds(&self.view.next) {
+        if facts.moves.goal.holds(&self.view.next.value) {
             return Ok(0);
         }
         let around = self.node_of_next(node);
@@ -400,9 +381,9 @@ impl LayerSearch {
             return Ok(FAR - 1);
         }
         if self.lost.len() > 0 {
-            return Ok(self.lost.find(&self.view.next).is_some() as u32);
+            return Ok(self.lost.find(&self.view.next.value).is_some() as u32);
         }
-        let distance = self.estimate.of(facts.net, &self.view.next)?;
+        let distance = self.estimate.of(facts.net, &self.view.next.value)?;
         Ok(distance.min(FAR - 2).max(1))
     }
 
@@ -415,11 +396,12 @@ impl LayerSearch {
     ) -> Result<Option<usize>, NoMemory> {
         let mut best = None;
         let mut most = 0;
-        for (k, effect) in one.effects.iter().enumerate() {
-            self.view.enter(effect);
+        let effects = one.effects.as_slice();
+        for i in 0..effects.len() {
+            self.view.enter(&effects[i]);
             let liked = self.like(facts, node)?;
             if liked > most {
-                best = Some(k);
+                best = Some(i);
                 most = liked;
             }
         }
@@ -440,7 +422,8 @@ impl LayerSearch {
     /// Adds what has to be known for an action to do no harm on the cube that is looked at.
     fn explain(&mut self, facts: &Facts, one: &Move, look: Look) -> Result<Stage, NoMemory> {
         if !one.needs.holds(&self.view.whole.value) {
-            self.view.refute(facts, one);
+            let view = &mut *self.view;
+            one.needs.refute(&view.whole, facts.weights, &mut view.part);
             return Ok(Stage::Open);
         }
         if let Some((k, cube)) = self.first_dead(facts, one) {
@@ -465,11 +448,7 @@ impl LayerSearch {
         if one.needs.value(&self.view.part) == Kleene::No {
             return Ok(Stage::Open);
         }
-        know_all(
-            &mut self.view.whole,
-            self.nodes.state(look.node),
-            facts.moves.atoms,
-        );
+        copy_words(&mut self.view.whole.value, self.nodes.state(look.node));
         if self.is_harmless(facts, one, look)? {
             return Ok(Stage::Open);
         }

@@ -29,8 +29,8 @@ fn words_of(words: &[u64], width: usize, number: u32) -> &[u64] {
 
 /// Whether the state agrees with another one on the known atoms.
 fn agrees(state: &[u64], known: &[u64], other: &[u64]) -> bool {
-    for ((word, mask), value) in state.iter().zip(known.iter()).zip(other.iter()) {
-        if (word ^ value) & mask != 0 {
+    for i in 0..state.len().min(known.len()).min(other.len()) {
+        if (state[i] ^ other[i]) & known[i] != 0 {
             return false;
         }
     }
@@ -39,12 +39,19 @@ fn agrees(state: &[u64], known: &[u64], other: &[u64]) -> bool {
 
 /// Whether all these atoms are known too.
 fn are_known(known: &[u64], care: &[u64]) -> bool {
-    for (mask, word) in known.iter().zip(care.iter()) {
-        if mask & !word != 0 {
+    for i in 0..known.len().min(care.len()) {
+        if known[i] & !care[i] != 0 {
             return false;
         }
     }
     true
+}
+
+/// Copies the values of the known atoms of a state. The other atoms become false.
+fn copy_known(values: &mut [u64], state: &[u64], known: &[u64]) {
+    for i in 0..values.len().min(state.len()).min(known.len()) {
+        values[i] = state[i] & known[i];
+    }
 }
 
 impl Nodes {
@@ -92,14 +99,7 @@ impl Nodes {
     /// Makes the partial state the cube of a node.
     pub(crate) fn load(&self, node: u32, part: &mut Part) {
         copy_words(&mut part.care, self.known(node));
-        for ((value, word), mask) in part
-            .value
-            .iter_mut()
-            .zip(self.state(node).iter())
-            .zip(self.known(node).iter())
-        {
-            *value = word & mask;
-        }
+        copy_known(&mut part.value, self.state(node), self.known(node));
     }
 
     /// Makes these the known atoms of a node. Returns whether they were others.

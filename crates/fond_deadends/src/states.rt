@@ -73,9 +73,10 @@ impl StateSet {
 
     /// The number at a slot of the table.
     fn number_at(&self, slot: usize) -> u32 {
-        match self.table.get(slot) {
-            Some(number) => *number,
-            None => NONE,
+        if slot < self.table.len() {
+            self.table[slot]
+        } else {
+            NONE
         }
     }
 
