@@ -1,6 +1,7 @@
 //! The local aim of a search. A state without a rule that an action leads to is often near to the rule of the action, or to
 //! one of its targets, while the goal is far: a plan that ends in one of these needs few new rules.
 
+use fond_moves::boxes::boxed;
 use fond_moves::index::copy_words;
 use fond_text::fault::NoMemory;
 use std::alloc::Global;
@@ -26,14 +27,17 @@ pub(crate) struct Aim {
 
 impl Aim {
     /// No aim.
-    pub(crate) fn new(alloc: Global, width: u32) -> Result<Aim, NoMemory> {
+    pub(crate) fn new(alloc: Global, width: u32) -> Result<Box<Aim>, NoMemory> {
         let left = vec![in alloc; 0; width as usize]?;
         let entered = vec![in alloc; 0; width as usize]?;
-        Ok(Aim {
-            left,
-            entered,
-            stage: Stage::Nowhere,
-        })
+        boxed(
+            alloc,
+            Aim {
+                left,
+                entered,
+                stage: Stage::Nowhere,
+            },
+        )
     }
 
     /// Forgets the aim.

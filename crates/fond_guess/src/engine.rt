@@ -7,8 +7,8 @@ use fond_deadends::cubes::{Masks, masks_of};
 use fond_deadends::dead::Prover;
 use fond_deadends::layers::{LayerSearch, Limits as LayerLimits, Stage};
 use fond_hint::hint::{Hint, LayerHint};
-use fond_moves::boxes::boxed;
-use fond_moves::index::{copy_words, put_bit, size};
+use fond_hint::step::PlanStep;
+use fond_moves::index::{clear_words, copy_words, put_bit, size};
 use fond_moves::part::Part;
 use fond_state::cube::Cube;
 use fond_state::state::State;
@@ -54,9 +54,7 @@ fn read_cube(part: &mut Part, cube: &Cube) {
 
 /// Makes the words those of a state.
 fn read(words: &mut [u64], state: &State) {
-    for word in words.iter_mut() {
-        *word = 0;
-    }
+    clear_words(words);
     for atom in 0..state.len() as u32 {
         if state.get(atom) {
             put_bit(words, atom, true);
@@ -77,25 +75,15 @@ fn cube_of(alloc: Global, part: &Part, atoms: u32) -> Result<Cube, NoMemory> {
     Ok(cube)
 }
 
-/// What is known of a task at first.
-fn known_of(alloc: Global, t: &Task) -> Result<Box<Known>, NoMemory> {
-    boxed(alloc, Known::new(alloc, t)?)
-}
-
-/// No aim, over states of this many words.
-fn aim_of(alloc: Global, width: u32) -> Result<Box<Aim>, NoMemory> {
-    boxed(alloc, Aim::new(alloc, width)?)
-}
-
 impl Engine {
     /// An engine for a task. Takes time and memory in the size of the task.
     pub fn new(alloc: Global, t: &Task) -> Result<Engine, NoMemory> {
-        let known = known_of(alloc, t)?;
+        let known = Known::new(alloc, t)?;
         let width = known.moves.width;
         let search = Search::new(alloc, &known)?;
         let prover = Prover::new(alloc, width)?;
         let layers = LayerSearch::new(alloc, &known.facts())?;
-        let aim = aim_of(alloc, width)?;
+        let aim = Aim::new(alloc, width)?;
         let start = vec![in alloc; 0; width as usize]?;
         let cube = Part::new(alloc, width)?;
         Ok(Engine {
@@ -142,7 +130,7 @@ impl Engine {
     /// The action is barred from now on in the states of the cube.
     pub fn add_pair(&mut self, act: u32, cond: &Cube) -> Result<(), NoMemory> {
         let masks = self.masks(cond)?;
-        self.known.bar(act, masks)
+        self.known.bars.add(act, masks)
     }
 
     /// The states of the cube are dead from now on.
@@ -154,7 +142,7 @@ impl Engine {
     /// From now on, searches go on in this outcome of the unfair action in the state.
     pub fn respond(&mut self, state: &State, act: u32, outcome: u32) -> Result<(), NoMemory> {
         read(&mut self.start, state);
-        self.known.respond(act, &self.start, outcome)
+        self.known.responses.set(act, &self.start, outcome)
     }
 
     /// The work done by all searches so far: updates of the relaxation, entries of the queues, and looks at actions for dead cubes.
@@ -210,7 +198,7 @@ impl Engine {
             look: NO_LOOK,
         };
         let ended = self.search.run(&mut self.known, &self.start, limits)?;
-        self.known.drop_aims();
+        self.known.net.drop_aims();
         Ok(ended == Ended::Found)
     }
 
@@ -224,6 +212,18 @@ impl Engine {
         self.run(states, work.saturating_sub(done))
     }
 
+    /// The steps of the plan that was found, the first one first.
+    fn found_steps(&self, alloc: Global) -> Result<List<PlanStep>, NoMemory> {
+        let mut back = self.search.plan(alloc, &self.known)?;
+        let mut steps = List::new(alloc);
+        for _ in 0..back.len() {
+            if let Some(step) = back.pop() {
+                steps.push(step)?;
+            }
+        }
+        Ok(steps)
+    }
+
     /// Steps from a state to a goal or to a state in which a rule holds; at an unfair action they go on in the response.
     /// Opens at most `states` states, and does not much more than `work` work.
     pub fn plan(
@@ -235,16 +235,7 @@ impl Engine {
     ) -> Result<Hint, NoMemory> {
         read(&mut self.start, from);
         match self.run_all(states, work)? {
-            Ended::Found => {
-                let mut back = self.search.plan(alloc, &self.known)?;
-                let mut steps = List::new(alloc);
-                for _ in 0..back.len() {
-                    if let Some(step) = back.pop() {
-                        steps.push(step)?;
-                    }
-                }
-                Ok(Hint::Steps(steps))
-            }
+            Ended::Found => Ok(Hint::Steps(self.found_steps(alloc)?)),
             Ended::Nothing => Ok(Hint::DeadEnd),
             Ended::Spent => Ok(Hint::Spent),
         }
@@ -293,15 +284,19 @@ impl Engine {
         if self.known.dead.holds(&self.start) {
             return Ok(LayerHint::Found);
         }
-        match self.layers.run(&self.known.facts())? {
-            Stage::Cube => {
-                let mut layer = List::new(alloc);
-                layer.push(cube_of(alloc, self.layers.dead_cube(), self.known.moves.atoms)?)?;
-                Ok(LayerHint::Layer(layer))
-            }
-            Stage::Layer => Ok(LayerHint::Layer(self.layer_of_nodes(alloc)?)),
-            Stage::Open | Stage::Failed => Ok(LayerHint::Nothing),
-        }
+        let layer = match self.layers.run(&self.known.facts())? {
+            Stage::Cube => self.layer_of_cube(alloc)?,
+            Stage::Layer => self.layer_of_nodes(alloc)?,
+            Stage::Open | Stage::Failed => return Ok(LayerHint::Nothing),
+        };
+        Ok(LayerHint::Layer(layer))
+    }
+
+    /// The cube that is dead by itself, as a layer.
+    fn layer_of_cube(&self, alloc: Global) -> Result<List<Cube>, NoMemory> {
+        let mut layer = List::new(alloc);
+        layer.push(cube_of(alloc, self.layers.dead_cube(), self.known.moves.atoms)?)?;
+        Ok(layer)
     }
 
     /// The cubes of the nodes, but for those that lie in others.

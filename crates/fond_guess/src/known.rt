@@ -6,7 +6,6 @@ use fond_deadends::facts::Facts;
 use fond_deadends::states::StateSet;
 use fond_heuristic::bar::Givers;
 use fond_heuristic::net::Net;
-use fond_heuristic::together::Together;
 use fond_hint::step::PlanStep;
 use fond_moves::applicable::ActIndex;
 use fond_moves::boxes::boxed;
@@ -30,14 +29,14 @@ struct Bar {
 
 /// The cubes in which actions are barred, in a list for each action.
 #[derive(Drop)]
-struct Bars {
+pub(crate) struct Bars {
     firsts: Vec<u32>,
     bars: Vec<Bar>,
 }
 
 /// The outcomes that the opponent picks in some states, each by the state and the action after it.
 #[derive(Drop)]
-struct Responses {
+pub(crate) struct Responses {
     places: StateSet,
     outcomes: Vec<u32>,
     key: Vec<u64>,
@@ -51,44 +50,18 @@ pub(crate) struct Known {
     pub(crate) index: Box<ActIndex>,
     pub(crate) net: Box<Net>,
     pub(crate) weights: Box<Weights>,
-    together: Box<Together>,
     givers: Box<Givers>,
     pub(crate) rules: Box<CubeSet>,
     /// The rules that are targets of each rule.
     targets: Vec<Vec<u32>>,
     pub(crate) dead: Box<CubeSet>,
-    bars: Box<Bars>,
-    responses: Box<Responses>,
+    pub(crate) bars: Box<Bars>,
+    pub(crate) responses: Box<Responses>,
 }
 
 /// The moves of a task.
 fn moves_of(alloc: Global, task: &Task) -> Result<Box<Moves>, NoMemory> {
     boxed(alloc, Moves::new(alloc, task)?)
-}
-
-/// An index of moves by the literals of their preconditions.
-fn index_of(alloc: Global, moves: &Moves) -> Result<Box<ActIndex>, NoMemory> {
-    boxed(alloc, ActIndex::new(alloc, moves)?)
-}
-
-/// The weights of a task's atoms.
-fn weights_of(alloc: Global, task: &Task, atoms: u32) -> Result<Box<Weights>, NoMemory> {
-    boxed(alloc, Weights::new(alloc, task, atoms)?)
-}
-
-/// The pairs of atoms that may hold together.
-fn together_of(alloc: Global, task: &Task, moves: &Moves) -> Result<Box<Together>, NoMemory> {
-    boxed(alloc, Together::new(alloc, task, moves)?)
-}
-
-/// The steps that give each literal.
-fn givers_of(alloc: Global, moves: &Moves) -> Result<Box<Givers>, NoMemory> {
-    boxed(alloc, Givers::new(alloc, moves)?)
-}
-
-/// No cubes over this many atoms, in this many words.
-fn no_cubes(alloc: Global, atoms: u32, width: u32) -> Result<Box<CubeSet>, NoMemory> {
-    boxed(alloc, CubeSet::new(alloc, atoms, width)?)
 }
 
 impl Bars {
@@ -120,8 +93,8 @@ impl Bars {
         false
     }
 
-    /// Bars the action.
-    fn add(&mut self, act: u32, masks: Masks) -> Result<(), NoMemory> {
+    /// Bars the action in the states of a cube.
+    pub(crate) fn add(&mut self, act: u32, masks: Masks) -> Result<(), NoMemory> {
         let number = size(self.bars.len());
         let next = link_at(&self.firsts, act);
         self.bars.push(Bar { masks, next })?;
@@ -155,8 +128,8 @@ impl Responses {
         }
     }
 
-    /// The outcome that is picked, or `NONE`.
-    fn get(&mut self, act: u32, state: &[u64]) -> u32 {
+    /// The outcome that is picked, or `NONE` if none was set.
+    pub(crate) fn get(&mut self, act: u32, state: &[u64]) -> u32 {
         self.set_key(act, state);
         match self.places.find(&self.key) {
             Some(number) => link_at(&self.outcomes, number),
@@ -165,7 +138,7 @@ impl Responses {
     }
 
     /// Sets the outcome that is picked.
-    fn set(&mut self, act: u32, state: &[u64], outcome: u32) -> Result<(), NoMemory> {
+    pub(crate) fn set(&mut self, act: u32, state: &[u64], outcome: u32) -> Result<(), NoMemory> {
         self.set_key(act, state);
         let (number, is_new) = self.places.add(&self.key)?;
         if is_new {
@@ -178,30 +151,31 @@ impl Responses {
 
 impl Known {
     /// What is known of a task at first.
-    pub(crate) fn new(alloc: Global, task: &Task) -> Result<Known, NoMemory> {
+    pub(crate) fn new(alloc: Global, task: &Task) -> Result<Box<Known>, NoMemory> {
         let moves = moves_of(alloc, task)?;
-        let index = index_of(alloc, &moves)?;
+        let index = ActIndex::new(alloc, &moves)?;
         let net = Net::new(alloc, task, &moves)?;
-        let weights = weights_of(alloc, task, moves.atoms)?;
-        let together = together_of(alloc, task, &moves)?;
-        let givers = givers_of(alloc, &moves)?;
-        let rules = no_cubes(alloc, moves.atoms, moves.width)?;
-        let dead = no_cubes(alloc, moves.atoms, moves.width)?;
+        let weights = Weights::new(alloc, task, moves.atoms)?;
+        let givers = Givers::new(alloc, task, &moves)?;
+        let rules = CubeSet::new(alloc, moves.atoms, moves.width)?;
+        let dead = CubeSet::new(alloc, moves.atoms, moves.width)?;
         let bars = Bars::new(alloc, moves.acts.len())?;
         let responses = Responses::new(alloc, moves.width)?;
-        Ok(Known {
-            moves,
-            index,
-            net,
-            weights,
-            together,
-            givers,
-            rules,
-            targets: Vec::new(alloc),
-            dead,
-            bars,
-            responses,
-        })
+        boxed(
+            alloc,
+            Known {
+                moves,
+                index,
+                net,
+                weights,
+                givers,
+                rules,
+                targets: Vec::new(alloc),
+                dead,
+                bars,
+                responses,
+            },
+        )
     }
 
     /// What searches for dead cubes go by.
@@ -238,8 +212,7 @@ impl Known {
     /// From now on, searches aim at the condition of a rule instead of the goal, if some condition of the task needs a literal of
     /// it. Returns whether one does.
     fn aim_at(&mut self, rule: u32) -> Result<bool, NoMemory> {
-        let aims = self.net.aim(self.rules.masks(rule))?;
-        Ok(aims)
+        self.net.aim(self.rules.masks(rule))
     }
 
     /// From now on, searches aim at the conditions of the first rule that holds in a state and of its targets instead of the
@@ -262,41 +235,10 @@ impl Known {
         Some(*target)
     }
 
-    /// Searches aim at the goal again.
-    pub(crate) fn drop_aims(&mut self) {
-        self.net.drop_aims();
-    }
-
     /// The states of a cube are dead.
     pub(crate) fn kill(&mut self, masks: Masks) -> Result<(), NoMemory> {
-        self.givers
-            .bar(&self.moves, &self.together, &mut self.net, &masks)?;
+        self.givers.bar(&self.moves, &mut self.net, &masks)?;
         self.dead.add(masks)
-    }
-
-    /// Bars an action in the states of a cube.
-    pub(crate) fn bar(&mut self, act: u32, masks: Masks) -> Result<(), NoMemory> {
-        self.bars.add(act, masks)
-    }
-
-    /// Whether the action is barred in the state.
-    pub(crate) fn is_barred(&self, act: u32, state: &[u64]) -> bool {
-        self.bars.holds(act, state)
-    }
-
-    /// The outcome that the opponent picks in the state, or `NONE` if none was set.
-    pub(crate) fn response(&mut self, act: u32, state: &[u64]) -> u32 {
-        self.responses.get(act, state)
-    }
-
-    /// Sets the outcome that the opponent picks in the state.
-    pub(crate) fn respond(
-        &mut self,
-        act: u32,
-        state: &[u64],
-        outcome: u32,
-    ) -> Result<(), NoMemory> {
-        self.responses.set(act, state, outcome)
     }
 
     /// Whether a plan may end in the state.
@@ -307,7 +249,7 @@ impl Known {
     /// Whether the action is to be passed over in the state: it is barred, or some outcome of it leads into a dead cube.
     /// `next` is overwritten.
     pub(crate) fn is_excluded(&self, act: u32, state: &[u64], next: &mut [u64]) -> bool {
-        if self.is_barred(act, state) {
+        if self.bars.holds(act, state) {
             return true;
         }
         if self.dead.is_empty() {

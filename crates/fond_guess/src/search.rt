@@ -321,7 +321,7 @@ impl Search {
                 step: open.step,
             }));
         }
-        let set = known.response(step.act, &self.current);
+        let set = known.responses.get(step.act, &self.current);
         let outcome = self.answer(known, step.act, set)?;
         if outcome == NONE {
             self.end = open.state;
