@@ -1,7 +1,7 @@
 //! Reads and writes by index that need no proof: past the end there is nothing to read, and nothing is written.
 //!
-//! An index that was compared with the length, and a loop over indexes, are checked in a half of the time that `get` takes with
-//! its answer, or `zip` with its pairs. So each of these few bodies has the cheaper form.
+//! These bodies compare an index with the length, or loop over indexes: the proof of that is a quarter shorter than one of `get`
+//! with its `Option`, and less than half as long as one of `zip` with its pairs.
 
 /// The number that names nothing.
 pub const NONE: u32 = u32::MAX;
