@@ -40,7 +40,7 @@ pub(crate) fn declared_predicates(alloc: Global, files: &Files) -> Result<Number
     ensures { IfOk result (λ all. all.names ≡ names_once (λ one. one.name) files.now.domain.now.predicates) }
 {
     let mut names = Names::new(alloc);
-    let mut numbers = TextIndex::new(alloc);
+    let mut numbers = Box::new(alloc, TextIndex::new(alloc))?;
     for i in 0..files.domain.predicates.len() {
         declare(
             alloc,
@@ -59,7 +59,7 @@ pub(crate) fn declared_objects(alloc: Global, files: &Files) -> Result<Numbers, 
 {
     let (constants, objects) = (&files.domain.constants, &files.problem.objects);
     let mut names = Names::new(alloc);
-    let mut numbers = TextIndex::new(alloc);
+    let mut numbers = Box::new(alloc, TextIndex::new(alloc))?;
     for i in 0..constants.len() + objects.len() {
         declare(
             alloc,

@@ -6,11 +6,11 @@ ghost use Rattle.std.specs.Prelude.{◌≡◌, ◌<◌, ◌^◌, length};
 use fond_lookup::index::TextIndex;
 use fond_text::name::Names;
 
-/// Distinct names in order, and an index of their numbers.
+/// Distinct names in order, and an index of their numbers, which is in a box so that the whole is small to move.
 #[derive(Drop)]
 pub(crate) struct Numbers {
     pub(crate) names: Names,
-    pub(crate) numbers: TextIndex,
+    pub(crate) numbers: Box<TextIndex>,
     ghost few: { length names < 2 ^ 32 },
-    ghost numbered: { numbers ≡ numbered_from 0 names },
+    ghost numbered: { numbers.value ≡ numbered_from 0 names },
 }

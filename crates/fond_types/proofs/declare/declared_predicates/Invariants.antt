@@ -6,6 +6,6 @@ use Rattle.fond_types.proofs.declare.declared_predicates.Given as goal
 abbrev pub invariant-loop-i : goal.invariant-loop-i
 invariant-loop-i l = record {
   few : length l.names ≤ l.i;
-  numbered : l.numbers ≡ numbered_from 0 l.names;
+  numbered : l.numbers.value ≡ numbered_from 0 l.names;
   named : fold name_also l.names (map (λ declared. declared.name) (drop l.i l.files.domain.now.predicates)) ≡ fold name_also [] (map (λ declared. declared.name) l.files.domain.now.predicates);
 }
