@@ -1,5 +1,5 @@
 -- Tests that items pass place by place, with one more.
-use Rattle.std.proofs.Common.{◌≡◌, ℕ, ◌+◌, ◌&&◌, Bool, true, false, List, [], ◌∷◌, ◌++◌, Some, map, take, slice_get, sym, ap, ◌∙◌, subst, Result, Ok, Err, IfOk, OnOk}
+use Rattle.std.proofs.Common.{◌≡◌, ℕ, ◌+◌, ◌&&◌, Bool, true, false, List, [], ◌∷◌, ◌++◌, Some, map, take, slice_get, sym, ap, ◌∙◌, subst, Result, Ok, Err, IfOk, OnOk, IsOkAnd, MatchResult}
 use Rattle.std.specs.List.{AllZip}
 use Rattle.std.proofs.lemmas.List.{map-append}
 use Rattle.fond_text.specs.Lists.{each_passes}
@@ -41,3 +41,16 @@ if_ok P Q (Err e) so holds = tt
 pub on_ok : {A : Type 0} {E : Type 0} {P Q : Type 0} (result : Result A E) → (P → Q) → OnOk result P → OnOk result Q
 on_ok (Ok a) so holds = so holds
 on_ok (Err e) so holds = tt
+
+-- what holds of a value holds in its own way of what is made from it
+pub if_made : {A : Type 0} {B : Type 0} {E : Type 0} (P : A → Type 0) (Q : B → Type 0) (Made : A → B → Type 0) (one : Result A E) (made : Result B E) →
+    MatchResult one (λ a. IsOkAnd made (Made a)) (λ e. made ≡ Err e) → ((a : A) (b : B) → P a → Made a b → Q b) → IfOk one P → IfOk made Q
+if_made P Q Made (Ok a) (Ok b) is so holds = so a b holds is
+if_made P Q Made (Ok a) (Err e) is so holds = tt
+if_made P Q Made (Err e) (Ok b) is so holds = absurd (cc)
+if_made P Q Made (Err e) (Err other) is so holds = tt
+
+-- two facts of a value are one
+pub if_both : {A : Type 0} {E : Type 0} (P Q : A → Type 0) (result : Result A E) → IfOk result P → IfOk result Q → IfOk result (λ a. P a × Q a)
+if_both P Q (Ok a) p q = (p, q)
+if_both P Q (Err e) p q = tt

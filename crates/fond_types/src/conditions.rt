@@ -34,16 +34,18 @@ pub(crate) fn numbered_condition(
 {
     match condition {
         Cond::Truth => Ok(LCond::Truth),
-        Cond::Holds(atom) => Ok(LCond::Holds(numbered_atom(alloc, context, around, atom)?)),
+        Cond::Holds(atom) => numbered_atom(alloc, context, around, atom).map(LCond::Holds),
         Cond::Equal(term, other) => Ok(LCond::Equal(
             numbered_term(context, around, term),
             numbered_term(context, around, other),
         )),
-        Cond::And(parts) => Ok(LCond::And(numbered_conditions(
-            alloc, context, kept, parts, around,
-        )?)),
-        Cond::Or(parts) => Ok(LCond::Or(numbered_conditions(alloc, context, kept, parts, around)?)),
-        Cond::Not(part) => Ok(LCond::Not(numbered_boxed(alloc, context, kept, part, around)?)),
+        Cond::And(parts) => {
+            numbered_conditions(alloc, context, kept, parts, around).map(LCond::And)
+        }
+        Cond::Or(parts) => {
+            numbered_conditions(alloc, context, kept, parts, around).map(LCond::Or)
+        }
+        Cond::Not(part) => numbered_boxed(alloc, context, kept, part, around).map(LCond::Not),
         Cond::Imply(part, other) => {
             let part = numbered_boxed(alloc, context, kept, part, around)?;
             let other = numbered_boxed(alloc, context, kept, other, around)?;

@@ -34,14 +34,14 @@ pub(crate) fn numbered_effect(
 {
     match effect {
         Effect::Nothing => Ok(LEffect::Nothing),
-        Effect::Add(atom) => Ok(LEffect::Add(numbered_atom(alloc, context, around, atom)?)),
-        Effect::Delete(atom) => Ok(LEffect::Delete(numbered_atom(alloc, context, around, atom)?)),
-        Effect::And(parts) => Ok(LEffect::And(numbered_effects(
-            alloc, context, kept, parts, around,
-        )?)),
-        Effect::OneOf(parts) => Ok(LEffect::OneOf(numbered_effects(
-            alloc, context, kept, parts, around,
-        )?)),
+        Effect::Add(atom) => numbered_atom(alloc, context, around, atom).map(LEffect::Add),
+        Effect::Delete(atom) => numbered_atom(alloc, context, around, atom).map(LEffect::Delete),
+        Effect::And(parts) => {
+            numbered_effects(alloc, context, kept, parts, around).map(LEffect::And)
+        }
+        Effect::OneOf(parts) => {
+            numbered_effects(alloc, context, kept, parts, around).map(LEffect::OneOf)
+        }
         Effect::Forall(names, part) => {
             let (ranges, part) = numbered_part(alloc, context, kept, names, part, around)?;
             Ok(LEffect::Forall(ranges, part))

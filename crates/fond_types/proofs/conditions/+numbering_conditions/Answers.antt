@@ -4,6 +4,7 @@ use Rattle.std.proofs.lemmas.List.{take_all}
 use Rattle.std.proofs.lemmas.List.Folds.{list_all-map}
 use Rattle.fond_ast.specs.Read.{condition_variables}
 use Rattle.fond_ast.specs.Within.{is_condition_within}
+use Rattle.fond_ast.specs.declared.form.LCond.{LCond, out-LCond}
 use Rattle.fond_ast.specs.declared.form.LCond.TheOpen as open_condition
 use Rattle.fond_ast.specs.declared.form.LCond.TheVariants as made_condition
 use Rattle.fond_ast.specs.declared.names.TypedName.{TypedName}
@@ -15,15 +16,15 @@ use Rattle.fond_text.specs.Lists.{each_passes}
 use Rattle.fond_types.specs.Meanings.{meanings, ranges_around}
 use Rattle.fond_names.specs.Names.{objects_declared}
 use Rattle.fond_types.specs.Bodies.{AreSoundConditions, IsNumberedCondition, IsSoundCondition}
-use Rattle.fond_types.specs.Numbered.{is_condition_in}
-use Rattle.fond_types.specs.Resolves.{are_ranges, is_condition}
+use Rattle.fond_types.specs.Numbered.{is_condition_in, is_term_in}
+use Rattle.fond_types.specs.Resolves.{are_ranges, is_condition, is_term}
 use Rattle.fond_names.specs.Sites.{AList, AnAtom, AnEquality, Scope, condition_sites, variables_of}
 use Rattle.fond_text.specs.declared.code.TheConstants.{LONGEST_TEXT}
 use Rattle.fond_types.specs.Sound.{are_sound, is_known}
 use Rattle.fond_names.proofs.Members.{and_both, and_parts}
 use Rattle.fond_types.proofs.BodyLemmas.{condition_read_by}
 use Rattle.fond_types.proofs.FormLemmas.{few_inside, sound_after, sound_both, sound_form, typed_inside}
-use Rattle.fond_types.proofs.Passing.{passes_next, if_ok}
+use Rattle.fond_types.proofs.Passing.{passes_next, if_both, if_ok, if_made}
 use Rattle.fond_types.proofs.WithinLemmas.{condition_within_by, quantifier_within, sound_parts, map-map, next_read, rest_passes, all_more, sum_here}
 use Rattle.fond_types.proofs.conditions.+numbering_conditions.Goals as goal
 
@@ -58,6 +59,101 @@ numbered_condition-returns-in_ok-ranges-in-Exists-clause-numbered t c =
       within = condition_within_by (length (objects_declared all.files)) all.predicates _ (open_condition.Exists ranges part) (made_condition.outs-Exists ranges part) (ranges_around (meanings all.files).range c.args.around.now)
           ∙ quantifier_within all.files c.args.around.now names ranges (is_condition_within (length (objects_declared all.files)) all.predicates part.value) made.ranges made.numbered.within;
     }
+
+pub numbered_condition-returns-in-Holds-clause-numbered : goal.numbered_condition-returns-in-Holds-clause-numbered
+numbered_condition-returns-in-Holds-clause-numbered t c =
+    let all = c.args.context.now in
+    let around = c.args.around.now in
+    let written = c.in-Holds.atom in
+    if_made _ _ _ c.numbered_atom.result c.map.result c.map.ensures.cases
+    (λ atom number are is.
+    let form : out-LCond number ≡ open_condition.Holds atom = ap (λ (one : LCond). out-LCond one) is ∙ made_condition.outs-Holds atom in
+    record {
+      resolved = condition_read_by (meanings all.files) around c.args.condition.now (open_written.Holds written) number (open_condition.Holds atom) (ap out-Cond c.in-Holds.is ∙ made_written.outs-Holds written) form ∙ are.0;
+      within = condition_within_by (length (objects_declared all.files)) all.predicates number (open_condition.Holds atom) form (ranges_around (meanings all.files).range around) ∙ are.1;
+    })
+    (if_both _ _ _ c.numbered_atom.ensures.resolved c.numbered_atom.ensures.within)
+
+pub numbered_condition-returns-in-Equal-clause-numbered : goal.numbered_condition-returns-in-Equal-clause-numbered
+numbered_condition-returns-in-Equal-clause-numbered t c =
+    let all = c.args.context.now in
+    let around = c.args.around.now in
+    let term = c.in-Equal.term in
+    let other = c.in-Equal.other in
+    let number = c.numbered_term.result in
+    let next = c.numbered_term-in-Equal.result in
+    let form = made_condition.outs-Equal number next in
+    record {
+      resolved = condition_read_by (meanings all.files) around c.args.condition.now (open_written.Equal term other) _ (open_condition.Equal number next) (ap out-Cond c.in-Equal.is ∙ made_written.outs-Equal term other) form
+          ∙ and_both (is_term (meanings all.files) around term number) _ c.numbered_term.ensures.resolved c.numbered_term-in-Equal.ensures.resolved;
+      within = condition_within_by (length (objects_declared all.files)) all.predicates _ (open_condition.Equal number next) form (ranges_around (meanings all.files).range around)
+          ∙ and_both (is_term_in all.files around number) _ c.numbered_term.ensures.within c.numbered_term-in-Equal.ensures.within;
+    }
+
+pub numbered_condition-returns-in-Not-clause-numbered : goal.numbered_condition-returns-in-Not-clause-numbered
+numbered_condition-returns-in-Not-clause-numbered t c =
+    let all = c.args.context.now in
+    let around = c.args.around.now in
+    let written = c.in-Not.part in
+    if_made _ _ _ c.numbered_boxed.result c.map-in-Not.result c.map-in-Not.ensures.cases
+    (λ part number are is.
+    let form : out-LCond number ≡ open_condition.Not part = ap (λ (one : LCond). out-LCond one) is ∙ made_condition.outs-Not part in
+    record {
+      resolved = condition_read_by (meanings all.files) around c.args.condition.now (open_written.Not written) number (open_condition.Not part) (ap out-Cond c.in-Not.is ∙ made_written.outs-Not written) form
+          ∙ ap (λ (one : Cond). is_condition (meanings all.files) one around part.value) (sym c.deref-in-Not.ensures) ∙ are.resolved;
+      within = condition_within_by (length (objects_declared all.files)) all.predicates number (open_condition.Not part) form (ranges_around (meanings all.files).range around) ∙ are.within;
+    })
+    c.numbered_boxed.ensures.numbered
+
+pub numbered_condition-returns-in_ok-other-in-Imply-clause-numbered : goal.numbered_condition-returns-in_ok-other-in-Imply-clause-numbered
+numbered_condition-returns-in_ok-other-in-Imply-clause-numbered t c =
+    let all = c.args.context.now in
+    let around = c.args.around.now in
+    let written = c.in-Imply.part in
+    let written_other = c.in-Imply.other in
+    let part = c.in_ok-part-in-Imply.part in
+    let other = c.in_ok-other-in-Imply.other in
+    let made = c.in_ok-part-in-Imply.ensures.numbered in
+    let made_other = c.in_ok-other-in-Imply.ensures.numbered in
+    let form = made_condition.outs-Imply part other in
+    record {
+      resolved = condition_read_by (meanings all.files) around c.args.condition.now (open_written.Imply written written_other) _ (open_condition.Imply part other) (ap out-Cond c.in-Imply.is ∙ made_written.outs-Imply written written_other) form
+          ∙ and_both (is_condition (meanings all.files) written.value around part.value) _
+          (ap (λ (one : Cond). is_condition (meanings all.files) one around part.value) (sym c.deref-in-Imply.ensures) ∙ made.resolved)
+          (ap (λ (one : Cond). is_condition (meanings all.files) one around other.value) (sym c.deref-in-Imply-2.ensures) ∙ made_other.resolved);
+      within = condition_within_by (length (objects_declared all.files)) all.predicates _ (open_condition.Imply part other) form (ranges_around (meanings all.files).range around)
+          ∙ and_both (is_condition_within (length (objects_declared all.files)) all.predicates part.value (ranges_around (meanings all.files).range around)) _ made.within made_other.within;
+    }
+
+pub numbered_condition-returns-in-And-clause-numbered : goal.numbered_condition-returns-in-And-clause-numbered
+numbered_condition-returns-in-And-clause-numbered t c =
+    let all = c.args.context.now in
+    let around = c.args.around.now in
+    let written = c.in-And.parts in
+    if_made _ _ _ c.numbered_conditions.result c.map-in-And.result c.map-in-And.ensures.cases
+    (λ parts number are is.
+    let form : out-LCond number ≡ open_condition.And parts = ap (λ (one : LCond). out-LCond one) is ∙ made_condition.outs-And parts in
+    record {
+      resolved = condition_read_by (meanings all.files) around c.args.condition.now (open_written.And written) number (open_condition.And parts) (ap out-Cond c.in-And.is ∙ made_written.outs-And written) form
+          ∙ ap (λ (some : List Cond). each_passes (map (λ part. part around) (map (is_condition (meanings all.files)) some)) parts.items) (sym c.deref.ensures.value) ∙ are.resolved;
+      within = condition_within_by (length (objects_declared all.files)) all.predicates number (open_condition.And parts) form (ranges_around (meanings all.files).range around) ∙ are.within;
+    })
+    c.numbered_conditions.ensures.numbered
+
+pub numbered_condition-returns-in-Or-clause-numbered : goal.numbered_condition-returns-in-Or-clause-numbered
+numbered_condition-returns-in-Or-clause-numbered t c =
+    let all = c.args.context.now in
+    let around = c.args.around.now in
+    let written = c.in-Or.parts in
+    if_made _ _ _ c.numbered_conditions-in-Or.result c.map-in-Or.result c.map-in-Or.ensures.cases
+    (λ parts number are is.
+    let form : out-LCond number ≡ open_condition.Or parts = ap (λ (one : LCond). out-LCond one) is ∙ made_condition.outs-Or parts in
+    record {
+      resolved = condition_read_by (meanings all.files) around c.args.condition.now (open_written.Or written) number (open_condition.Or parts) (ap out-Cond c.in-Or.is ∙ made_written.outs-Or written) form
+          ∙ ap (λ (some : List Cond). each_passes (map (λ part. part around) (map (is_condition (meanings all.files)) some)) parts.items) (sym c.deref-in-Or.ensures.value) ∙ are.resolved;
+      within = condition_within_by (length (objects_declared all.files)) all.predicates number (open_condition.Or parts) form (ranges_around (meanings all.files).range around) ∙ are.within;
+    })
+    c.numbered_conditions-in-Or.ensures.numbered
 
 pub put_conditions-loop-condition-init : goal.put_conditions-loop-condition-init
 put_conditions-loop-condition-init t c =

@@ -1,9 +1,10 @@
 use Rattle.std.proofs.Common.{rules, ◌≡◌, ◌≤◌, ◌+◌, ◌==◌, not, ◌∷◌, [], Bool, List, ℕ, length, map, take, sym, ap, ◌∙◌, subst, arith, length-append}
 use Rattle.std.specs.List.{list_all}
-use Rattle.std.proofs.lemmas.List.{take_all}
+use Rattle.std.proofs.lemmas.List.{take_all, length-map}
 use Rattle.std.proofs.lemmas.List.Folds.{list_all-map}
 use Rattle.fond_ast.specs.Read.{condition_variables, effect_variables, has_choices}
-use Rattle.fond_ast.specs.Within.{is_effect_fluent, is_effect_within}
+use Rattle.fond_ast.specs.Within.{is_condition_within, is_effect_fluent, is_effect_within}
+use Rattle.fond_ast.specs.declared.form.LEffect.{LEffect, out-LEffect}
 use Rattle.fond_ast.specs.declared.form.LEffect.TheOpen as open_effect
 use Rattle.fond_ast.specs.declared.form.LEffect.TheVariants as made_effect
 use Rattle.fond_ast.specs.declared.names.TypedName.{TypedName}
@@ -16,14 +17,14 @@ use Rattle.fond_types.specs.Meanings.{meanings, ranges_around}
 use Rattle.fond_names.specs.Names.{objects_declared}
 use Rattle.fond_types.specs.Bodies.{AreSoundEffects, IsNumberedEffect, IsSoundEffect}
 use Rattle.fond_types.specs.Numbered.{is_effect_in}
-use Rattle.fond_types.specs.Resolves.{are_ranges, is_effect}
+use Rattle.fond_types.specs.Resolves.{are_ranges, is_condition, is_effect}
 use Rattle.fond_names.specs.Sites.{AList, AnAtom, Scope, condition_sites, effect_sites, variables_of}
 use Rattle.fond_text.specs.declared.code.TheConstants.{LONGEST_TEXT}
 use Rattle.fond_types.specs.Sound.{are_sound, is_mentioned, literals_pass}
 use Rattle.fond_names.proofs.Members.{and_both, and_parts}
 use Rattle.fond_types.proofs.BodyLemmas.{effect_read_by, fluent_by}
 use Rattle.fond_types.proofs.FormLemmas.{few_inside, sound_after, sound_both, sound_effect_form, typed_inside}
-use Rattle.fond_types.proofs.Passing.{passes_next, if_ok}
+use Rattle.fond_types.proofs.Passing.{passes_next, if_both, if_ok, if_made}
 use Rattle.fond_types.proofs.WithinLemmas.{effect_within_by, quantifier_within, sound_parts, map-map, next_read, rest_passes, all_more, sum_here}
 use Rattle.fond_types.proofs.effects.+numbering_effects.Goals as goal
 
@@ -43,6 +44,97 @@ numbered_effect-returns-in_ok-ranges-in-Forall-clause-numbered t c =
           ∙ quantifier_within all.files c.args.around.now names ranges (is_effect_within (length (objects_declared all.files)) all.predicates part.value) made.ranges made.numbered.within;
       fluent = fluent_by all.predicates _ (open_effect.Forall ranges part) (made_effect.outs-Forall ranges part) ∙ made.numbered.fluent;
     }
+
+pub numbered_effect-returns-in-Add-clause-numbered : goal.numbered_effect-returns-in-Add-clause-numbered
+numbered_effect-returns-in-Add-clause-numbered t c =
+    let all = c.args.context.now in
+    let around = c.args.around.now in
+    let written = c.in-Add.atom in
+    let form = sound_effect_form all.files around c.args.effect.now (open_written.Add written) (ap out-Effect c.in-Add.is ∙ made_written.outs-Add written) c.requires.sound in
+    let made = c.numbered_atom.ensures in
+    if_made _ _ _ c.numbered_atom.result c.map.result c.map.ensures.cases
+    (λ atom number are is.
+    let out : out-LEffect number ≡ open_effect.Add atom = ap (λ (one : LEffect). out-LEffect one) is ∙ made_effect.outs-Add atom in
+    record {
+      resolved = effect_read_by (meanings all.files) around c.args.effect.now (open_written.Add written) number (open_effect.Add atom) (ap out-Effect c.in-Add.is ∙ made_written.outs-Add written) out ∙ are.0.0;
+      within = effect_within_by (length (objects_declared all.files)) all.predicates number (open_effect.Add atom) out (ranges_around (meanings all.files).range around) ∙ are.0.1;
+      fluent = fluent_by all.predicates number (open_effect.Add atom) out ∙ are.1 ∙ form.literals;
+    })
+    (if_both _ _ _ (if_both _ _ _ made.resolved made.within) made.fluent)
+
+pub numbered_effect-returns-in-Delete-clause-numbered : goal.numbered_effect-returns-in-Delete-clause-numbered
+numbered_effect-returns-in-Delete-clause-numbered t c =
+    let all = c.args.context.now in
+    let around = c.args.around.now in
+    let written = c.in-Delete.atom in
+    let form = sound_effect_form all.files around c.args.effect.now (open_written.Delete written) (ap out-Effect c.in-Delete.is ∙ made_written.outs-Delete written) c.requires.sound in
+    let made = c.numbered_atom-in-Delete.ensures in
+    if_made _ _ _ c.numbered_atom-in-Delete.result c.map-in-Delete.result c.map-in-Delete.ensures.cases
+    (λ atom number are is.
+    let out : out-LEffect number ≡ open_effect.Delete atom = ap (λ (one : LEffect). out-LEffect one) is ∙ made_effect.outs-Delete atom in
+    record {
+      resolved = effect_read_by (meanings all.files) around c.args.effect.now (open_written.Delete written) number (open_effect.Delete atom) (ap out-Effect c.in-Delete.is ∙ made_written.outs-Delete written) out ∙ are.0.0;
+      within = effect_within_by (length (objects_declared all.files)) all.predicates number (open_effect.Delete atom) out (ranges_around (meanings all.files).range around) ∙ are.0.1;
+      fluent = fluent_by all.predicates number (open_effect.Delete atom) out ∙ are.1 ∙ form.literals;
+    })
+    (if_both _ _ _ (if_both _ _ _ made.resolved made.within) made.fluent)
+
+pub numbered_effect-returns-in_ok-numbered_condition-in-When-clause-numbered : goal.numbered_effect-returns-in_ok-numbered_condition-in-When-clause-numbered
+numbered_effect-returns-in_ok-numbered_condition-in-When-clause-numbered t c =
+    let all = c.args.context.now in
+    let around = c.args.around.now in
+    let condition = c.in-When.condition in
+    let written = c.in-When.part in
+    let part = c.in_ok-part-in-When.part in
+    let pre = c.in_ok-numbered_condition-in-When.field-0 in
+    let made = c.in_ok-part-in-When.ensures.numbered in
+    let pre_made = c.in_ok-numbered_condition-in-When.ensures.numbered in
+    let out = made_effect.outs-When pre part in
+    record {
+      resolved = effect_read_by (meanings all.files) around c.args.effect.now (open_written.When condition written) _ (open_effect.When pre part) (ap out-Effect c.in-When.is ∙ made_written.outs-When condition written) out
+          ∙ and_both (is_condition (meanings all.files) condition around pre) _ pre_made.resolved
+          (ap (λ (one : Effect). is_effect (meanings all.files) one around part.value) (sym c.deref-in-When.ensures) ∙ made.resolved);
+      within = effect_within_by (length (objects_declared all.files)) all.predicates _ (open_effect.When pre part) out (ranges_around (meanings all.files).range around)
+          ∙ and_both (is_condition_within (length (objects_declared all.files)) all.predicates pre (ranges_around (meanings all.files).range around)) _ pre_made.within made.within;
+      fluent = fluent_by all.predicates _ (open_effect.When pre part) out ∙ made.fluent;
+    }
+
+pub numbered_effect-returns-in-And-clause-numbered : goal.numbered_effect-returns-in-And-clause-numbered
+numbered_effect-returns-in-And-clause-numbered t c =
+    let all = c.args.context.now in
+    let around = c.args.around.now in
+    let written = c.in-And.parts in
+    let within = is_effect_within (length (objects_declared all.files)) all.predicates in
+    if_made _ _ _ c.numbered_effects.result c.map-in-And.result c.map-in-And.ensures.cases
+    (λ parts number are is.
+    let out : out-LEffect number ≡ open_effect.And parts = ap (λ (one : LEffect). out-LEffect one) is ∙ made_effect.outs-And parts in
+    record {
+      resolved = effect_read_by (meanings all.files) around c.args.effect.now (open_written.And written) number (open_effect.And parts) (ap out-Effect c.in-And.is ∙ made_written.outs-And written) out
+          ∙ ap (λ (some : List Effect). each_passes (map (λ part. part around) (map (is_effect (meanings all.files)) some)) parts.items) (sym c.deref.ensures.value) ∙ are.resolved;
+      within = effect_within_by (length (objects_declared all.files)) all.predicates number (open_effect.And parts) out (ranges_around (meanings all.files).range around) ∙ are.within;
+      fluent = fluent_by all.predicates number (open_effect.And parts) out ∙ are.fluent;
+    })
+    c.numbered_effects.ensures.numbered
+
+pub numbered_effect-returns-in-OneOf-clause-numbered : goal.numbered_effect-returns-in-OneOf-clause-numbered
+numbered_effect-returns-in-OneOf-clause-numbered t c =
+    let all = c.args.context.now in
+    let around = c.args.around.now in
+    let written = c.in-OneOf.parts in
+    let within = is_effect_within (length (objects_declared all.files)) all.predicates in
+    let form = sound_effect_form all.files around c.args.effect.now (open_written.OneOf written) (ap out-Effect c.in-OneOf.is ∙ made_written.outs-OneOf written) c.requires.sound in
+    let some = (and_parts (not (length (map has_choices written.items) == 0)) (list_all (λ (part : Bool). part) (map has_choices written.items)) form.choices).0 in
+    if_made _ _ _ c.numbered_effects-in-OneOf.result c.map-in-OneOf.result c.map-in-OneOf.ensures.cases
+    (λ parts number are is.
+    let out : out-LEffect number ≡ open_effect.OneOf parts = ap (λ (one : LEffect). out-LEffect one) is ∙ made_effect.outs-OneOf parts in
+    record {
+      resolved = effect_read_by (meanings all.files) around c.args.effect.now (open_written.OneOf written) number (open_effect.OneOf parts) (ap out-Effect c.in-OneOf.is ∙ made_written.outs-OneOf written) out
+          ∙ ap (λ (some : List Effect). each_passes (map (λ part. part around) (map (is_effect (meanings all.files)) some)) parts.items) (sym c.deref-in-OneOf.ensures.value) ∙ are.resolved;
+      within = effect_within_by (length (objects_declared all.files)) all.predicates number (open_effect.OneOf parts) out (ranges_around (meanings all.files).range around) ∙ and_both (not (length (map within parts.items) == 0)) _
+          (ap (λ n. not (n == 0)) (length-map parts.items within ∙ are.counted ∙ ap length c.deref-in-OneOf.ensures.value ∙ sym (length-map written.items has_choices)) ∙ some) are.within;
+      fluent = fluent_by all.predicates number (open_effect.OneOf parts) out ∙ are.fluent;
+    })
+    c.numbered_effects-in-OneOf.ensures.numbered
 
 pub put_effects-loop-effect-init : goal.put_effects-loop-effect-init
 put_effects-loop-effect-init t c =
