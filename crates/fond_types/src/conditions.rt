@@ -64,7 +64,7 @@ pub(crate) fn numbered_condition(
 
 /// A sound condition over numbers, in a box.
 #[cycle(numbering_conditions)]
-fn numbered_boxed(
+pub(crate) fn numbered_boxed(
     alloc: Global,
     context: &Context,
     kept: &mut KeptRanges,

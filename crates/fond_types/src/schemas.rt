@@ -10,7 +10,7 @@ ghost use Rattle.fond_types.specs.Patterns.{are_filed, are_patterns_of};
 ghost use Rattle.fond_types.specs.Sound.{are_sound};
 ghost use Rattle.std.specs.Prelude.{◌≡◌, ◌∷◌, ◌+◌, IfOk, OnOk, true};
 
-use crate::conditions::numbered_condition;
+use crate::conditions::numbered_boxed;
 use crate::context::Context;
 use crate::effects::numbered_effect;
 use crate::kept::KeptRanges;
@@ -31,16 +31,16 @@ fn body_inside(
     kept: &mut KeptRanges,
     schema: &Schema,
     parameters: &Variables,
-) -> Result<(LCond, LEffect), NoMemory>
+) -> Result<(Box<LCond>, LEffect), NoMemory>
     requires named { parameters.now ≡ schema.now.parameters }
     requires sound { IsSoundSchema context.now.files schema.now }
     requires kept { are_kept context.now.files kept.old.entries.items ≡ true }
-    ensures numbered { IfOk result (λ body. IsNumberedBody context.now schema.now body.0 body.1) }
+    ensures numbered { IfOk result (λ body. IsNumberedBody context.now schema.now body.0.value body.1) }
     ensures kept { OnOk result (are_kept context.now.files kept.new.entries.items ≡ true) }
 {
     let outside = outside();
     let within = inside(&*parameters, &outside);
-    let pre = numbered_condition(alloc, context, kept, &schema.pre, &within)?;
+    let pre = numbered_boxed(alloc, context, kept, &schema.pre, &within)?;
     let effect = numbered_effect(alloc, context, kept, &schema.effect, &within)?;
     Ok((pre, effect))
 }
@@ -51,10 +51,10 @@ fn numbered_body(
     context: &Context,
     kept: &mut KeptRanges,
     schema: &Schema,
-) -> Result<(LCond, LEffect), NoMemory>
+) -> Result<(Box<LCond>, LEffect), NoMemory>
     requires sound { IsSoundSchema context.now.files schema.now }
     requires kept { are_kept context.now.files kept.old.entries.items ≡ true }
-    ensures numbered { IfOk result (λ body. IsNumberedBody context.now schema.now body.0 body.1) }
+    ensures numbered { IfOk result (λ body. IsNumberedBody context.now schema.now body.0.value body.1) }
     ensures kept { OnOk result (are_kept context.now.files kept.new.entries.items ≡ true) }
 {
     let parameters = Variables::of(alloc, &schema.parameters)?;
@@ -85,7 +85,7 @@ fn numbered_schema(
         place: schema.place,
         name,
         ranges,
-        pre,
+        pre: Box::into_inner(pre),
         effect,
         unfair,
         patterns,

@@ -4,8 +4,8 @@ use Rattle.fond_types.specs.Bodies.{IsNumberedCondition, IsNumberedEffect, IsSou
 use Rattle.fond_types.proofs.BodyLemmas.{sound_body}
 use Rattle.fond_types.proofs.schemas.body_inside.Goals as goal
 
-pub numbered_condition-requires-clause-sound : goal.numbered_condition-requires-clause-sound
-numbered_condition-requires-clause-sound c =
+pub numbered_boxed-requires-clause-sound : goal.numbered_boxed-requires-clause-sound
+numbered_boxed-requires-clause-sound c =
     let files = c.args.context.now.files in
     let schema = c.args.schema.now in
     let lists : c.inside-within.result ≡ schema.parameters ∷ [] = c.inside-within.ensures ∙ (λ i. c.requires.named i ∷ c.outside-outside.ensures i) in
@@ -24,6 +24,6 @@ returns-clause-numbered c =
     let schema = c.args.schema.now in
     let lists : c.inside-within.result ≡ schema.parameters ∷ [] = c.inside-within.ensures ∙ (λ i. c.requires.named i ∷ c.outside-outside.ensures i) in
     record {
-      pre_is = subst (λ (around : Scope). IsNumberedCondition all around schema.pre c.in_ok-pre.pre) lists c.in_ok-pre.ensures.numbered;
+      pre_is = subst (λ (around : Scope). IsNumberedCondition all around schema.pre c.in_ok-pre.pre.value) lists c.in_ok-pre.ensures.numbered;
       effect_is = subst (λ (around : Scope). IsNumberedEffect all around schema.effect c.in_ok-effect.effect) lists c.in_ok-effect.ensures.numbered;
     }
