@@ -17,15 +17,6 @@ use fond_task::task_index::TaskIndex;
 use fond_text::fault::NoMemory;
 use std::alloc::Global;
 
-/// The draft, with an index of all its rules.
-fn indexed(draft: Draft) -> Result<Draft, NoMemory>
-    ensures { IfOk result (λ indexed. indexed ≡ draft) }
-{
-    let mut indexed = draft;
-    indexed.rules.index()?;
-    Ok(indexed)
-}
-
 /// The certificate of a draft.
 fn finish(draft: Draft) -> Cert
     ensures { result ≡ cert_of draft }
@@ -60,7 +51,7 @@ fn read_with(alloc: Global, index: &TaskIndex, text: &[u8]) -> Result<Cert, Cert
     ensures refused { IfErr result (CertRefuses (IsCertFault index.now text.now)) }
 {
     let draft = read_lines(alloc, index, text)?;
-    Ok(finish(indexed(draft)?))
+    Ok(finish(draft))
 }
 
 /// The certificate that a text spells, or the text's first fault (docs/CERTIFICATES.md). Takes time linear in the length

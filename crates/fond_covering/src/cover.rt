@@ -34,7 +34,7 @@ fn widened(alloc: Global, t: &Task, rules: &Rules, covering: Covering) -> Result
 
 /// The cover of these items from the first one, made lean, if they pass their test: they are sure, and the initial state lies in
 /// the first one. None exactly if they do not. Neither need the rules be sure, nor need one hold in each state that they reach. Takes
-/// time in the number of items times that of the rules; `Rules::index` makes that fast.
+/// time in the number of items times that of the rules; the index of the rules makes that fast.
 pub fn take_items(
     alloc: Global,
     t: &Task,
@@ -95,7 +95,7 @@ fn cover_rules(alloc: Global, t: &Task, pairs: &Pairs, rules: &Rules) -> Result<
     }
 }
 
-/// The certificate with a cover in place of the reach number. Takes the time of `cover_rules`, and indexes the rules.
+/// The certificate with a cover in place of the reach number. Takes the time of `cover_rules`.
 pub fn cover(alloc: Global, t: &Task, cert: Cert) -> Result<Cert, NoMemory>
     requires { MayBeCovered t.now cert }
     ensures { IfOk result (IsCoverOf t.now cert) }
@@ -103,13 +103,12 @@ pub fn cover(alloc: Global, t: &Task, cert: Cert) -> Result<Cert, NoMemory>
     let Cert::Policy {
         layers,
         pairs,
-        mut rules,
+        rules,
         ..
     } = cert
     else {
         unreachable!()
     };
-    rules.index()?;
     let Covering { items, start } = cover_rules(alloc, t, &pairs, &rules)?;
     Ok(Cert::Covered {
         layers,

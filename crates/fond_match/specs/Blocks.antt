@@ -1,5 +1,5 @@
 -- Indexes of cubes that grow.
-use Rattle.std.specs.Prelude.{◌≡◌, ℕ, ◌+◌, ◌-◌, ◌*◌, ◌^◌, ◌<◌, ◌≤◌, ⊤, List, [], ◌∷◌, Option, Bool, drop, length, take}
+use Rattle.std.specs.Prelude.{◌≡◌, ℕ, ◌+◌, ◌-◌, ◌*◌, ◌^◌, ◌<◌, ◌≤◌, ⊤, List, [], ◌∷◌, Option, Bool, drop, length}
 use Rattle.fond_match.specs.declared.index.Index.{Index}
 use Rattle.fond_match.specs.declared.matcher.Matcher.{Matcher}
 use Rattle.fond_match.specs.Matchers.{IsMatcherOf}
@@ -26,10 +26,6 @@ IsIndexOf cubes index = (index.count ≡ covered index.blocks.items) × AreBlock
 -- of this many cubes, fewer than 32 are in no block of an index
 abbrev pub LeavesFew : ℕ → Index → Type 0
 LeavesFew count index = count < covered index.blocks.items + 32
-
--- of this many cubes, fewer than 32 are outside the first block of an index
-abbrev pub IsPacked : ℕ → Index → Type 0
-IsPacked count index = count < covered (take 1 index.blocks.items) + 32
 
 -- an index of this many cubes has at most as many blocks as the binary logarithm of one more than the number of cubes
 abbrev pub HasFewBlocks : ℕ → Index → Type 0

@@ -2,7 +2,7 @@
 //! blocks after it have together. So there are few blocks, and an item is indexed about as many times as the logarithm of the
 //! number of items (Bentley and Saxe, Decomposable searching problems I, 1980).
 
-ghost use Rattle.fond_match.specs.Blocks.{AreBlocksOf, AreHeavy, HasFewBlocks, IsIndexOf, IsPacked, LeavesFew, covered};
+ghost use Rattle.fond_match.specs.Blocks.{AreBlocksOf, AreHeavy, HasFewBlocks, IsIndexOf, LeavesFew, covered};
 ghost use Rattle.std.specs.Prelude.{◌≡◌, ◌<◌, ◌≤◌, ◌+◌, ◌^◌, List, Bool, Option, All, length, map, position, take, OnOk};
 
 use crate::matcher::{Matcher, first_of};
@@ -59,17 +59,6 @@ fn first_in<T: HasCube, Q: Query>(blocks: &[Matcher], items: &[T], query: &Q) ->
     Some(own.len() as u32 + number)
 }
 
-/// How many items the first block has, if there is one.
-fn first_count(blocks: &[Matcher]) -> usize
-    ensures first { result ≡ covered (take 1 blocks.now) }
-    ensures within { result ≤ covered blocks.now }
-{
-    match blocks.first() {
-        Some(block) => block.count as usize,
-        None => 0,
-    }
-}
-
 impl Index {
     /// An index of none of some cubes, whatever they are. It takes no memory.
     pub fn new(alloc: Global) -> Index
@@ -117,22 +106,6 @@ impl Index {
         }
         let (keep, from) = heavy(self.blocks.as_slice(), items.len());
         self.rebuild(items, keep, from)
-    }
-
-    /// Indexes all items in one block, unless all but a few of them are in the first block already. Searches are somewhat
-    /// faster then than over the blocks that `grow` leaves. Takes time in the number of items times that of the atoms.
-    pub fn pack<T: HasCube>(&mut self, items: &[T]) -> Result<(), NoMemory>
-        requires few { length items.now < 2 ^ 32 }
-        requires of { IsIndexOf (map T.cube items.now) self.old }
-        ensures of { IsIndexOf (map T.cube items.now) self.new }
-        ensures near { OnOk result (LeavesFew (length items.now) self.new) }
-        ensures packed { OnOk result (IsPacked (length items.now) self.new) }
-        ensures few { HasFewBlocks (length items.now) self.new }
-    {
-        if items.len().saturating_sub(first_count(&self.blocks)) < FEW {
-            return Ok(());
-        }
-        self.rebuild(items, 0, 0)
     }
 
     /// The number of the first item in whose cube the query lies, if there is one. The items are those of which the

@@ -107,17 +107,15 @@ fn cover_of(
 fn finished(
     alloc: Global,
     t: &Task,
-    draft: &mut Draft,
+    draft: &Draft,
     sketched: Option<Items>,
 ) -> Result<Option<Covering>, NoMemory>
-    requires { IsDraft t.now draft.old }
-    ensures draft { OnOk result (IsDraft t.now draft.new) }
-    ensures covered { IfOk result (λ found. IfSome found (λ covering. IsCovering t.now draft.new.rules covering.items covering.start)) }
+    requires { IsDraft t.now draft.now }
+    ensures { IfOk result (λ found. IfSome found (λ covering. IsCovering t.now draft.now.rules covering.items covering.start)) }
 {
     if !draft.fresh.is_empty() {
         return Ok(None);
     }
-    draft.rules.index()?;
     cover_of(alloc, t, draft, sketched)
 }
 
@@ -149,7 +147,7 @@ impl<S: Source> Planner<S> {
                 Round::Lost => return Ok(End::Refusal),
                 Round::Past => return Ok(End::Past),
             };
-            if let Some(covering) = finished(alloc, t, &mut self.draft, sketched)? {
+            if let Some(covering) = finished(alloc, t, &self.draft, sketched)? {
                 return Ok(End::Policy(covering));
             }
             self.begin_again(alloc, t)?;

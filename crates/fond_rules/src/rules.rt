@@ -68,14 +68,6 @@ impl Rules {
         }
     }
 
-    /// Indexes all rules at once. `select` is somewhat faster then than over the index that grows as rules are added. The
-    /// rules stay as they are, even if memory runs out. Takes time in the number of rules times that of atoms.
-    pub fn index(&mut self) -> Result<(), NoMemory>
-        ensures { self.new ≡ self.old }
-    {
-        self.index.pack(self.items.as_slice())
-    }
-
     /// Adds a rule at the end, which is not indexed yet.
     fn append(&mut self, rule: Rule) -> Result<(), NoMemory>
         requires { length self.old < 2 ^ 32 - 1 }

@@ -1,5 +1,4 @@
-use Rattle.std.proofs.Common.{sym, subst}
-use Rattle.fond_policy.specs.Parts.{AreSureRules}
+use Rattle.std.proofs.Common.{subst}
 use Rattle.fond_covering.specs.Coverings.{MayBeCovered}
 use Rattle.fond_covering.proofs.cover.cover.Goals as goal
 
@@ -7,4 +6,4 @@ pub cover_rules-requires-clause-sure : goal.cover_rules-requires-clause-sure
 cover_rules-requires-clause-sure c =
     let task = c.args.t.now in
     let right = subst (MayBeCovered task) c.in-Policy.is c.requires in
-    subst (AreSureRules task c.in-Policy.pairs) (sym c.in_ok-index.ensures) right.2.rules_sure
+    right.2.rules_sure
