@@ -2,7 +2,6 @@ use crate::coin::ground_coin;
 use fond_cert::print::print_cert;
 use fond_decide::decide::decide;
 use fond_planner::decide::Decision;
-use fond_policy::reach::reach_count;
 use fond_policy::walk::walk_states;
 use fond_rules::pairs::Pairs;
 use fond_rules::rules::Rules;
@@ -33,11 +32,9 @@ fn no_rules_reach_one_state_and_leave_it_open(rt: HostRuntime) -> Result<(), Fai
     let rules = Rules::new(alloc);
     let pairs = Pairs::new(alloc);
     if rules.belong_to(&coin) {
-        let (count, ruled) = reach_count(alloc, &coin, &pairs, &rules)?;
-        assert_eq!(rt; count, 1);
-        assert!(rt; !ruled);
-        let states = walk_states(alloc, &coin, &pairs, &rules)?;
+        let (states, ruled) = walk_states(alloc, &coin, &pairs, &rules)?;
         assert_eq!(rt; states.len(), 1);
+        assert!(rt; !ruled);
     } else {
         assert!(rt; false);
     }

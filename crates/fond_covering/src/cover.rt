@@ -3,7 +3,7 @@
 ghost use Rattle.fond_covering.specs.Coverings.{IsCovering, IsCoverOf, IsSureCovering, MayBeCovered};
 ghost use Rattle.fond_policy.specs.Belongs.{BelongAsRules};
 ghost use Rattle.fond_policy.specs.Parts.{AreSureRules};
-ghost use Rattle.fond_policy.specs.Walks.{HasAllRuled};
+ghost use Rattle.fond_policy.specs.Walks.{HasAllRuled, HasUnruled};
 ghost use Rattle.std.specs.Prelude.{◌≡◌, None, IfOk, IfSome};
 
 use crate::certify::passes;
@@ -52,21 +52,23 @@ pub fn take_items(
     Ok(Some(widened(alloc, t, rules, covering)?))
 }
 
-/// A lean cover of the states that sure rules reach, in each of which that is no goal a rule holds, by all these states. Takes time
-/// and memory for each of them; memory is said to have run out after 2^32 - 1.
+/// A lean cover of the states that sure rules reach, by all these states, or nothing if no rule holds in one of them that is no
+/// goal. Takes time and memory for each of them; memory is said to have run out after 2^32 - 1.
 pub fn cover_by_states(
     alloc: Global,
     t: &Task,
     pairs: &Pairs,
     rules: &Rules,
-) -> Result<Covering, NoMemory>
+) -> Result<Option<Covering>, NoMemory>
     requires belong { BelongAsRules t.now rules.now }
     requires sure { AreSureRules t.now pairs.now rules.now }
-    requires ruled { HasAllRuled t.now rules.now }
-    ensures { IfOk result (λ covering. IsCovering t.now rules.now covering.items covering.start) }
+    ensures found { IfOk result (λ found. IfSome found (λ covering. IsCovering t.now rules.now covering.items covering.start)) }
+    ensures none { IfOk result (λ found. found ≡ None → HasUnruled t.now rules.now) }
 {
-    let covering = full_covering(alloc, t, pairs, rules)?;
-    widened(alloc, t, rules, covering)
+    let Some(covering) = full_covering(alloc, t, pairs, rules)? else {
+        return Ok(None);
+    };
+    Ok(Some(widened(alloc, t, rules, covering)?))
 }
 
 /// The cover of the items that are proposed for the rules, if they pass their test.
@@ -89,9 +91,12 @@ fn cover_rules(alloc: Global, t: &Task, pairs: &Pairs, rules: &Rules) -> Result<
     requires ruled { HasAllRuled t.now rules.now }
     ensures { IfOk result (λ covering. IsCovering t.now rules.now covering.items covering.start) }
 {
-    match find_cover(alloc, t, rules)? {
+    if let Some(covering) = find_cover(alloc, t, rules)? {
+        return Ok(covering);
+    }
+    match cover_by_states(alloc, t, pairs, rules)? {
         Some(covering) => Ok(covering),
-        None => cover_by_states(alloc, t, pairs, rules),
+        None => unreachable!(),
     }
 }
 

@@ -4,11 +4,11 @@ ghost use Rattle.fond_covering.specs.Coverings.{IsSureCovering};
 ghost use Rattle.fond_covering.specs.Full.{AreFullItems, AreNextNumbers, IsFullItem, IsFullWay};
 ghost use Rattle.fond_game.specs.Policies.{IsNext};
 ghost use Rattle.fond_policy.specs.Parts.{AreSureRules};
-ghost use Rattle.fond_policy.specs.Walks.{HasAllRuled, IsClosed, IsRuled, IsWalk};
+ghost use Rattle.fond_policy.specs.Walks.{HasAllRuled, HasUnruled, IsClosed, IsRuled, IsWalk};
 ghost use Rattle.fond_rules.specs.Belongs.{BelongTo};
 ghost use Rattle.fond_task.specs.Truth.{is_true};
 ghost use Rattle.fond_task.specs.declared.task.Act.{Act};
-ghost use Rattle.std.specs.Prelude.{◌≡◌, ◌<◌, ◌^◌, List, Bool, true, Some, length, slice_get, Contains, IfOk};
+ghost use Rattle.std.specs.Prelude.{◌≡◌, ◌<◌, ◌^◌, List, Bool, true, Some, None, length, slice_get, Contains, IfOk, IfSome};
 
 use crate::covering::Covering;
 use fond_cover::item::{Item, ItemNumbers, Way};
@@ -141,21 +141,25 @@ fn full_items(
     Ok(items)
 }
 
-/// The cover whose items are the full cubes of the states that the rules reach, in the order of a walk. Takes time and memory
-/// in their number times that of the atoms; memory is said to have run out after 2^32 - 1 states.
+/// The cover whose items are the full cubes of the states that the rules reach, in the order of a walk, or nothing if no rule holds
+/// in one of them that is no goal. Takes time and memory in their number times that of the atoms; memory is said to have run out
+/// after 2^32 - 1 states.
 pub(crate) fn full_covering(
     alloc: Global,
     t: &Task,
     pairs: &Pairs,
     rules: &Rules,
-) -> Result<Covering, NoMemory>
+) -> Result<Option<Covering>, NoMemory>
     requires belong { BelongTo t.now rules.now }
     requires sure { AreSureRules t.now pairs.now rules.now }
-    requires ruled { HasAllRuled t.now rules.now }
-    ensures { IfOk result (λ covering. IsSureCovering t.now rules.now covering.items covering.start) }
+    ensures found { IfOk result (λ found. IfSome found (λ covering. IsSureCovering t.now rules.now covering.items covering.start)) }
+    ensures none { IfOk result (λ found. found ≡ None → HasUnruled t.now rules.now) }
 {
-    let states = walk_states(alloc, t, pairs, rules)?;
+    let (states, ruled) = walk_states(alloc, t, pairs, rules)?;
+    if !ruled {
+        return Ok(None);
+    }
     let items = full_items(alloc, t, pairs, rules, &states)?;
     let start = number_of(&states, &t.init);
-    Ok(Covering { items, start })
+    Ok(Some(Covering { items, start }))
 }

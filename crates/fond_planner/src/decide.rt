@@ -18,7 +18,6 @@ use fond_covering::covering::Covering;
 use fond_draft::draft::Draft;
 use fond_layers::layers::{Layer, Layers};
 use fond_policy::cert::Cert;
-use fond_policy::reach::reach_count;
 use fond_relax::estimate::{Guess, estimate};
 use fond_rules::rules::Rules;
 use fond_state::cube::Cube;
@@ -69,19 +68,6 @@ fn policy_of(t: &Task, draft: Draft, covering: Covering) -> Cert
     }
 }
 
-/// A cover by all states that the rules of a draft reach, if a rule holds in each of them that is no goal.
-fn cover_by_walk(alloc: Global, t: &Task, draft: &Draft) -> Result<Option<Covering>, NoMemory>
-    requires { IsDraft t.now draft.now }
-    ensures { IfOk result (λ found. IfSome found (λ covering. IsCovering t.now draft.now.rules covering.items covering.start)) }
-{
-    read_count(&draft.rules);
-    let (_, ruled) = reach_count(alloc, t, &draft.pairs, &draft.rules)?;
-    if !ruled {
-        return Ok(None);
-    }
-    Ok(Some(cover_by_states(alloc, t, &draft.pairs, &draft.rules)?))
-}
-
 /// A cover of what the rules of a draft reach: these items, if they pass their test, or else one by all these states.
 fn cover_of(
     alloc: Global,
@@ -92,14 +78,13 @@ fn cover_of(
     requires { IsDraft t.now draft.now }
     ensures { IfOk result (λ found. IfSome found (λ covering. IsCovering t.now draft.now.rules covering.items covering.start)) }
 {
-    let Some(items) = sketched else {
-        return cover_by_walk(alloc, t, draft);
-    };
     read_count(&draft.rules);
-    if let Some(covering) = take_items(alloc, t, &draft.rules, items)? {
-        return Ok(Some(covering));
+    if let Some(items) = sketched {
+        if let Some(covering) = take_items(alloc, t, &draft.rules, items)? {
+            return Ok(Some(covering));
+        }
     }
-    cover_by_walk(alloc, t, draft)
+    cover_by_states(alloc, t, &draft.pairs, &draft.rules)
 }
 
 /// A cover of what the rules of a draft reach, if there are no fresh pairs, and a rule holds in each of these states that is no

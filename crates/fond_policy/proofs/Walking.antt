@@ -29,7 +29,7 @@ use Rattle.fond_task.specs.declared.form.Kleene.{Kleene}
 use Rattle.fond_task.specs.declared.form.Kleene.TheVariants.{Yes}
 use Rattle.fond_task.specs.declared.task.Act.{Act}
 use Rattle.fond_policy.specs.Counts.{IsUnruled}
-use Rattle.fond_policy.specs.Walks.{Grows, IsClosed, IsRuled, Visits, IsWalk, IsOpenAmong, IsOpenOne, IsNumbered, first_open}
+use Rattle.fond_policy.specs.Walks.{Grows, IsClosed, IsRuled, Expands, IsWalk, IsUnruledAmong, IsUnruledOne, IsNumbered, first_unruled}
 
 abbrev States : Type 0
 States = List (List Bool)
@@ -104,7 +104,7 @@ module _ (P : List Bool → Type 0) (old new : States) (state copy : List Bool) 
 
 module _ (task : Task) (rules : List Rule) where
   -- a walk that has done one state more
-  pub walk_more : (old new : States) (done : ℕ) (state : List Bool) (ruled : Bool) → slice_get old done ≡ Some state → Visits task rules state old new ruled → IsWalk task rules old done → IsWalk task rules new (done + 1)
+  pub walk_more : (old new : States) (done : ℕ) (state : List Bool) (ruled : Bool) → slice_get old done ≡ Some state → Expands task rules state old new ruled → IsWalk task rules old done → IsWalk task rules new (done + 1)
   walk_more old new done state ruled at visited walk = record {
     first = grown_has _ old new visited.grows task.init walk.first;
     reached = λ after has. ⊎_elim
@@ -131,8 +131,8 @@ module _ (task : Task) (rules : List Rule) where
       walk.closed at.0 before (omega (arith, within, end)) at.1 open_ act after chosen next
 
   -- one state more was tried
-  pub open_more : (old new : States) (done : ℕ) (state : List Bool) (ruled : Bool) (found : Option ℕ) → slice_get old done ≡ Some state → Visits task rules state old new ruled → IsWalk task rules old done
-      → IsOpenAmong task rules old done found → IsOpenAmong task rules new (done + 1) (first_open ruled done found)
+  pub open_more : (old new : States) (done : ℕ) (state : List Bool) (ruled : Bool) (found : Option ℕ) → slice_get old done ≡ Some state → Expands task rules state old new ruled → IsWalk task rules old done
+      → IsUnruledAmong task rules old done found → IsUnruledAmong task rules new (done + 1) (first_unruled ruled done found)
   open_more old new done state true None at visited walk among = λ number one small is. ⊎_elim
       (λ lt. among number one lt (grown_at _ old new visited.grows number one (omega (arith, lt, slice_get_within old done state at)) is))
       (λ ge.
@@ -146,18 +146,18 @@ module _ (task : Task) (rules : List Rule) where
   open_more old new done state false (Some found) at visited walk among = (among.0, grown_keeps _ old new visited.grows found among.0 among.1, among.2)
 
   -- a number that is found is that of a state
-  pub open_below : (states : States) (done : ℕ) (found : Option ℕ) → IsOpenAmong task rules states done found → IfSome found (λ n. n < length states)
+  pub open_below : (states : States) (done : ℕ) (found : Option ℕ) → IsUnruledAmong task rules states done found → IfSome found (λ n. n < length states)
   open_below states done None among = tt
   open_below states done (Some number) among = slice_get_within states number among.0 among.1
 
   -- the state of the number is open; without a number, each reached state is ruled
-  pub open_one : (states : States) (done : ℕ) (found : Option ℕ) (copy : Option (List Bool)) → length states ≤ done → IsWalk task rules states done → IsOpenAmong task rules states done found → IsNumbered states found copy → IsOpenOne task rules copy
-  open_one states done None copy end walk among is = subst (IsOpenOne task rules) (sym is) (λ state reached.
+  pub open_one : (states : States) (done : ℕ) (found : Option ℕ) (copy : Option (List Bool)) → length states ≤ done → IsWalk task rules states done → IsUnruledAmong task rules states done found → IsNumbered states found copy → IsUnruledOne task rules copy
+  open_one states done None copy end walk among is = subst (IsUnruledOne task rules) (sym is) (λ state reached.
       let at = number_of states state (walk_all states done end walk state reached) in
       let within : at.0 < length states = slice_get_within states at.0 state at.1 in
       among at.0 state (omega (arith, within, end)) at.1)
   open_one states done (Some number) copy end walk among is =
-      subst (IsOpenOne task rules) (sym is.1) (subst (λ (s : List Bool). IsUnruled task rules s) (same_Some among.0 is.0 (sym among.1 ∙ is.2)) among.2)
+      subst (IsUnruledOne task rules) (sym is.1) (subst (λ (s : List Bool). IsUnruled task rules s) (same_Some among.0 is.0 (sym among.1 ∙ is.2)) among.2)
 
   -- the walk that has only begun
   pub walk_begun : (states : States) → states ≡ task.init ∷ [] → IsWalk task rules states 0

@@ -20,29 +20,31 @@ IsClosed task rules states state = ¬ IsGoal task state → (act : ℕ) (after :
 abbrev pub IsRuled : Task → List Rule → List Bool → Type 0
 IsRuled task rules state = ¬ IsGoal task state → IsSome (selected rules state)
 
--- a state was visited: the states to which the rules lead from it were added, and it is known whether a rule holds in it
-pub record Visits (task : Task) (rules : List Rule) (state : List Bool) (old new : List (List Bool)) (ruled : Bool) : Type 0 where
+-- a state was expanded: the states to which the rules lead from it were added, none if it is a goal, and it is told whether it is a
+-- goal or a rule holds in it
+pub record Expands (task : Task) (rules : List Rule) (state : List Bool) (old new : List (List Bool)) (ruled : Bool) : Type 0 where
   pub grows : Grows (λ after. (¬ IsGoal task state) × ((act : ℕ) × (selected rules state ≡ Some act) × IsNext task state act after)) old new
   pub closed : IsClosed task rules new state
   pub answer : MatchBool ruled (IsRuled task rules state) ((¬ IsGoal task state) × (selected rules state ≡ None))
 
--- the states of a walk are reached, the initial state is one of them, and so are those to which the rules lead from the
--- first, this many
+-- the states of a walk are reached, the initial state is one of them, and for each of the first states, as many as are done, so are
+-- the states to which the rules lead from it
 pub record IsWalk (task : Task) (rules : List Rule) (states : List (List Bool)) (done : ℕ) : Type 0 where
   pub first : Contains states task.init
   pub reached : (state : List Bool) → Contains states state → Reach task (selected rules) state
   pub closed : (number : ℕ) (state : List Bool) → number < done → slice_get states number ≡ Some state → IsClosed task rules states state
 
--- the number of a state among the first, this many, in which no rule holds and which is no goal, if there is one
-abbrev pub IsOpenAmong : Task → List Rule → List (List Bool) → ℕ → Option ℕ → Type 0
-IsOpenAmong task rules states done found =
+-- the number of a reached state that is no goal and in which no rule holds; none only if there is no such state among the first, this
+-- many
+abbrev pub IsUnruledAmong : Task → List Rule → List (List Bool) → ℕ → Option ℕ → Type 0
+IsUnruledAmong task rules states done found =
     MatchOption found ((number : ℕ) (state : List Bool) → number < done → slice_get states number ≡ Some state → IsRuled task rules state)
     (λ number. (state : List Bool) × (slice_get states number ≡ Some state) × IsUnruled task rules state)
 
--- the number of the first state that is found, after one more: this one, if none was found before and it is not ruled
-abbrev pub first_open : Bool → ℕ → Option ℕ → Option ℕ
-first_open false number None = Some number
-first_open ruled number found = found
+-- the number of the first unruled state that is found, after one more state: this one's, if none was found before and it is not ruled
+abbrev pub first_unruled : Bool → ℕ → Option ℕ → Option ℕ
+first_unruled false number None = Some number
+first_unruled ruled number found = found
 
 -- the state of a number, if there is a number
 abbrev pub IsNumbered : List (List Bool) → Option ℕ → Option (List Bool) → Type 0
@@ -58,13 +60,13 @@ abbrev pub HasUnruled : Task → List Rule → Type 0
 HasUnruled task rules = (state : List Bool) × IsUnruled task rules state
 
 -- a reached state in which no rule holds and which is no goal, if there is one
-abbrev pub IsOpenOne : Task → List Rule → Option (List Bool) → Type 0
-IsOpenOne task rules found = MatchOption found (HasAllRuled task rules) (IsUnruled task rules)
+abbrev pub IsUnruledOne : Task → List Rule → Option (List Bool) → Type 0
+IsUnruledOne task rules found = MatchOption found (HasAllRuled task rules) (IsUnruled task rules)
 
 -- how a walk ends: more than the bound are reached, or this many are, with a state in which no rule holds, if there is one
 abbrev pub IsWalked : Task → List Rule → ℕ → Walked → Type 0
 IsWalked task rules bound More = ReachesMore task (selected rules) bound
-IsWalked task rules bound (All count unruled) = ReachesCount task (selected rules) count × (count ≤ bound) × IsOpenOne task rules unruled
+IsWalked task rules bound (All count unruled) = ReachesCount task (selected rules) count × (count ≤ bound) × IsUnruledOne task rules unruled
 
 -- whether a walk ended with all states that are reached
 abbrev pub is_all : Walked → Bool

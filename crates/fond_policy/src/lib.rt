@@ -5,5 +5,4 @@
 
 pub mod cert;
 pub mod laws;
-pub mod reach;
 pub mod walk;

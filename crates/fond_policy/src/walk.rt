@@ -1,12 +1,12 @@
 //! The breadth-first walk through the states that a policy reaches.
 
 ghost use Rattle.fond_policy.specs.Parts.{AreSureRules};
-ghost use Rattle.fond_policy.specs.Walks.{Grows, Visits, IsWalk, IsWalked, IsNumbered, IsWholeWalk, first_open, is_all};
+ghost use Rattle.fond_policy.specs.Walks.{Grows, Expands, IsWalk, IsWalked, IsNumbered, IsWholeWalk, HasAllRuled, HasUnruled, first_unruled};
 ghost use Rattle.fond_game.specs.Policies.{IsNext};
 ghost use Rattle.fond_rules.specs.Belongs.{BelongTo};
 ghost use Rattle.fond_task.specs.Truth.{is_true};
 ghost use Rattle.fond_task.specs.declared.task.Act.{Act};
-ghost use Rattle.std.specs.Prelude.{◌≡◌, ◌<◌, ◌∷◌, [], ℕ, List, Bool, true, length, slice_get, Some, Contains, IfOk, IfSome, OnOk};
+ghost use Rattle.std.specs.Prelude.{◌≡◌, ◌<◌, ◌∷◌, [], ℕ, List, Bool, true, length, slice_get, Some, Contains, MatchBool, IfOk, IfSome, OnOk};
 
 use fond_rules::pairs::Pairs;
 use fond_rules::rules::Rules;
@@ -82,7 +82,7 @@ fn visit(
     requires long { length state.now ≡ length t.now.atoms }
     requires next_long { length next.old ≡ length t.now.atoms }
     ensures same_length { length next.new ≡ length next.old }
-    ensures visits { IfOk result (Visits t.now rules.now state.now states.old states.new) }
+    ensures visits { IfOk result (Expands t.now rules.now state.now states.old states.new) }
 {
     if is_goal(t, state) {
         return Ok(true);
@@ -96,7 +96,7 @@ fn visit(
 
 /// The number of the first state that is found, after one more.
 fn first_of(unruled: Option<u32>, ruled: bool, at: u32) -> Option<u32>
-    ensures { result ≡ first_open ruled at unruled }
+    ensures { result ≡ first_unruled ruled at unruled }
 {
     match unruled {
         Some(first) => Some(first),
@@ -193,16 +193,6 @@ fn walk_on(
     })
 }
 
-/// Whether a walk came to its end.
-fn is_whole(walked: Walked) -> bool
-    ensures { result ≡ is_all walked }
-{
-    match walked {
-        Walked::All { .. } => true,
-        Walked::More => false,
-    }
-}
-
 /// Walks through the states that the rules reach, until they are more than the bound. Selects the rule of each state
 /// once. Takes memory for the states that are reached, at most 256 more than the bound.
 pub fn walk(
@@ -221,18 +211,24 @@ pub fn walk(
     walk_on(alloc, t, pairs, rules, bound, &mut scratch, &mut states)
 }
 
-/// The states that the rules reach, in the order of a breadth-first walk from the initial state. Takes memory for them;
-/// memory is said to have run out after 2^32 - 1 states.
-pub fn walk_states(alloc: Global, t: &Task, pairs: &Pairs, rules: &Rules) -> Result<Store, NoMemory>
+/// The states that the rules reach, in the order of a breadth-first walk from the initial state, and whether a rule holds in each
+/// of them that is no goal. Selects the rule of each state once. Takes memory for the states; memory is said to have run out after
+/// 2^32 - 1 of them.
+pub fn walk_states(
+    alloc: Global,
+    t: &Task,
+    pairs: &Pairs,
+    rules: &Rules,
+) -> Result<(Store, bool), NoMemory>
     requires belong { BelongTo t.now rules.now }
     requires sure { AreSureRules t.now pairs.now rules.now }
-    ensures { IfOk result (λ states. IsWalk t.now rules.now states (length states)) }
+    ensures states { IfOk result (λ r. IsWalk t.now rules.now r.0 (length r.0)) }
+    ensures ruled { IfOk result (λ r. MatchBool r.1 (HasAllRuled t.now rules.now) (HasUnruled t.now rules.now)) }
 {
     let mut scratch = scratch_of(alloc, t)?;
     let mut states = one_state(alloc, &t.init)?;
-    let walked = walk_on(alloc, t, pairs, rules, u64::MAX, &mut scratch, &mut states)?;
-    if !is_whole(walked) {
-        return Err(NoMemory);
+    match walk_on(alloc, t, pairs, rules, u64::MAX, &mut scratch, &mut states)? {
+        Walked::All { unruled, .. } => Ok((states, unruled.is_none())),
+        Walked::More => Err(NoMemory),
     }
-    Ok(states)
 }

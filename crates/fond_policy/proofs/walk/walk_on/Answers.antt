@@ -3,7 +3,7 @@ use Rattle.std.proofs.lemmas.Option.{slice_get_within}
 use Rattle.fond_game.specs.Policies.{selected}
 use Rattle.fond_game.proofs.Lists.{Contains_numbered}
 use Rattle.fond_game.proofs.Reached.{reached_long}
-use Rattle.fond_policy.specs.Walks.{IsOpenAmong}
+use Rattle.fond_policy.specs.Walks.{IsUnruledAmong}
 use Rattle.fond_policy.proofs.Walking.{grown_keeps, open_below, open_more, open_one, walk_all, walk_begun, walk_more}
 use Rattle.fond_policy.proofs.walk.walk_on.Goals as goal
 
@@ -47,7 +47,7 @@ loop-at-preserved c =
       next_long = c.in_ok-ruled.ensures.same_length ∙ c.loop-at.invariant.next_long;
       done = (let within = slice_get_within new at state kept in omega (arith, within));
       walk = walk_more task rules old new at state c.in_ok-ruled.ruled there visits walk;
-      unruled = subst (IsOpenAmong task rules new (at + 1)) (sym c.first_of-unruled.ensures) (open_more task rules old new at state c.in_ok-ruled.ruled c.loop-at.unruled there visits walk c.loop-at.invariant.unruled);
+      unruled = subst (IsUnruledAmong task rules new (at + 1)) (sym c.first_of-unruled.ensures) (open_more task rules old new at state c.in_ok-ruled.ruled c.loop-at.unruled there visits walk c.loop-at.invariant.unruled);
     }
 
 pub returns-clause-walked : goal.returns-clause-walked

@@ -1,5 +1,5 @@
 use Rattle.std.proofs.Common.{◌≡◌, ◌-◌, ◌^◌, ◌≤◌, length}
-use Rattle.fond_policy.specs.Walks.{IsWalk, IsOpenAmong}
+use Rattle.fond_policy.specs.Walks.{IsWalk, IsUnruledAmong}
 use Rattle.fond_policy.proofs.walk.walk_on.Given as goal
 
 -- a walk that has done the states before this number
@@ -9,7 +9,7 @@ invariant-loop-at l = record {
   next_long : length l.scratch.next ≡ length l.t.atoms;
   done : l.at ≤ length l.states;
   walk : IsWalk l.t l.rules l.states l.at;
-  unruled : IsOpenAmong l.t l.rules l.states l.at l.unruled;
+  unruled : IsUnruledAmong l.t l.rules l.states l.at l.unruled;
 }
 
 abbrev pub decreases-loop-at : goal.decreases-loop-at
