@@ -62,20 +62,22 @@ fn open_all(
     }
 }
 
-/// Decides a task from a state on by the states of its space, by an index of its actions.
-fn solve_by(
+/// Decides a task from a state on as `solve` does, by an index of its actions, which a caller may keep for more states.
+pub fn solve_by(
     alloc: Global,
     t: &Task,
     index: &ActIndex,
     from: &State,
     budget: u32,
 ) -> Result<Solved, NoMemory>
-    requires some { 0 < budget }
-    requires small { budget < 2 ^ 32 - 1 }
+    requires few { budget ≤ 1000000 }
     requires index { IsIndexOf t.now index.now }
     requires long { length from.now ≡ length t.now.atoms }
     ensures { IfOk result (IsRight t.now from.now budget) }
 {
+    if budget == 0 {
+        return Ok(Solved::Spent);
+    }
     let mut scratch = Scratch {
         next: from.copy(alloc)?,
         targets: Vec::new(alloc),
@@ -93,9 +95,6 @@ pub fn solve(alloc: Global, t: &Task, from: &State, budget: u32) -> Result<Solve
     requires long { length from.now ≡ length t.now.atoms }
     ensures { IfOk result (IsRight t.now from.now budget) }
 {
-    if budget == 0 {
-        return Ok(Solved::Spent);
-    }
     let index = index_of(alloc, t)?;
     solve_by(alloc, t, &index, from, budget)
 }

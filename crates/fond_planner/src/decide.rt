@@ -174,7 +174,7 @@ fn decide_by_rounds<S: Source>(alloc: Global, t: &Task, budget: u32) -> Result<D
     requires hope { ¬ IsHopeless t.now t.now.init }
     ensures { IfOk result (IsDecision t.now budget) }
 {
-    let mut planner = Planner::<S>::new(alloc, t, quick_budget(t, budget));
+    let mut planner = Planner::<S>::new(alloc, t, quick_budget(t, budget))?;
     match planner.finish(alloc, t, budget)? {
         End::Policy(covering) => Ok(Decision::Certified(policy_of(t, planner.draft, covering))),
         End::Refusal => Ok(Decision::Certified(refusal_of(t, planner.draft))),

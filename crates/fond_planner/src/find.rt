@@ -18,7 +18,7 @@ use fond_draft::draft::Draft;
 use fond_draft::make::make_rules;
 use fond_draft::plan::{Plan, plan_of};
 use fond_explicit::answer::{Choices, Solved};
-use fond_explicit::solve::solve;
+use fond_explicit::solve::solve_by;
 use fond_layers::layers::Layers;
 use fond_state::state::State;
 use fond_task::task::Task;
@@ -174,7 +174,7 @@ impl<S: Source> Planner<S> {
         ensures past { IfOk result (λ found. found ≡ None → IsPast t.now budget) }
         ensures pairs { OnOk result (self.new.draft.pairs ≡ self.old.draft.pairs) }
     {
-        match solve(alloc, t, state, budget)? {
+        match solve_by(alloc, t, &self.index, state, budget)? {
             Solved::Won(choices, _) => {
                 self.win(alloc, t, state, choices)?;
                 Ok(Some(Found::Ruled))

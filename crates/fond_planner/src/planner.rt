@@ -9,6 +9,8 @@ ghost use Rattle.std.specs.Prelude.{◌≡◌, true, length, IfOk, OnOk};
 use crate::source::{Effort, Source};
 use fond_draft::draft::Draft;
 use fond_draft::plan::Plan;
+use fond_explicit::act_index::ActIndex;
+use fond_explicit::filing::index_of;
 use fond_hint::hint::Hint;
 use fond_state::cube::Cube;
 use fond_state::state::State;
@@ -16,13 +18,14 @@ use fond_task::task::Task;
 use fond_text::fault::NoMemory;
 use std::alloc::Global;
 
-/// A draft, the plans from which its rules are made, and a source of hints. `quick` states are opened before
-/// the source is asked, and `too_few` is the largest number of opened states that settled nothing for some state. `sketches` tells
-/// whether covers are still sketched.
+/// A draft, the plans from which its rules are made, an index of the task's actions, and a source of hints. `quick` states are
+/// opened before the source is asked, and `too_few` is the largest number of opened states that settled nothing for some state.
+/// `sketches` tells whether covers are still sketched.
 #[derive(Drop)]
 pub(crate) struct Planner<S> {
     pub(crate) draft: Draft,
     pub(crate) plans: Vec<Plan>,
+    pub(crate) index: ActIndex,
     pub(crate) source: S,
     pub(crate) quick: u32,
     pub(crate) too_few: u32,
@@ -30,18 +33,19 @@ pub(crate) struct Planner<S> {
 }
 
 impl<S: Source> Planner<S> {
-    /// A planner without rules and plans.
-    pub(crate) fn new(alloc: Global, t: &Task, quick: u32) -> Planner<S>
-        ensures { IsPlanner t.now result }
+    /// A planner without rules and plans. Takes the time of `index_of`.
+    pub(crate) fn new(alloc: Global, t: &Task, quick: u32) -> Result<Planner<S>, NoMemory>
+        ensures { IfOk result (IsPlanner t.now) }
     {
-        Planner {
+        Ok(Planner {
             draft: Draft::new(alloc, t),
             plans: Vec::new(alloc),
+            index: index_of(alloc, t)?,
             source: S::new(),
             quick,
             too_few: 0,
             sketches: true,
-        }
+        })
     }
 
     /// Lets the next searches do this much.
@@ -100,6 +104,25 @@ impl<S: Source> Planner<S> {
         self.source.dead_cube(alloc, &self.draft, state)
     }
 
+    /// Appends a layer of the source's cube around the state, if it is dead. Returns whether it is.
+    fn learn_proposed_cube(
+        &mut self,
+        alloc: Global,
+        t: &Task,
+        state: &State,
+    ) -> Result<bool, NoMemory>
+        requires planner { IsPlanner t.now self.old }
+        requires long { length state.now ≡ length t.now.atoms }
+        ensures planner { OnOk result (IsPlanner t.now self.new) }
+        ensures lies { IfOk result (λ learnt. learnt ≡ true → LiesInLayers state.now self.new.draft.layers) }
+        ensures pairs { OnOk result (self.new.draft.pairs ≡ self.old.draft.pairs) }
+    {
+        match self.dead_cube(alloc, t, state)? {
+            Some(cube) => self.draft.learn_cube(alloc, t, state, cube),
+            None => Ok(false),
+        }
+    }
+
     /// Appends a layer of one cube with the state, if one is found: the source's, or that of a hopeless state. Returns whether one
     /// is.
     pub(crate) fn learn_cube(
@@ -114,10 +137,8 @@ impl<S: Source> Planner<S> {
         ensures lies { IfOk result (λ learnt. learnt ≡ true → LiesInLayers state.now self.new.draft.layers) }
         ensures pairs { OnOk result (self.new.draft.pairs ≡ self.old.draft.pairs) }
     {
-        if let Some(cube) = self.dead_cube(alloc, t, state)? {
-            if self.draft.learn_cube(alloc, t, state, cube)? {
-                return Ok(true);
-            }
+        if self.learn_proposed_cube(alloc, t, state)? {
+            return Ok(true);
         }
         self.draft.learn_hopeless(alloc, t, state)
     }

@@ -4,8 +4,8 @@ use Rattle.fond_draft.proofs.Turned.{reached_long}
 use Rattle.fond_planner.proofs.Walked.{past_through}
 use Rattle.fond_planner.proofs.planner.Planner.find_by_states.Goals as goal
 
-pub solve-requires-clause-long : goal.solve-requires-clause-long
-solve-requires-clause-long g c = reached_long c.args.t.now c.args.state.now c.requires.reachable
+pub solve_by-requires-clause-long : goal.solve_by-requires-clause-long
+solve_by-requires-clause-long g c = reached_long c.args.t.now c.args.state.now c.requires.reachable
 
 pub win-requires-clause-long : goal.win-requires-clause-long
 win-requires-clause-long g c = reached_long c.args.t.now c.args.state.now c.requires.reachable

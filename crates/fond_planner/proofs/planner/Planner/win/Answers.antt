@@ -19,6 +19,7 @@ returns-clause-planner g c = record {
       (λ was. c.requires.planner.plans plan was)
       (λ (same : c.in_ok-plan.plan ≡ plan). subst (λ (p : Plan). IsPlan c.args.t.now p) same c.in_ok-plan.ensures.plan)
       (Contains-push_cases c.args.self.now.plans.items c.in_ok-plan.plan plan (subst (λ (plans : List Plan). Contains plans plan) c.in_ok-push.ensures.items has));
+  index = c.requires.planner.index;
 }
 
 pub returns-clause-ruled : goal.returns-clause-ruled
