@@ -41,17 +41,17 @@ few_is count due next e =
 abbrev pub rank : LineKind → ℕ
 rank k.Layer = 0
 rank k.Cube = 1
-rank k.Pair = 2
-rank k.FairRule = 3
-rank k.UnfairRule = 3
-rank k.GoalItem = 4
-rank k.RuleItem = 4
-rank k.Reach = 5
-rank k.Start = 6
-rank k.End = 7
-rank k.PolicyHeader = 8
-rank k.CoverHeader = 9
-rank k.RefusalHeader = 10
+rank k.Pair = 11
+rank k.FairRule = 21
+rank k.UnfairRule = 21
+rank k.GoalItem = 31
+rank k.RuleItem = 31
+rank k.Reach = 41
+rank k.Start = 51
+rank k.End = 101
+rank k.PolicyHeader = 102
+rank k.CoverHeader = 103
+rank k.RefusalHeader = 104
 
 -- the order of the group of a kind of lines; layers and cubes share one
 abbrev pub line_order : LineKind → ℕ
@@ -148,13 +148,13 @@ some_if None e = absurd (omega (arith, e))
 some_if (Some n) e = (n, refl)
 
 module _ (section : Section) (draft : Draft) (none : HasNoneAfter section draft) where
-  pub no_last : order_of section < 4 → HasNoLast draft
+  pub no_last : order_of section < 40 → HasNoLast draft
   no_last below = (none_if draft.reach (none g.Reach (omega (arith, below))), none_if draft.start (none g.Start (omega (arith, below))))
 
-  pub no_evidence : order_of section < 3 → HasNoEvidence draft
+  pub no_evidence : order_of section < 30 → HasNoEvidence draft
   no_evidence below = (nil_if draft.items (none g.Item (omega (arith, below))), no_last (omega (arith, below)))
 
-  pub layers_alone : order_of section < 1 → HasLayersAlone draft
+  pub layers_alone : order_of section < 10 → HasLayersAlone draft
   layers_alone below = (nil_if draft.pairs (none g.Pair (omega (arith, below))), nil_if draft.rules (none g.Rule (omega (arith, below))), no_evidence (omega (arith, below)))
 
 one_is : (lines : ℕ) (due next : Due) → (if lines == 1 then Some due else None) ≡ Some next → (lines ≡ 1) × (next ≡ due)

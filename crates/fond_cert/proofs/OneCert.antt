@@ -118,11 +118,11 @@ module _ (task : Task) where
       let more = same_layers layers others s t (All-tail Long layer layers over) (All-tail Long other others other_over) after other_after first.1 in
       ((λ i. first.0 i ∷ more.0 i), more.1)
 
-  rule_rank : (rule : Rule) → rank (rule_line task rule).kind ≡ 3
-  rule_rank = rule_kind task (λ kind. rank kind ≡ 3) refl refl
+  rule_rank : (rule : Rule) → rank (rule_line task rule).kind ≡ 21
+  rule_rank = rule_kind task (λ kind. rank kind ≡ 21) refl refl
 
-  item_rank : (item : Item) → rank (item_line task item).kind ≡ 4
-  item_rank = item_kind task (λ kind. rank kind ≡ 4) refl refl
+  item_rank : (item : Item) → rank (item_line task item).kind ≡ 31
+  item_rank = item_kind task (λ kind. rank kind ≡ 31) refl refl
 
   -- lines of layers, pairs and rules, with others after them
   abbrev plan_lines : List (List CubeView) → List Pair → List Rule → List Line → List Line
@@ -136,16 +136,16 @@ module _ (task : Task) where
     pub rest_same : s ≡ t
 
   same_plan : (layers others : List (List CubeView)) (pairs other_pairs : List Pair) (rules other_rules : List Rule) (s t : List Line) → AreOver (length task.atoms) layers → AreOver (length task.atoms) others →
-      Each (IsGoodPair task) pairs → Each (IsGoodPair task) other_pairs → Each (IsGoodRule task) rules → Each (IsGoodRule task) other_rules → 3 < first_rank s → 3 < first_rank t →
+      Each (IsGoodPair task) pairs → Each (IsGoodPair task) other_pairs → Each (IsGoodRule task) rules → Each (IsGoodRule task) other_rules → 21 < first_rank s → 21 < first_rank t →
       plan_lines layers pairs rules s ≡ plan_lines others other_pairs other_rules t → SamePlan layers others pairs other_pairs rules other_rules s t
   same_plan layers others pairs other_pairs rules other_rules s t over other_over in_pairs other_in_pairs in_rules other_in_rules after other_after e =
       let rl = map (rule_line task) rules ++ s in
       let other_rl = map (rule_line task) other_rules ++ t in
-      let ends = above_all (rule_line task) 2 (λ rule. omega (arith, rule_rank rule)) rules s (omega (arith, after)) in
-      let other_ends = above_all (rule_line task) 2 (λ rule. omega (arith, rule_rank rule)) other_rules t (omega (arith, other_after)) in
+      let ends = above_all (rule_line task) 11 (λ rule. omega (arith, rule_rank rule)) rules s (omega (arith, after)) in
+      let other_ends = above_all (rule_line task) 11 (λ rule. omega (arith, rule_rank rule)) other_rules t (omega (arith, other_after)) in
       let one = same_layers layers others (map (pair_line task) pairs ++ rl) (map (pair_line task) other_pairs ++ other_rl) over other_over (above_all (pair_line task) 1 (λ pair. omega arith) pairs rl (omega (arith, ends))) (above_all (pair_line task) 1 (λ pair. omega arith) other_pairs other_rl (omega (arith, other_ends))) e in
-      let two = same_items (pair_line task) 2 (IsGoodPair task) (λ pair. refl) same_pair pairs other_pairs rl other_rl in_pairs other_in_pairs (λ same. omega (arith, ends, same)) (λ same. omega (arith, other_ends, same)) one.1 in
-      let three = same_items (rule_line task) 3 (IsGoodRule task) rule_rank same_rule rules other_rules s t in_rules other_in_rules (λ same. omega (arith, after, same)) (λ same. omega (arith, other_after, same)) two.1 in
+      let two = same_items (pair_line task) 11 (IsGoodPair task) (λ pair. refl) same_pair pairs other_pairs rl other_rl in_pairs other_in_pairs (λ same. omega (arith, ends, same)) (λ same. omega (arith, other_ends, same)) one.1 in
+      let three = same_items (rule_line task) 21 (IsGoodRule task) rule_rank same_rule rules other_rules s t in_rules other_in_rules (λ same. omega (arith, after, same)) (λ same. omega (arith, other_after, same)) two.1 in
       record { layers_same = one.0; pairs_same = two.0; rules_same = three.0; rest_same = three.1 }
 
   abbrev reach_lines : ℕ → List Line
@@ -168,8 +168,8 @@ module _ (task : Task) where
   same_certs (Covered layers pairs rules items start) (Covered other_layers other_pairs other_rules other_items other_start) h other_h small other_small e =
       let same = same_plan layers other_layers pairs other_pairs rules other_rules (cover_lines items start) (cover_lines other_items other_start) h.0.over other_h.0.over
       (good_pairs task pairs h.1 small.0) (good_pairs task other_pairs other_h.1 other_small.0) (good_rules task rules h.2 small.1) (good_rules task other_rules other_h.2 other_small.1)
-      (above_all (item_line task) 3 (λ item. omega (arith, item_rank item)) items (start_lines start) (omega arith)) (above_all (item_line task) 3 (λ item. omega (arith, item_rank item)) other_items (start_lines other_start) (omega arith)) (ap rest_of e) in
-      let four = same_items (item_line task) 4 (IsGoodItem task) item_rank same_item items other_items (start_lines start) (start_lines other_start)
+      (above_all (item_line task) 21 (λ item. omega (arith, item_rank item)) items (start_lines start) (omega arith)) (above_all (item_line task) 21 (λ item. omega (arith, item_rank item)) other_items (start_lines other_start) (omega arith)) (ap rest_of e) in
+      let four = same_items (item_line task) 31 (IsGoodItem task) item_rank same_item items other_items (start_lines start) (start_lines other_start)
       (good_items task items h.3 small.2) (good_items task other_items other_h.3 other_small.2) (λ same. omega (arith, same)) (λ same. omega (arith, same)) same.rest_same in
       let last : start_lines start ≡ start_lines other_start = four.1 in
       let line : start_line task start ≡ start_line task other_start = cc in

@@ -43,7 +43,7 @@ use Rattle.fond_cert.proofs.Printed.{pairs_of, rules_of, items_of}
 
 -- the rank of the first line
 abbrev pub first_rank : List Line → ℕ
-first_rank [] = 11
+first_rank [] = 105
 first_rank (line ∷ lines) = rank line.kind
 
 -- lines with others after them begin with a line above a rank if both do
@@ -209,14 +209,14 @@ module _ (task : Task) where
 
     -- the lines of layers, pairs and rules lead to the end if those after them do
     plan_lead : (layers : List (List CubeView)) (pairs : List Pair) (rules : List Rule) (rest : List Line) (last : List Section) → later ≡ Any g.Pair ∷ Few g.Rule ∷ last → BelongAsLayers task layers → Each IsGoodPair pairs →
-        length rules < 2 ^ 32 → Each IsGoodRule rules → 3 < first_rank rest → Lead task (SectionDue cert 3 0 0) rest NothingDue →
+        length rules < 2 ^ 32 → Each IsGoodRule rules → 21 < first_rank rest → Lead task (SectionDue cert 3 0 0) rest NothingDue →
         Lead task (SectionDue cert 0 0 0) (flat_map (layer_lines task) layers ++ (map (pair_line task) pairs ++ (map (rule_line task) rules ++ rest))) NothingDue
     plan_lead layers pairs rules rest last is in_layers in_pairs room in_rules above lead =
         let of_rules =
         lines_lead cert 2 (Few g.Rule) last (ap (drop 2) there ∙ ap (drop 1) is) tt IsGoodRule (rule_line task) rule_good (λ count. count) (2 ^ 32) (λ lines. refl)
         (λ rule count more. let one = few (count + 1) (SectionDue cert 2 (count + 1) 0) more in rule_kind (λ kind. after_in (Few g.Rule) cert 2 count 0 kind ≡ Some (SectionDue cert 2 (count + 1) 0)) one one rule) 0 rules rest (omega (arith, room)) in_rules above lead
         in
-        let after_pairs = above_all (rule_line task) 2 (rule_kind (λ kind. 2 < rank kind) (omega arith) (omega arith)) rules rest (omega (arith, above)) in
+        let after_pairs = above_all (rule_line task) 11 (rule_kind (λ kind. 11 < rank kind) (omega arith) (omega arith)) rules rest (omega (arith, above)) in
         let of_pairs =
         lines_lead cert 1 (Any g.Pair) (Few g.Rule ∷ last) (ap (drop 1) there ∙ is) tt IsGoodPair (pair_line task) pair_good (λ count. 0) (length pairs + 1) (λ lines. refl) (λ pair count more. refl) 0 pairs (map (rule_line task) rules ++ rest)
         (omega arith) in_pairs after_pairs of_rules
@@ -251,4 +251,4 @@ module _ (task : Task) where
       in
       header_lead k.CoverHeader (tt, tt) (OfPolicy ByCover) _ (tt, tt) refl
       (plan_lead (OfPolicy ByCover) _ refl layers pairs rules (map (item_line task) items ++ (start_line task start ∷ end_line task ∷ [])) _ refl h.0 (good_pairs pairs h.1 small.0) h.2.few (good_rules rules h.2 small.1)
-      (above_all (item_line task) 3 (item_kind (λ kind. 3 < rank kind) (omega arith) (omega arith)) items (start_line task start ∷ end_line task ∷ []) (omega arith)) of_items)
+      (above_all (item_line task) 21 (item_kind (λ kind. 21 < rank kind) (omega arith) (omega arith)) items (start_line task start ∷ end_line task ∷ []) (omega arith)) of_items)

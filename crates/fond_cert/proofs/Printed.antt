@@ -133,16 +133,11 @@ mapped f g h (x ∷ xs) = ap (λ t. t ++ flat_map g xs) (h x) ∙ ap (λ t. fed 
 plan_is : (task : Task) (layers : List (List CubeView)) (pairs : List Pair) (rules : List Rule) (last : List Line) →
     plan_text task layers pairs rules ++ lines_text last ≡ lines_text (flat_map (layer_lines task) layers ++ (map (pair_line task) pairs ++ (map (rule_line task) rules ++ last)))
 plan_is task layers pairs rules last =
-    let ll = flat_map (layer_lines task) layers in
-    let pl = map (pair_line task) pairs in
-    let rl = map (rule_line task) rules in
-    flat3 (flat_map (layer_text task) layers) (flat_map (pair_text task) pairs) (flat_map (rule_text task) rules) (lines_text last)
-    ∙ ap (λ t. t ++ (flat_map (pair_text task) pairs ++ (flat_map (rule_text task) rules ++ lines_text last))) (sym (several_lines (layer_lines task) layers))
-    ∙ ap (λ t. lines_text ll ++ (t ++ (flat_map (rule_text task) rules ++ lines_text last))) (mapped (pair_line task) (pair_text task) (pair_is task) pairs)
-    ∙ ap (λ t. lines_text ll ++ (lines_text pl ++ (t ++ lines_text last))) (mapped (rule_line task) (rule_text task) (rule_is task) rules)
-    ∙ ap (λ t. lines_text ll ++ (lines_text pl ++ t)) (sym (lines_append rl last))
-    ∙ ap (λ t. lines_text ll ++ t) (sym (lines_append pl (rl ++ last)))
-    ∙ sym (lines_append ll (pl ++ (rl ++ last)))
+    rw (
+      sym (several_lines (layer_lines task) layers),
+      mapped (pair_line task) (pair_text task) (pair_is task) pairs,
+      mapped (rule_line task) (rule_text task) (rule_is task) rules,
+    ) (simp (flat_map-append, append_assoc))
 
 pub policy_is : (task : Task) (layers : List (List CubeView)) (pairs : List Pair) (rules : List Rule) (reach : ℕ) → policy_text task layers pairs rules reach ≡ spelling task (Policy layers pairs rules reach)
 policy_is task layers pairs rules reach =

@@ -155,11 +155,11 @@ count_of g.Start draft = one_if draft.start
 abbrev pub order : Group → ℕ
 order g.Layer = 0
 order g.Cube = 0
-order g.Pair = 1
-order g.Rule = 2
-order g.Item = 3
-order g.Reach = 4
-order g.Start = 5
+order g.Pair = 10
+order g.Rule = 20
+order g.Item = 30
+order g.Reach = 40
+order g.Start = 50
 
 -- the order of a section: that of its group, or of the first
 abbrev pub order_of : Section → ℕ
