@@ -1,5 +1,7 @@
 -- A text that is added part by part.
-use Rattle.std.proofs.Common.{◌≡◌, ℕ, inl, inr, true, List, [], ◌++◌, Option, refl, sym, subst, ap, ◌∙◌, append_assoc}
+use Rattle.std.proofs.Common.{◌≡◌, ℕ, zero, suc, ◌+◌, ◌<◌, inl, inr, true, List, [], ◌∷◌, ◌++◌, Option, length, drop, refl, sym, subst, ap, ◌∙◌, arith, append_assoc}
+use Rattle.std.specs.List.{flat_map}
+use Rattle.std.specs.Prelude.{IfSome, slice_get}
 use Rattle.std.proofs.lemmas.Bool.{false≢true}
 use Rattle.std.proofs.lemmas.List.{append-nil}
 use Rattle.fond_edge.specs.PenState.{PenState}
@@ -30,6 +32,14 @@ module _ (before now after : Flow) (whole left : List ℕ) where
     added = adds_then before now after adding.done item adding.added more;
     split = append_assoc adding.done item rest ∙ ap (λ t. adding.done ++ t) (sym same) ∙ adding.split;
   }
+
+-- the texts of the items before this one were added, and now its own
+pub adding_at : {X : Type 0} (f : X → List ℕ) (xs : List X) (i : ℕ) (before now after : Flow) (whole : List ℕ) → i < length xs → IfSome (slice_get xs i) (λ x. Adds now after (f x)) → Adding before now whole (flat_map f (drop i xs)) →
+    Adding before after whole (flat_map f (drop (i + 1) xs))
+adding_at f [] i before now after whole there added adding = absurd (omega (arith, there))
+adding_at f (x ∷ xs) zero before now after whole there added adding = adding_more before now after whole (flat_map f (x ∷ xs)) (f x) (flat_map f xs) refl adding added
+adding_at f (x ∷ xs) (suc i) before now after whole there added adding =
+    let next : suc i + 1 ≡ suc (i + 1) = omega arith in rw next (adding_at f xs i before now after whole (omega (arith, there)) added adding)
 
 pub adding_none : (before now : Flow) (whole left : List ℕ) → left ≡ [] → Adding before now whole left → Adds before now whole
 adding_none before now whole left none adding =

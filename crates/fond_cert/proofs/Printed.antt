@@ -52,21 +52,6 @@ cube_text_is task cube = cube_items_text task.labels cube (enumerate_from 0 task
 pub act_text_is : (task : Task) (n : ℕ) (act : Act) → slice_get task.acts n ≡ Some act → action_text task.labels act.ground ≡ group_text (act_leaves task n)
 act_text_is task n act e = action_leaves_text task.labels act.ground ∙ ap (λ o. group_text (option_map_or (λ (a : Act). action_leaves task.labels a.ground) o [])) (sym e)
 
-abbrev item_of : {X : Type 0} → X → Option X → X
-item_of y None = y
-item_of y (Some x) = x
-
-drop_at : {X : Type 0} (xs : List X) (i : ℕ) (x : X) → slice_get xs i ≡ Some x → drop i xs ≡ x ∷ drop (suc i) xs
-drop_at [] i x e = absurd (cc)
-drop_at (y ∷ xs) zero x e = ap (λ o. item_of y o ∷ xs) e
-drop_at (y ∷ xs) (suc i) x e = drop_at xs i x e
-
--- the text of the items from this one on
-pub next_item : {X : Type 0} (f : X → List ℕ) (xs : List X) (i : ℕ) (x : X) → slice_get xs i ≡ Some x → flat_map f (drop i xs) ≡ f x ++ flat_map f (drop (i + 1) xs)
-next_item f xs i x at =
-    let one : i + 1 ≡ suc i = omega arith in
-    rw one (ap (flat_map f) (drop_at xs i x at))
-
 -- a text of the items from this one on
 pub next_of : {X : Type 0} (F : List X → List ℕ) (xs : List X) (i : ℕ) (x : X) → i < length xs → x ≡ get_or xs i x → F (drop i xs) ≡ F (x ∷ drop (i + 1) xs)
 next_of F xs i x lt at = at_drop_more F xs i x lt ∙ ap (λ y. F (y ∷ drop (i + 1) xs)) (sym at)
@@ -125,7 +110,7 @@ way_by task (ByRule rule numbers) cube =
 item_is : (task : Task) (item : Item) → item_text task item ≡ fed (item_line task item)
 item_is task item = way_by task item.way item.cube
 
-mapped : {X : Type 0} (f : X → Line) (g : X → List ℕ) → ((x : X) → g x ≡ fed (f x)) → (xs : List X) → flat_map g xs ≡ lines_text (map f xs)
+pub mapped : {X : Type 0} (f : X → Line) (g : X → List ℕ) → ((x : X) → g x ≡ fed (f x)) → (xs : List X) → flat_map g xs ≡ lines_text (map f xs)
 mapped f g h [] = refl
 mapped f g h (x ∷ xs) = ap (λ t. t ++ flat_map g xs) (h x) ∙ ap (λ t. fed (f x) ++ t) (mapped f g h xs)
 

@@ -11,6 +11,7 @@ mod grow;
 mod item;
 pub mod laws;
 mod lines;
+mod listing;
 mod literal;
 mod names;
 mod place;

@@ -11,6 +11,7 @@ ghost use Rattle.std.specs.Fmt.{decimal};
 ghost use Rattle.std.specs.List.{flat_map};
 ghost use Rattle.std.specs.Prelude.{◌≡◌, ◌++◌, ℕ, List, All, codes, map, OnOk, OnErr};
 
+use crate::listing::{Listing, put_all};
 use crate::put::{
     put_act, put_cube, put_item_numbers, put_number, put_spaced, put_target, put_targets,
 };
@@ -40,16 +41,27 @@ fn put_cube_line<K: Sink>(task: &Task, cube: &Cube, pen: &mut Pen, sink: &mut K)
     pen.add(sink, b"\n");
 }
 
-/// Adds the lines of a layer's cubes.
-fn put_cube_lines<K: Sink>(task: &Task, layer: &Layer, pen: &mut Pen, sink: &mut K)
-    ensures { Adds (flow (K.written sink.old) (K.faults sink.old) pen.old)
-        (flow (K.written sink.new) (K.faults sink.new) pen.new) (lines_text (map (cube_line task.now) layer.now)) }
-{
-    for cube in layer.as_slice() {
-        if pen.has_failed() {
-            return;
-        }
-        put_cube_line(task, cube, pen, sink);
+impl Listing for Layer {
+    ghost use Rattle.std.specs.Prelude.{◌^◌, ⊤};
+    ghost use Rattle.fond_cert.specs.Printed.{fed};
+    ghost use Rattle.fond_cert.specs.Spellings.{cube_line};
+
+    type Item = Cube;
+
+    ghost items = { λ cubes. cubes };
+
+    ghost limit = { 2 ^ 64 };
+
+    ghost fits = { λ task cube. ⊤ };
+
+    ghost text = { λ task cube. fed (cube_line task cube) };
+
+    fn count(&self) -> u64 {
+        self.len() as u64
+    }
+
+    fn put_at<K: Sink>(&self, task: &Task, i: u64, pen: &mut Pen, sink: &mut K) {
+        put_cube_line(task, &self.as_slice()[i as usize], pen, sink);
     }
 }
 
@@ -59,19 +71,29 @@ fn put_layer<K: Sink>(task: &Task, layer: &Layer, pen: &mut Pen, sink: &mut K)
         (flow (K.written sink.new) (K.faults sink.new) pen.new) (layer_text task.now layer.now) }
 {
     pen.add(sink, b"layer\n");
-    put_cube_lines(task, layer, pen, sink);
+    put_all(task, layer, pen, sink);
 }
 
-/// Adds the lines of layers.
-fn put_layers<K: Sink>(task: &Task, layers: &Layers, pen: &mut Pen, sink: &mut K)
-    ensures { Adds (flow (K.written sink.old) (K.faults sink.old) pen.old)
-        (flow (K.written sink.new) (K.faults sink.new) pen.new) (flat_map (layer_text task.now) layers.now) }
-{
-    for i in 0..layers.len() {
-        if pen.has_failed() {
-            return;
-        }
-        put_layer(task, layers.get(i), pen, sink);
+impl Listing for Layers {
+    ghost use Rattle.std.specs.Prelude.{◌^◌, ⊤};
+    ghost use Rattle.fond_cert.specs.Printed.{layer_text};
+
+    type Item = Layer;
+
+    ghost items = { λ layers. layers };
+
+    ghost limit = { 2 ^ 32 };
+
+    ghost fits = { λ task layer. ⊤ };
+
+    ghost text = { layer_text };
+
+    fn count(&self) -> u64 {
+        self.len() as u64
+    }
+
+    fn put_at<K: Sink>(&self, task: &Task, i: u64, pen: &mut Pen, sink: &mut K) {
+        put_layer(task, self.get(i as u32), pen, sink);
     }
 }
 
@@ -107,17 +129,27 @@ fn put_pair<K: Sink>(task: &Task, pair: &Pair, pen: &mut Pen, sink: &mut K)
     put_cond(task, &pair.cond, pen, sink);
 }
 
-/// Adds the lines of pairs.
-fn put_pairs<K: Sink>(task: &Task, pairs: &Pairs, pen: &mut Pen, sink: &mut K)
-    requires { All (IsPairOf task.now) pairs.now }
-    ensures { Adds (flow (K.written sink.old) (K.faults sink.old) pen.old)
-        (flow (K.written sink.new) (K.faults sink.new) pen.new) (flat_map (pair_text task.now) pairs.now) }
-{
-    for i in 0..pairs.len() {
-        if pen.has_failed() {
-            return;
-        }
-        put_pair(task, pairs.get(i), pen, sink);
+impl Listing for Pairs {
+    ghost use Rattle.std.specs.Prelude.{◌^◌};
+    ghost use Rattle.fond_cert.specs.Printed.{pair_text};
+    ghost use Rattle.fond_cert.specs.Items.{IsPairOf};
+
+    type Item = Pair;
+
+    ghost items = { λ pairs. pairs };
+
+    ghost limit = { 2 ^ 64 };
+
+    ghost fits = { IsPairOf };
+
+    ghost text = { pair_text };
+
+    fn count(&self) -> u64 {
+        self.len()
+    }
+
+    fn put_at<K: Sink>(&self, task: &Task, i: u64, pen: &mut Pen, sink: &mut K) {
+        put_pair(task, self.get(i), pen, sink);
     }
 }
 
@@ -152,17 +184,27 @@ fn put_rule<K: Sink>(task: &Task, rule: &Rule, pen: &mut Pen, sink: &mut K)
     put_cond(task, &rule.cond, pen, sink);
 }
 
-/// Adds the lines of rules.
-fn put_rules<K: Sink>(task: &Task, rules: &Rules, pen: &mut Pen, sink: &mut K)
-    requires { All (IsRuleOf task.now) rules.now }
-    ensures { Adds (flow (K.written sink.old) (K.faults sink.old) pen.old)
-        (flow (K.written sink.new) (K.faults sink.new) pen.new) (flat_map (rule_text task.now) rules.now) }
-{
-    for i in 0..rules.len() {
-        if pen.has_failed() {
-            return;
-        }
-        put_rule(task, rules.get(i), pen, sink);
+impl Listing for Rules {
+    ghost use Rattle.std.specs.Prelude.{◌^◌};
+    ghost use Rattle.fond_cert.specs.Printed.{rule_text};
+    ghost use Rattle.fond_cert.specs.Items.{IsRuleOf};
+
+    type Item = Rule;
+
+    ghost items = { λ rules. rules };
+
+    ghost limit = { 2 ^ 32 };
+
+    ghost fits = { IsRuleOf };
+
+    ghost text = { rule_text };
+
+    fn count(&self) -> u64 {
+        self.len() as u64
+    }
+
+    fn put_at<K: Sink>(&self, task: &Task, i: u64, pen: &mut Pen, sink: &mut K) {
+        put_rule(task, self.get(i as u32), pen, sink);
     }
 }
 
@@ -210,16 +252,26 @@ fn put_item<K: Sink>(task: &Task, item: &Item, pen: &mut Pen, sink: &mut K)
     put_cond(task, &item.cube, pen, sink);
 }
 
-/// Adds the lines of items.
-fn put_items<K: Sink>(task: &Task, items: &Items, pen: &mut Pen, sink: &mut K)
-    ensures { Adds (flow (K.written sink.old) (K.faults sink.old) pen.old)
-        (flow (K.written sink.new) (K.faults sink.new) pen.new) (flat_map (item_text task.now) items.now) }
-{
-    for i in 0..items.len() {
-        if pen.has_failed() {
-            return;
-        }
-        put_item(task, items.get(i), pen, sink);
+impl Listing for Items {
+    ghost use Rattle.std.specs.Prelude.{◌^◌, ⊤};
+    ghost use Rattle.fond_cert.specs.Printed.{item_text};
+
+    type Item = Item;
+
+    ghost items = { λ items. items };
+
+    ghost limit = { 2 ^ 32 };
+
+    ghost fits = { λ task item. ⊤ };
+
+    ghost text = { item_text };
+
+    fn count(&self) -> u64 {
+        self.len() as u64
+    }
+
+    fn put_at<K: Sink>(&self, task: &Task, i: u64, pen: &mut Pen, sink: &mut K) {
+        put_item(task, self.get(i as u32), pen, sink);
     }
 }
 
@@ -228,7 +280,7 @@ fn put_cover<K: Sink>(task: &Task, items: &Items, start: u32, pen: &mut Pen, sin
     ensures { Adds (flow (K.written sink.old) (K.faults sink.old) pen.old)
         (flow (K.written sink.new) (K.faults sink.new) pen.new) (items_text task.now items.now start) }
 {
-    put_items(task, items, pen, sink);
+    put_all(task, items, pen, sink);
     put_start(start, pen, sink);
 }
 
@@ -246,9 +298,9 @@ fn put_plan<K: Sink>(
     ensures { Adds (flow (K.written sink.old) (K.faults sink.old) pen.old)
         (flow (K.written sink.new) (K.faults sink.new) pen.new) (plan_text task.now layers.now pairs.now rules.now) }
 {
-    put_layers(task, layers, pen, sink);
-    put_pairs(task, pairs, pen, sink);
-    put_rules(task, rules, pen, sink);
+    put_all(task, layers, pen, sink);
+    put_all(task, pairs, pen, sink);
+    put_all(task, rules, pen, sink);
 }
 
 /// Adds the last line.
@@ -279,7 +331,7 @@ fn put_lines<K: Sink>(task: &Task, cert: &Cert, pen: &mut Pen, sink: &mut K)
         }
         Cert::Refusal { layers } => {
             pen.add(sink, b"dualfond 1 refusal\n");
-            put_layers(task, layers, pen, sink);
+            put_all(task, layers, pen, sink);
             put_end(pen, sink);
         }
         Cert::Covered {

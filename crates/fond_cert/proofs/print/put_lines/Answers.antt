@@ -15,7 +15,7 @@ pub returns-in-Refusal : goal.returns-in-Refusal
 returns-in-Refusal g c =
     let same = refusal_is c.args.task.now c.in-Refusal.layers ∙ ap (λ cert. spelling c.args.task.now cert) (sym c.in-Refusal.is) in
     adds_same _ _ _ _ same
-    (adds_then _ _ _ _ _ c.add-in-Refusal.ensures.adds (adds_then _ _ _ _ _ c.put_layers.ensures c.put_end-in-Refusal.ensures))
+    (adds_then _ _ _ _ _ c.add-in-Refusal.ensures.adds (adds_then _ _ _ _ _ c.put_all.ensures c.put_end-in-Refusal.ensures))
 
 pub returns-in-Covered : goal.returns-in-Covered
 returns-in-Covered g c =
