@@ -1,11 +1,13 @@
 -- The section that takes a line, and what a draft has before it.
-use Rattle.std.proofs.Common.{◌≡◌, ◌≤◌, ◌⊎◌, inl, inr, ℕ, zero, suc, ◌+◌, ◌-◌, ◌<◌, ◌^◌, ◌==◌, nat_lt, Bool, true, false, List, [], ◌∷◌, Option, Some, None, length, drop, if◌then◌else◌, refl, sym, ap, ◌∙◌, subst, arith}
+use Rattle.std.proofs.Common.{◌≡◌, ◌≤◌, ◌⊎◌, inl, inr, ℕ, zero, suc, ◌+◌, ◌-◌, ◌<◌, ◌^◌, nat_lt, Bool, true, false, List, [], ◌∷◌, Option, Some, None, length, drop, if◌then◌else◌, refl, sym, ap, ◌∙◌, subst, arith}
 use Rattle.std.specs.Prelude.{⊤}
 use Rattle.std.proofs.lemmas.Bool.Decides.{nat_tests}
 use Rattle.std.proofs.lemmas.List.{drop-drop}
 use Rattle.std.proofs.Math.Seq.{drop-nil}
 use Rattle.fond_cert.specs.declared.draft.Draft.{Draft}
-use Rattle.fond_cert.specs.Drafts.{one_if, count_of, order, order_of, HasNoLast, HasNoEvidence, HasLayersAlone, HasOnly, HasNoneAfter, IsCounted, HasReached, IsWholeOf}
+use Rattle.fond_policy.specs.declared.cert.Cert.{Cert}
+use Rattle.fond_policy.specs.declared.cert.Cert.TheVariants.{Policy, Refusal, Covered}
+use Rattle.fond_cert.specs.Drafts.{closed, count_of, is_few, order, order_of, HasOnly, HasNoneAfter, IsCounted, HasReached}
 use Rattle.fond_cert.specs.declared.due.Evidence.TheVariants.{Reach as ByReach, Cover as ByCover}
 use Rattle.fond_cert.specs.declared.due.Kind.{Kind}
 use Rattle.fond_cert.specs.declared.due.Kind.TheVariants.{Policy as OfPolicy, Refusal as OfRefusal}
@@ -15,7 +17,8 @@ use Rattle.fond_cert.specs.declared.due.Group.{Group}
 use Rattle.fond_cert.specs.declared.due.Group.TheVariants as g
 use Rattle.fond_cert.specs.declared.due.Section.{Section}
 use Rattle.fond_cert.specs.declared.due.Section.TheVariants.{One, Any, Few, Blocks}
-use Rattle.fond_cert.specs.Sections.{sections, after_in, may_end, or_later, after_sections, due_after, if_few}
+use Rattle.fond_cert.specs.Spellings.{all_layers, listed, parts_of, kind_of}
+use Rattle.fond_cert.specs.Sections.{sections, is_in, after_in, may_end, or_later, after_sections, due_after, if_few}
 use Rattle.fond_form.specs.declared.table.LineKind.{LineKind}
 use Rattle.fond_form.specs.declared.table.LineKind.TheVariants as k
 
@@ -57,24 +60,28 @@ rank k.RefusalHeader = 104
 abbrev pub line_order : LineKind → ℕ
 line_order kind = rank kind - 1
 
--- a section is one of those that certificates have
-abbrev pub IsKnown : Kind → Section → Type 0
-IsKnown cert (Blocks g.Layer g.Cube) = ⊤
-IsKnown cert (Any g.Pair) = ⊤
-IsKnown cert (Few g.Rule) = ⊤
-IsKnown cert (Few g.Item) = ⊤
-IsKnown cert (One g.Reach) = cert ≡ OfPolicy ByReach
-IsKnown cert (One g.Start) = cert ≡ OfPolicy ByCover
-IsKnown cert section = ⊥
+-- a group of which there is one number
+abbrev pub is_single : Group → Bool
+is_single g.Reach = true
+is_single g.Start = true
+is_single group = false
+
+-- a section is of a group that may have such a one
+abbrev pub IsKnown : Section → Type 0
+IsKnown (Blocks g.Layer g.Cube) = ⊤
+IsKnown (Blocks first second) = ⊥
+IsKnown (One group) = (0 < order group) × (is_single group ≡ true)
+IsKnown (Few group) = (0 < order group) × (is_single group ≡ false) × (is_few group ≡ true)
+IsKnown (Any group) = (0 < order group) × (is_single group ≡ false) × (is_few group ≡ false)
 
 -- sections are known, and come in the order of their groups
-abbrev AreKnown : Kind → ℕ → List Section → Type 0
-AreKnown cert least [] = ⊤
-AreKnown cert least (section ∷ later) = IsKnown cert section × (least ≤ order_of section) × AreKnown cert (order_of section + 1) later
+abbrev pub AreKnown : ℕ → List Section → Type 0
+AreKnown least [] = ⊤
+AreKnown least (section ∷ later) = IsKnown section × (least ≤ order_of section) × AreKnown (order_of section + 1) later
 
-all_known : (cert : Kind) → AreKnown cert 0 (sections cert)
-all_known (OfPolicy ByReach) = (tt, omega arith, (tt, omega arith, (tt, omega arith, (refl, omega arith, tt))))
-all_known (OfPolicy ByCover) = (tt, omega arith, (tt, omega arith, (tt, omega arith, (tt, omega arith, (refl, omega arith, tt)))))
+pub all_known : (cert : Kind) → AreKnown 0 (sections cert)
+all_known (OfPolicy ByReach) = (tt, omega arith, ((omega arith, refl, refl), omega arith, ((omega arith, refl, refl), omega arith, ((omega arith, refl), omega arith, tt))))
+all_known (OfPolicy ByCover) = (tt, omega arith, ((omega arith, refl, refl), omega arith, ((omega arith, refl, refl), omega arith, ((omega arith, refl, refl), omega arith, ((omega arith, refl), omega arith, tt)))))
 all_known OfRefusal = (tt, omega arith, tt)
 
 -- a section of a certificate takes a line, after which this is due; the draft has the counts of the section, and no lines after it
@@ -85,7 +92,7 @@ pub record IsAllowedIn (cert : Kind) (kind : LineKind) (next : Due) (draft : Dra
   pub lines : ℕ
   pub inner : ℕ
   pub there : drop at (sections cert) ≡ section ∷ later
-  pub known : IsKnown cert section
+  pub known : IsKnown section
   pub counted : IsCounted section draft lines inner
   pub none : HasNoneAfter section draft
   pub allowed : after_in section cert at lines inner kind ≡ Some next
@@ -95,17 +102,17 @@ over cert at lines inner k.End next e = refl
 over cert at lines inner kind next e = absurd (cc)
 
 -- a section of which a draft has nothing has the counts zero
-none_counted : (cert : Kind) (section : Section) (draft : Draft) (least : ℕ) → IsKnown cert section → least < order_of section → ((group : Group) → least < order group → count_of group draft ≡ 0) → IsCounted section draft 0 0
-none_counted cert (One group) draft least known below none = none group below
-none_counted cert (Any group) draft least known below none = tt
-none_counted cert (Few group) draft least known below none = none group below
-none_counted cert (Blocks g.Layer g.Cube) draft least known below none = absurd (omega (arith, below))
-none_counted cert (Blocks first second) draft least known below none = absurd known
+none_counted : (section : Section) (draft : Draft) (least : ℕ) → IsKnown section → least < order_of section → ((group : Group) → least < order group → count_of group draft ≡ 0) → IsCounted section draft 0 0
+none_counted (One group) draft least known below none = none group below
+none_counted (Any group) draft least known below none = tt
+none_counted (Few group) draft least known below none = none group below
+none_counted (Blocks g.Layer g.Cube) draft least known below none = absurd (omega (arith, below))
+none_counted (Blocks first second) draft least known below none = absurd known
 
 -- a draft with nothing after a section has reached the next one, if there is one
-enter : (cert : Kind) (section : Section) (later : List Section) (draft : Draft) → AreKnown cert (order_of section + 1) later → HasNoneAfter section draft → (later ≡ []) ⊎ HasReached later draft 0 0
-enter cert section [] draft known none = inl refl
-enter cert section (next ∷ later) draft known none = inr (none_counted cert next draft (order_of section) known.0 (omega (arith, known.1)) none, λ group below. none group (omega (arith, known.1, below)))
+enter : (section : Section) (later : List Section) (draft : Draft) → AreKnown (order_of section + 1) later → HasNoneAfter section draft → (later ≡ []) ⊎ HasReached later draft 0 0
+enter section [] draft known none = inl refl
+enter section (next ∷ later) draft known none = inr (none_counted next draft (order_of section) known.0 (omega (arith, known.1)) none, λ group below. none group (omega (arith, known.1, below)))
 
 -- what a section gives, or else what the later ones give if it may end
 choose : {R : Type 0} (found : Option Due) (ends : Bool) (further : Option Due) (next : Due) → (found ≡ Some next → R) → (further ≡ Some next → R) → or_later found (if ends then further else None) ≡ Some next → R
@@ -114,17 +121,17 @@ choose None true further next here on e = on e
 choose None false further next here on e = absurd (cc)
 
 module _ (cert : Kind) (kind : LineKind) (next : Due) (draft : Draft) where
-  walk : (at lines inner least : ℕ) (rest : List Section) → drop at (sections cert) ≡ rest → AreKnown cert least rest → (rest ≡ []) ⊎ HasReached rest draft lines inner →
+  walk : (at lines inner least : ℕ) (rest : List Section) → drop at (sections cert) ≡ rest → AreKnown least rest → (rest ≡ []) ⊎ HasReached rest draft lines inner →
       after_sections cert at lines inner rest kind ≡ Some next → (kind ≡ k.End) ⊎ IsAllowedIn cert kind next draft
   walk at lines inner least [] there known reached e = inl (over cert at lines inner kind next e)
   walk at lines inner least (section ∷ later) there known (inl none) e = absurd (cc)
   walk at lines inner least (section ∷ later) there known (inr reached) e =
       choose (after_in section cert at lines inner kind) (may_end section lines) (after_sections cert (at + 1) 0 0 later kind) next
       (λ found. inr (record { section = section; later = later; at = at; lines = lines; inner = inner; there = there; known = known.0; counted = reached.0; none = reached.1; allowed = found }))
-      (λ further. walk (at + 1) 0 0 (order_of section + 1) later (sym (drop-drop 1 at (sections cert)) ∙ ap (drop 1) there) known.2 (enter cert section later draft known.2 reached.1) further)
+      (λ further. walk (at + 1) 0 0 (order_of section + 1) later (sym (drop-drop 1 at (sections cert)) ∙ ap (drop 1) there) known.2 (enter section later draft known.2 reached.1) further)
       e
 
-  known_from : (at least : ℕ) (xs : List Section) → AreKnown cert least xs → (other : ℕ) × AreKnown cert other (drop at xs)
+  known_from : (at least : ℕ) (xs : List Section) → AreKnown least xs → (other : ℕ) × AreKnown other (drop at xs)
   known_from at least [] known = (0, rw (drop-nil at) tt)
   known_from zero least (section ∷ later) known = (least, known)
   known_from (suc at) least (section ∷ later) known = known_from at (order_of section + 1) later known.2
@@ -133,53 +140,102 @@ module _ (cert : Kind) (kind : LineKind) (next : Due) (draft : Draft) where
   pub section_of : (at lines inner : ℕ) → HasReached (drop at (sections cert)) draft lines inner → due_after (SectionDue cert at lines inner) kind ≡ Some next → (kind ≡ k.End) ⊎ IsAllowedIn cert kind next draft
   section_of at lines inner reached e = let known = known_from at 0 (sections cert) (all_known cert) in walk at lines inner known.0 (drop at (sections cert)) refl known.1 (inr reached) e
 
--- groups of which a draft has nothing
+-- what follows the last section
+
+-- the last of some sections
+abbrev ends_in : List Section → Option Section
+ends_in [] = None
+ends_in (section ∷ []) = Some section
+ends_in (section ∷ next ∷ later) = ends_in (next ∷ later)
+
+ends_drop : (at : ℕ) (xs : List Section) (section : Section) (later : List Section) → drop at xs ≡ section ∷ later → ends_in (section ∷ later) ≡ ends_in xs
+ends_drop zero xs section later e = ap ends_in (sym e)
+ends_drop (suc at) [] section later e = absurd (cc)
+ends_drop (suc at) (x ∷ []) section later e = let none : [] ≡ section ∷ later = sym (drop-nil at) ∙ e in absurd (cc)
+ends_drop (suc at) (x ∷ next ∷ xs) section later e = ends_drop at (next ∷ xs) section later e
+
+not_end : (group : Group) → is_in group k.End ≡ false
+not_end g.Layer = refl
+not_end group = refl
+
+no_end : (section : Section) (cert : Kind) (at lines inner : ℕ) → after_in section cert at lines inner k.End ≡ None
+no_end (One group) cert at lines inner = rw (not_end group) refl
+no_end (Any group) cert at lines inner = rw (not_end group) refl
+no_end (Few group) cert at lines inner = rw (not_end group) refl
+no_end (Blocks first second) cert at lines inner = rw (not_end first, not_end second) refl
+
+-- a draft has the counts of the last section, which may end, and nothing is due next
+record IsLast (last : Option Section) (draft : Draft) (next : Due) : Type 0 where
+  pub section : Section
+  pub lines : ℕ
+  pub inner : ℕ
+  pub last_is : last ≡ Some section
+  pub counted : IsCounted section draft lines inner
+  pub ends : may_end section lines ≡ true
+  pub next_is : next ≡ NothingDue
+
+reached_on : {R : Type 0} (next : Section) (later : List Section) (draft : Draft) → ((next ∷ later) ≡ []) ⊎ HasReached (next ∷ later) draft 0 0 → (HasReached (next ∷ later) draft 0 0 → R) → R
+reached_on next later draft (inl none) on = absurd (cc)
+reached_on next later draft (inr reached) on = on reached
+
+-- the last line follows the last section
+last_of : (cert : Kind) (next : Due) (draft : Draft) (at lines inner least : ℕ) (rest : List Section) → AreKnown least rest → HasReached rest draft lines inner → after_sections cert at lines inner rest k.End ≡ Some next →
+    IsLast (ends_in rest) draft next
+last_of cert next draft at lines inner least [] known reached e = absurd reached
+last_of cert next draft at lines inner least (section ∷ []) known reached e =
+    let over = passed (may_end section lines) (Some NothingDue) next (rw (no_end section cert at lines inner) at e) in
+    record { section = section; lines = lines; inner = inner; last_is = refl; counted = reached.0; ends = over.0; next_is = some_is NothingDue next over.1 }
+last_of cert next draft at lines inner least (section ∷ after ∷ later) known reached e =
+    let over = passed (may_end section lines) (after_sections cert (at + 1) 0 0 (after ∷ later) k.End) next (rw (no_end section cert at lines inner) at e) in
+    reached_on after later draft (enter section (after ∷ later) draft known.2 reached.1) (λ reached. last_of cert next draft (at + 1) 0 0 (order_of section + 1) (after ∷ later) known.2 reached over.1)
 
 pub nil_if : {X : Type 0} (xs : List X) → length xs ≡ 0 → xs ≡ []
 nil_if [] e = refl
 nil_if (x ∷ xs) e = absurd (omega (arith, e))
 
-pub none_if : (o : Option ℕ) → one_if o ≡ 0 → o ≡ None
+pub none_if : (o : Option ℕ) → length (listed o) ≡ 0 → o ≡ None
 none_if None e = refl
 none_if (Some n) e = absurd (omega (arith, e))
 
-some_if : (o : Option ℕ) → one_if o ≡ 1 → (n : ℕ) × (o ≡ Some n)
+some_if : (o : Option ℕ) → length (listed o) ≡ 1 → (n : ℕ) × (o ≡ Some n)
 some_if None e = absurd (omega (arith, e))
 some_if (Some n) e = (n, refl)
 
-module _ (section : Section) (draft : Draft) (none : HasNoneAfter section draft) where
-  pub no_last : order_of section < 40 → HasNoLast draft
-  no_last below = (none_if draft.reach (none g.Reach (omega (arith, below))), none_if draft.start (none g.Start (omega (arith, below))))
+-- a draft, closed, has the parts of a certificate of a kind
+abbrev pub IsWholeOf : Kind → Draft → Type 0
+IsWholeOf kind draft = (cert : Cert) × (kind_of cert ≡ kind) × (closed draft ≡ parts_of cert)
 
-  pub no_evidence : order_of section < 30 → HasNoEvidence draft
-  no_evidence below = (nil_if draft.items (none g.Item (omega (arith, below))), no_last (omega (arith, below)))
+-- a draft that may end has the parts of a certificate
+whole_of : (kind : Kind) (section : Section) (lines inner : ℕ) (draft : Draft) → HasOnly kind draft → ends_in (sections kind) ≡ Some section → IsCounted section draft lines inner → may_end section lines ≡ true → IsWholeOf kind draft
+whole_of (OfPolicy ByReach) (One g.Reach) lines inner draft only last counted ends =
+    let one : lines ≡ 1 = grind (arith, nat_tests, ends) in
+    let reach = some_if draft.reach (counted ∙ one) in
+    (Policy (all_layers draft) draft.pairs draft.rules reach.0, refl, λ i. record (closed draft) { items = nil_if draft.items (only g.Item refl) i; reach = reach.1 i; start = none_if draft.start (only g.Start refl) i })
+whole_of (OfPolicy ByCover) (One g.Start) lines inner draft only last counted ends =
+    let one : lines ≡ 1 = grind (arith, nat_tests, ends) in
+    let start = some_if draft.start (counted ∙ one) in
+    (Covered (all_layers draft) draft.pairs draft.rules draft.items start.0, refl, λ i. record (closed draft) { reach = none_if draft.reach (only g.Reach refl) i; start = start.1 i })
+whole_of OfRefusal section lines inner draft only last counted ends = (
+  Refusal (all_layers draft),
+  refl,
+  λ i. record (closed draft) {
+    pairs = nil_if draft.pairs (only g.Pair refl) i;
+    rules = nil_if draft.rules (only g.Rule refl) i;
+    items = nil_if draft.items (only g.Item refl) i;
+    reach = none_if draft.reach (only g.Reach refl) i;
+    start = none_if draft.start (only g.Start refl) i;
+  },
+)
+whole_of kind section lines inner draft only last counted ends = absurd (cc)
 
-  pub layers_alone : order_of section < 10 → HasLayersAlone draft
-  layers_alone below = (nil_if draft.pairs (none g.Pair (omega (arith, below))), nil_if draft.rules (none g.Rule (omega (arith, below))), no_evidence (omega (arith, below)))
-
-one_is : (lines : ℕ) (due next : Due) → (if lines == 1 then Some due else None) ≡ Some next → (lines ≡ 1) × (next ≡ due)
-one_is lines due next e =
-    let test = passed (lines == 1) (Some due) next e in
-    let one : lines ≡ 1 = grind (arith, nat_tests, test.0) in
-    (one, some_is due next test.1)
-
--- no place is past all sections
-past : (at lines inner : ℕ) (draft : Draft) → ¬ HasReached (drop at []) draft lines inner
-past at lines inner draft reached = subst (λ xs. HasReached xs draft lines inner) (drop-nil at) reached
-
--- a draft before the last line is whole
-pub before_end : (cert : Kind) (at lines inner : ℕ) (next : Due) (draft : Draft) → HasOnly cert draft → HasReached (drop at (sections cert)) draft lines inner →
-    due_after (SectionDue cert at lines inner) k.End ≡ Some next → IsWholeOf cert draft × (next ≡ NothingDue)
-before_end (OfPolicy ByReach) (suc (suc (suc zero))) lines inner next draft only reached e =
-    let one = one_is lines NothingDue next e in
-    let reach = some_if draft.reach (reached.0 ∙ one.0) in
-    ((reach.0, reach.1, nil_if draft.items (only g.Item refl), none_if draft.start (only g.Start refl)), one.1)
-before_end (OfPolicy ByCover) (suc (suc (suc (suc zero)))) lines inner next draft only reached e =
-    let one = one_is lines NothingDue next e in
-    let start = some_if draft.start (reached.0 ∙ one.0) in
-    ((start.0, start.1, none_if draft.reach (only g.Reach refl)), one.1)
-before_end OfRefusal zero lines inner next draft only reached e = (layers_alone (Blocks g.Layer g.Cube) draft reached.1 (omega arith), some_is NothingDue next e)
-before_end (OfPolicy ByReach) (suc (suc (suc (suc at)))) lines inner next draft only reached e = absurd (past at lines inner draft reached)
-before_end (OfPolicy ByCover) (suc (suc (suc (suc (suc at))))) lines inner next draft only reached e = absurd (past at lines inner draft reached)
-before_end OfRefusal (suc at) lines inner next draft only reached e = absurd (past at lines inner draft reached)
-before_end cert at lines inner next draft only reached e = absurd (cc)
+-- a draft before the last line has all parts of a certificate
+pub before_end : (kind : Kind) (at lines inner : ℕ) (next : Due) (draft : Draft) → HasOnly kind draft → HasReached (drop at (sections kind)) draft lines inner →
+    due_after (SectionDue kind at lines inner) k.End ≡ Some next → IsWholeOf kind draft × (next ≡ NothingDue)
+before_end kind at lines inner next draft only reached e = by (drop at (sections kind)) refl reached e
+  where
+    by : (rest : List Section) → drop at (sections kind) ≡ rest → HasReached rest draft lines inner → after_sections kind at lines inner rest k.End ≡ Some next → IsWholeOf kind draft × (next ≡ NothingDue)
+    by [] there reached e = absurd reached
+    by (section ∷ later) there reached e =
+        let known = known_from kind k.End next draft at 0 (sections kind) (all_known kind) in
+        let last = last_of kind next draft at lines inner known.0 (section ∷ later) (subst (AreKnown known.0) there known.1) reached e in
+        (whole_of kind last.section last.lines last.inner draft only (sym (ends_drop at (sections kind) section later there) ∙ last.last_is) last.counted last.ends, last.next_is)

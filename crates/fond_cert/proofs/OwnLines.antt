@@ -1,9 +1,11 @@
 -- The lines of a certificate that belongs to a task lead from the header to the end, and none is refused.
-use Rattle.std.proofs.Common.{◌≡◌, ◌≢◌, ℕ, ◌+◌, ◌<◌, ◌^◌, ◌∙◌, nat_lt, true, false, List, [], ◌∷◌, ◌++◌, Some, None, All as Each, length, map, drop, refl, sym, ap, arith, append_assoc}
+use Rattle.std.proofs.Common.{◌≡◌, ℕ, ◌+◌, ◌<◌, ◌≤◌, ◌^◌, ◌∙◌, nat_lt, Bool, true, false, List, [], ◌∷◌, ◌++◌, Some, None, All as Each, length, map, drop, get_or, refl, sym, ap, arith, append_assoc}
 use Rattle.std.proofs.lemmas.Bool.Decides.{nat_tests}
 use Rattle.std.proofs.lemmas.List.{drop-drop}
+use Rattle.std.specs.Prelude.{⊤}
 use Rattle.std.specs.List.{flat_map}
-use Rattle.std.proofs.lemmas.List.Elements.{All-head, All-tail}
+use Rattle.std.proofs.lemmas.List.Elements.{All-head, All-tail, All-cons, All-nil}
+use Rattle.std.proofs.lemmas.Option.{slice_get-get_or}
 use Rattle.fond_task.specs.declared.task.Task.{Task}
 use Rattle.fond_game.specs.Layers.{CubeView}
 use Rattle.fond_game.specs.declared.rule.Pair.{Pair}
@@ -30,152 +32,147 @@ use Rattle.fond_cert.specs.declared.due.Group.{Group}
 use Rattle.fond_cert.specs.declared.due.Group.TheVariants as g
 use Rattle.fond_cert.specs.declared.due.Section.{Section}
 use Rattle.fond_cert.specs.declared.due.Section.TheVariants.{One as OneOf, Any, Few, Blocks}
-use Rattle.fond_cert.specs.Drafts.{order, order_of}
+use Rattle.fond_cert.specs.declared.draft.Draft.{Draft}
+use Rattle.fond_cert.specs.Drafts.{order, order_of, count_of, IsEntryOf, AreEntriesOf, IsDraftOf}
 use Rattle.fond_cert.specs.Faults.{Lead}
 use Rattle.fond_cert.specs.Sections.{sections, is_in, after_in, may_end, due_after}
-use Rattle.fond_cert.proofs.Befores.{rank, line_order, IsKnown}
-use Rattle.fond_cert.specs.Items.{IsPairOf, IsRuleOf, IsItemOf}
-use Rattle.fond_cert.specs.Spellings.{Meanings, AreOfTask, spelled_line, cube_line, layer_lines, pair_line, targets_line, rule_line, way_line, item_line, reach_line, start_line, end_line, cert_lines}
+use Rattle.fond_cert.proofs.Befores.{rank, IsKnown, AreKnown, all_known}
+use Rattle.fond_cert.specs.Items.{IsReadPair, IsReadRule, IsReadItem}
+use Rattle.fond_cert.specs.Spellings.{Meanings, AreOfTask, spelled_line, cube_line, layer_lines, targets_line, way_line, end_line, Entry, entry_line, all_layers, entries, lines_then, parts_of, cert_lines}
 use Rattle.fond_cert.specs.Words.{line_refusal}
 use Rattle.fond_cert.proofs.Leads.{few}
 use Rattle.fond_cert.proofs.Meanings.{line_good}
-use Rattle.fond_cert.proofs.Printed.{pairs_of, rules_of, items_of}
+use Rattle.fond_cert.proofs.Wholes.{nothing_of}
 
 -- the rank of the first line
 abbrev pub first_rank : List Line → ℕ
 first_rank [] = 105
 first_rank (line ∷ lines) = rank line.kind
 
--- lines with others after them begin with a line above a rank if both do
-pub above_all : {X : Type 0} (f : X → Line) (least : ℕ) → ((x : X) → least < rank (f x).kind) → (xs : List X) (rest : List Line) → least < first_rank rest → least < first_rank (map f xs ++ rest)
-above_all f least after [] rest above = above
-above_all f least after (x ∷ xs) rest above = after x
-
 -- a line of a kind is allowed where one thing is due, and another is due after it
 abbrev Allows : Due → Due → LineKind → Type 0
 Allows due next kind = due_after due kind ≡ Some next
 
--- a line of a group of another order is not in a group
-not_in : (group : Group) (kind : LineKind) → order group ≢ line_order kind → is_in group kind ≡ false
-not_in g.Layer k.Layer apart = absurd (apart refl)
-not_in g.Cube k.Cube apart = absurd (apart refl)
-not_in g.Pair k.Pair apart = absurd (apart refl)
-not_in g.Rule k.FairRule apart = absurd (apart refl)
-not_in g.Rule k.UnfairRule apart = absurd (apart refl)
-not_in g.Item k.GoalItem apart = absurd (apart refl)
-not_in g.Item k.RuleItem apart = absurd (apart refl)
-not_in g.Reach k.Reach apart = absurd (apart refl)
-not_in g.Start k.Start apart = absurd (apart refl)
-not_in group kind apart = refl
+-- the rank of a line of a group after the layers
+in_order : (group : Group) (kind : LineKind) → 0 < order group → is_in group kind ≡ true → rank kind ≡ order group + 1
+in_order g.Layer kind after is = absurd (omega (arith, after))
+in_order g.Cube kind after is = absurd (omega (arith, after))
+in_order g.Pair k.Pair after is = refl
+in_order g.Rule k.FairRule after is = refl
+in_order g.Rule k.UnfairRule after is = refl
+in_order g.Item k.GoalItem after is = refl
+in_order g.Item k.RuleItem after is = refl
+in_order g.Reach k.Reach after is = refl
+in_order g.Start k.Start after is = refl
+in_order group kind after is = absurd (cc)
+
+-- a line above the rank of a group is not in it
+not_in : (group : Group) (kind : LineKind) → 0 < order group → order group + 1 < rank kind → is_in group kind ≡ false
+not_in group kind after above = by (is_in group kind) refl
+  where
+    by : (found : Bool) → is_in group kind ≡ found → is_in group kind ≡ false
+    by true e = absurd (omega (arith, above, in_order group kind after e))
+    by false e = e
+
+not_layer : (kind : LineKind) → 1 < rank kind → (is_in g.Layer kind ≡ false) × (is_in g.Cube kind ≡ false)
+not_layer k.Layer above = absurd (omega (arith, above))
+not_layer k.Cube above = absurd (omega (arith, above))
+not_layer kind above = (refl, refl)
+
+pub low_order : (group : Group) → order group < 100
+low_order g.Layer = omega arith
+low_order group = omega arith
 
 module _ (task : Task) where
   -- a line is proper and not refused
   abbrev IsGood : Line → Type 0
   IsGood line = IsProper line × (line_refusal task line ≡ None)
 
-  -- a pair belongs to the task, and its numbers are small
-  abbrev pub IsGoodPair : Pair → Type 0
-  IsGoodPair pair = IsPairOf task pair × IsSmallPair pair
+  -- the meanings of pairs, rules and items that were read belong to the task
 
-  -- a rule belongs to the task, and its numbers are small
-  abbrev pub IsGoodRule : Rule → Type 0
-  IsGoodRule rule = IsRuleOf task rule × AreSmallTargets rule.targets
+  pub pair_means : (pair : Pair) → IsReadPair task pair → AreOfTask task (form k.Pair) (pair.act, (pair.outcome, (pair.layer, (pair.cube, (pair.cond, tt)))))
+  pair_means pair h = (h.1, (h.2.0, (h.2.1, (h.2.2, (h.0, tt)))))
 
-  -- an item belongs to the task, and its numbers are small
-  abbrev pub IsGoodItem : Item → Type 0
-  IsGoodItem item = IsItemOf task item × IsSmallWay item.way
+  pub fair_means : (act outcome : ℕ) (target : Target) (cond : CubeView) → IsReadRule task (record { cond = cond; act = act; targets = One outcome target }) → AreOfTask task (form k.FairRule) (act, (outcome, (target, (cond, tt))))
+  fair_means act outcome target cond h = (h.1, (h.3.0, (h.3.1, (h.0, tt))))
 
-  -- the meanings of good pairs, rules and items belong to the task
+  pub unfair_means : (act : ℕ) (targets : List Target) (cond : CubeView) → IsReadRule task (record { cond = cond; act = act; targets = All targets }) → AreOfTask task (form k.UnfairRule) (act, (targets, (cond, tt)))
+  unfair_means act targets cond h = (h.1, ((h.2, h.3), (h.0, tt)))
 
-  pub pair_means : (pair : Pair) → IsGoodPair pair → AreOfTask task (form k.Pair) (pair.act, (pair.outcome, (pair.layer, (pair.cube, (pair.cond, tt)))))
-  pair_means pair h = (h.0.1, (h.1.0, (h.1.1, (h.1.2, (h.0.0, tt)))))
+  pub goal_means : (cube : CubeView) → IsReadItem task (record { cube = cube; way = ToGoal }) → AreOfTask task (form k.GoalItem) (cube, tt)
+  goal_means cube h = (h.0, tt)
 
-  pub fair_means : (act outcome : ℕ) (target : Target) (cond : CubeView) → IsGoodRule (record { cond = cond; act = act; targets = One outcome target }) → AreOfTask task (form k.FairRule) (act, (outcome, (target, (cond, tt))))
-  fair_means act outcome target cond h = (h.0.1, (h.1.0, (h.1.1, (h.0.0, tt))))
+  pub way_means : (rule : ℕ) (numbers : List ℕ) (cube : CubeView) → IsReadItem task (record { cube = cube; way = ByRule rule numbers }) → AreOfTask task (form k.RuleItem) (rule, (numbers, (cube, tt)))
+  way_means rule numbers cube h = (h.2.0, ((h.1, h.2.1), (h.0, tt)))
 
-  pub unfair_means : (act : ℕ) (targets : List Target) (cond : CubeView) → IsGoodRule (record { cond = cond; act = act; targets = All targets }) → AreOfTask task (form k.UnfairRule) (act, (targets, (cond, tt)))
-  unfair_means act targets cond h = (h.0.1, ((h.0.2, h.1), (h.0.0, tt)))
-
-  pub goal_means : (cube : CubeView) → IsGoodItem (record { cube = cube; way = ToGoal }) → AreOfTask task (form k.GoalItem) (cube, tt)
-  goal_means cube h = (h.0.0, tt)
-
-  pub way_means : (rule : ℕ) (numbers : List ℕ) (cube : CubeView) → IsGoodItem (record { cube = cube; way = ByRule rule numbers }) → AreOfTask task (form k.RuleItem) (rule, (numbers, (cube, tt)))
-  way_means rule numbers cube h = (h.1.0, ((h.0.1, h.1.1), (h.0.0, tt)))
-
-  pair_good : (pair : Pair) → IsGoodPair pair → IsGood (pair_line task pair)
-  pair_good pair h = line_good task k.Pair (pair.act, (pair.outcome, (pair.layer, (pair.cube, (pair.cond, tt))))) (pair_means pair h)
-
-  choice_good : (act : ℕ) (targets : Targets) (cond : CubeView) → IsGoodRule (record { cond = cond; act = act; targets = targets }) → IsGood (targets_line task act targets cond)
+  choice_good : (act : ℕ) (targets : Targets) (cond : CubeView) → IsReadRule task (record { cond = cond; act = act; targets = targets }) → IsGood (targets_line task act targets cond)
   choice_good act (One outcome target) cond h = line_good task k.FairRule (act, (outcome, (target, (cond, tt)))) (fair_means act outcome target cond h)
   choice_good act (All targets) cond h = line_good task k.UnfairRule (act, (targets, (cond, tt))) (unfair_means act targets cond h)
 
-  rule_good : (rule : Rule) → IsGoodRule rule → IsGood (rule_line task rule)
-  rule_good rule h = choice_good rule.act rule.targets rule.cond h
-
-  way_good : (way : Way) (cube : CubeView) → IsGoodItem (record { cube = cube; way = way }) → IsGood (way_line task way cube)
+  way_good : (way : Way) (cube : CubeView) → IsReadItem task (record { cube = cube; way = way }) → IsGood (way_line task way cube)
   way_good ToGoal cube h = line_good task k.GoalItem (cube, tt) (goal_means cube h)
   way_good (ByRule rule numbers) cube h = line_good task k.RuleItem (rule, (numbers, (cube, tt))) (way_means rule numbers cube h)
 
-  item_good : (item : Item) → IsGoodItem item → IsGood (item_line task item)
-  item_good item h = way_good item.way item.cube h
+  -- the line of an entry is good
+  entry_good : (group : Group) (entry : Entry group) → IsEntryOf task group entry → IsGood (entry_line task group entry)
+  entry_good g.Layer layer h = line_good task k.Layer (tt, tt) (tt, tt)
+  entry_good g.Cube cube h = line_good task k.Cube (cube, tt) (h, tt)
+  entry_good g.Pair pair h = line_good task k.Pair (pair.act, (pair.outcome, (pair.layer, (pair.cube, (pair.cond, tt))))) (pair_means pair h)
+  entry_good g.Rule rule h = choice_good rule.act rule.targets rule.cond h
+  entry_good g.Item item h = way_good item.way item.cube h
+  entry_good g.Reach reach h = line_good task k.Reach (reach, tt) (h, tt)
+  entry_good g.Start start h = line_good task k.Start (start, tt) (h, tt)
 
-  pub good_pairs : (pairs : List Pair) → BelongAsPairs task pairs → Each IsSmallPair pairs → Each IsGoodPair pairs
-  good_pairs pairs h small k d lt = (pairs_of task pairs h k d lt, small k d lt)
+  choice_in : (act : ℕ) (targets : Targets) (cond : CubeView) → is_in g.Rule (targets_line task act targets cond).kind ≡ true
+  choice_in act (One outcome target) cond = refl
+  choice_in act (All targets) cond = refl
 
-  pub good_rules : (rules : List Rule) → BelongAsRules task rules → Each (λ (rule : Rule). AreSmallTargets rule.targets) rules → Each IsGoodRule rules
-  good_rules rules h small k d lt = (rules_of task rules h k d lt, small k d lt)
+  way_in : (way : Way) (cube : CubeView) → is_in g.Item (way_line task way cube).kind ≡ true
+  way_in ToGoal cube = refl
+  way_in (ByRule number numbers) cube = refl
 
-  pub good_items : (items : List Item) → BelongAsItems task items → Each (λ (item : Item). IsSmallWay item.way) items → Each IsGoodItem items
-  good_items items h small k d lt = (items_of task items h k d lt, small k d lt)
+  -- the line of an entry is in the entry's group
+  entry_in : (group : Group) (entry : Entry group) → is_in group (entry_line task group entry).kind ≡ true
+  entry_in g.Rule rule = choice_in rule.act rule.targets rule.cond
+  entry_in g.Item item = way_in item.way item.cube
+  entry_in group entry = refl
 
-  -- what holds of both kinds of lines of rules, or of items, holds of the kind of the line of each
-
-  choice_kind : (P : LineKind → Type 0) → P k.FairRule → P k.UnfairRule → (act : ℕ) (targets : Targets) (cond : CubeView) → P (targets_line task act targets cond).kind
-  choice_kind P fair unfair act (One outcome target) cond = fair
-  choice_kind P fair unfair act (All targets) cond = unfair
-
-  pub rule_kind : (P : LineKind → Type 0) → P k.FairRule → P k.UnfairRule → (rule : Rule) → P (rule_line task rule).kind
-  rule_kind P fair unfair rule = choice_kind P fair unfair rule.act rule.targets rule.cond
-
-  way_kind : (P : LineKind → Type 0) → P k.GoalItem → P k.RuleItem → (way : Way) (cube : CubeView) → P (way_line task way cube).kind
-  way_kind P goal rule ToGoal cube = goal
-  way_kind P goal rule (ByRule number numbers) cube = rule
-
-  pub item_kind : (P : LineKind → Type 0) → P k.GoalItem → P k.RuleItem → (item : Item) → P (item_line task item).kind
-  item_kind P goal rule item = way_kind P goal rule item.way item.cube
+  pub entry_rank : (group : Group) → 0 < order group → (entry : Entry group) → rank (entry_line task group entry).kind ≡ order group + 1
+  entry_rank group after entry = in_order group (entry_line task group entry).kind after (entry_in group entry)
 
   -- a good line that is allowed, and lines that lead on from it
   good_lead : (due next end : Due) (line : Line) (lines : List Line) → IsGood line → Allows due next line.kind → Lead task next lines end → Lead task due (line ∷ lines) end
   good_lead due next end line lines good allowed lead = (good.0, good.1, (next, allowed, lead))
 
   -- the lines of a section lead to the end if those after them do, which begin with a line of a later section
-  module _ (cert : Kind) (at : ℕ) (section : Section) (later : List Section) (there : drop at (sections cert) ≡ section ∷ later) (known : IsKnown cert section) where
-    not_taken : (section : Section) (lines inner : ℕ) (kind : LineKind) → IsKnown cert section → order_of section < line_order kind → after_in section cert at lines inner kind ≡ None
-    not_taken (OneOf group) lines inner kind known after = rw (not_in group kind (λ same. omega (arith, after, same))) refl
-    not_taken (Any group) lines inner kind known after = rw (not_in group kind (λ same. omega (arith, after, same))) refl
-    not_taken (Few group) lines inner kind known after = rw (not_in group kind (λ same. omega (arith, after, same))) refl
-    not_taken (Blocks g.Layer g.Cube) lines inner kind known after = rw (not_in g.Layer kind (λ same. omega (arith, after, same)), not_in g.Cube kind (λ same. omega (arith, after, same))) refl
-    not_taken (Blocks first second) lines inner kind known after = absurd known
+  module _ (cert : Kind) (at : ℕ) (section : Section) (later : List Section) (there : drop at (sections cert) ≡ section ∷ later) (known : IsKnown section) where
+    not_taken : (section : Section) (lines inner : ℕ) (kind : LineKind) → IsKnown section → order_of section + 1 < rank kind → after_in section cert at lines inner kind ≡ None
+    not_taken (OneOf group) lines inner kind known above = rw (not_in group kind known.0 above) refl
+    not_taken (Any group) lines inner kind known above = rw (not_in group kind known.0 above) refl
+    not_taken (Few group) lines inner kind known above = rw (not_in group kind known.0 above) refl
+    not_taken (Blocks g.Layer g.Cube) lines inner kind known above = let apart = not_layer kind above in rw (apart.0, apart.1) refl
+    not_taken (Blocks first second) lines inner kind known above = absurd known
 
     skip : (lines inner : ℕ) (rest : List Line) → may_end section lines ≡ true → order_of section + 1 < first_rank rest → Lead task (SectionDue cert (at + 1) 0 0) rest NothingDue → Lead task (SectionDue cert at lines inner) rest NothingDue
     skip lines inner [] ends above lead = absurd (cc)
     skip lines inner (line ∷ rest) ends above lead =
         let tail : drop (at + 1) (sections cert) ≡ later = sym (drop-drop 1 at (sections cert)) ∙ ap (drop 1) there in
-        let same : due_after (SectionDue cert at lines inner) line.kind ≡ due_after (SectionDue cert (at + 1) 0 0) line.kind = rw (there, tail, not_taken section lines inner line.kind known (omega (arith, above)), ends) refl in
+        let same : due_after (SectionDue cert at lines inner) line.kind ≡ due_after (SectionDue cert (at + 1) 0 0) line.kind = rw (there, tail, not_taken section lines inner line.kind known above, ends) refl in
         (lead.0, lead.1, (lead.2.0, same ∙ lead.2.1, lead.2.2))
 
     takes : (lines inner : ℕ) (next : Due) (line : Line) (rest : List Line) → IsGood line → after_in section cert at lines inner line.kind ≡ Some next → Lead task next rest NothingDue → Lead task (SectionDue cert at lines inner) (line ∷ rest) NothingDue
     takes lines inner next line rest good allowed lead = good_lead (SectionDue cert at lines inner) next NothingDue line rest good (rw (there, allowed) refl) lead
 
-    -- lines after each of which this many are counted; there are fewer than a bound
-    module _ {X : Type 0} (Fits : X → Type 0) (f : X → Line) (good : (x : X) → Fits x → IsGood (f x)) (counts : ℕ → ℕ) (bound : ℕ) (ends : (lines : ℕ) → may_end section lines ≡ true)
-        (next : (x : X) (count : ℕ) → count + 1 < bound → after_in section cert at (counts count) 0 (f x).kind ≡ Some (SectionDue cert at (counts (count + 1)) 0)) where
-      lines_lead : (count : ℕ) (xs : List X) (rest : List Line) → count + length xs < bound → Each Fits xs → order_of section + 1 < first_rank rest → Lead task (SectionDue cert (at + 1) 0 0) rest NothingDue →
-          Lead task (SectionDue cert at (counts count) 0) (map f xs ++ rest) NothingDue
-      lines_lead count [] rest room h above lead = skip (counts count) 0 rest (ends (counts count)) above lead
-      lines_lead count (x ∷ xs) rest room h above lead =
-          takes (counts count) 0 (SectionDue cert at (counts (count + 1)) 0) (f x) (map f xs ++ rest) (good x (All-head Fits x xs h)) (next x count (omega (arith, room)))
-          (lines_lead (count + 1) xs rest (omega (arith, room)) (All-tail Fits x xs h) above lead)
+    -- lines of entries after each of which this many are counted; there are fewer than a bound
+    module _ (group : Group) (counts : ℕ → ℕ) (bound : ℕ) (ends : (lines : ℕ) → may_end section lines ≡ true)
+        (next : (kind : LineKind) (count : ℕ) → is_in group kind ≡ true → count + 1 < bound → after_in section cert at (counts count) 0 kind ≡ Some (SectionDue cert at (counts (count + 1)) 0)) where
+      entries_lead : (count : ℕ) (xs : List (Entry group)) (rest : List Line) → count + length xs < bound → Each (IsEntryOf task group) xs → order_of section + 1 < first_rank rest → Lead task (SectionDue cert (at + 1) 0 0) rest NothingDue →
+          Lead task (SectionDue cert at (counts count) 0) (map (entry_line task group) xs ++ rest) NothingDue
+      entries_lead count [] rest small h above lead = skip (counts count) 0 rest (ends (counts count)) above lead
+      entries_lead count (x ∷ xs) rest small h above lead =
+          takes (counts count) 0 (SectionDue cert at (counts (count + 1)) 0) (entry_line task group x) (map (entry_line task group) xs ++ rest) (entry_good group x (All-head (IsEntryOf task group) x xs h))
+          (next (entry_line task group x).kind count (entry_in group x) (omega (arith, small)))
+          (entries_lead (count + 1) xs rest (omega (arith, small)) (All-tail (IsEntryOf task group) x xs h) above lead)
 
   abbrev IsCubeOf : CubeView → Type 0
   IsCubeOf cube = length cube ≡ length task.atoms
@@ -207,48 +204,105 @@ module _ (task : Task) where
     layers_first : (layers : List (List CubeView)) (rest : List Line) → BelongAsLayers task layers → 1 < first_rank rest → Lead task (SectionDue cert 1 0 0) rest NothingDue → Lead task (SectionDue cert 0 0 0) (flat_map (layer_lines task) layers ++ rest) NothingDue
     layers_first layers rest h above lead = layers_lead 0 0 layers rest (omega (arith, h.few)) (λ k d lt. (h.few_cubes k d lt, h.over k d lt)) above lead
 
-    -- the lines of layers, pairs and rules lead to the end if those after them do
-    plan_lead : (layers : List (List CubeView)) (pairs : List Pair) (rules : List Rule) (rest : List Line) (last : List Section) → later ≡ Any g.Pair ∷ Few g.Rule ∷ last → BelongAsLayers task layers → Each IsGoodPair pairs →
-        length rules < 2 ^ 32 → Each IsGoodRule rules → 21 < first_rank rest → Lead task (SectionDue cert 3 0 0) rest NothingDue →
-        Lead task (SectionDue cert 0 0 0) (flat_map (layer_lines task) layers ++ (map (pair_line task) pairs ++ (map (rule_line task) rules ++ rest))) NothingDue
-    plan_lead layers pairs rules rest last is in_layers in_pairs room in_rules above lead =
-        let of_rules =
-        lines_lead cert 2 (Few g.Rule) last (ap (drop 2) there ∙ ap (drop 1) is) tt IsGoodRule (rule_line task) rule_good (λ count. count) (2 ^ 32) (λ lines. refl)
-        (λ rule count more. let one = few (count + 1) (SectionDue cert 2 (count + 1) 0) more in rule_kind (λ kind. after_in (Few g.Rule) cert 2 count 0 kind ≡ Some (SectionDue cert 2 (count + 1) 0)) one one rule) 0 rules rest (omega (arith, room)) in_rules above lead
-        in
-        let after_pairs = above_all (rule_line task) 11 (rule_kind (λ kind. 11 < rank kind) (omega arith) (omega arith)) rules rest (omega (arith, above)) in
-        let of_pairs =
-        lines_lead cert 1 (Any g.Pair) (Few g.Rule ∷ last) (ap (drop 1) there ∙ is) tt IsGoodPair (pair_line task) pair_good (λ count. 0) (length pairs + 1) (λ lines. refl) (λ pair count more. refl) 0 pairs (map (rule_line task) rules ++ rest)
-        (omega arith) in_pairs after_pairs of_rules
-        in
-        layers_first layers (map (pair_line task) pairs ++ (map (rule_line task) rules ++ rest)) in_layers (above_all (pair_line task) 1 (λ pair. omega arith) pairs (map (rule_line task) rules ++ rest) (omega (arith, after_pairs))) of_pairs
-
   end_lead : (due : Due) → Allows due NothingDue k.End → Lead task due (end_line task ∷ []) NothingDue
   end_lead due allowed = good_lead due NothingDue NothingDue (end_line task) [] (line_good task k.End (tt, tt) (tt, tt)) allowed refl
 
-  last_lead : (cert : Kind) (at : ℕ) (line : Line) → IsGood line → Allows (SectionDue cert at 0 0) (SectionDue cert at 1 0) line.kind → Allows (SectionDue cert at 1 0) NothingDue k.End →
-      Lead task (SectionDue cert at 0 0) (line ∷ end_line task ∷ []) NothingDue
-  last_lead cert at line good allowed ends = good_lead (SectionDue cert at 0 0) (SectionDue cert at 1 0) NothingDue line (end_line task ∷ []) good allowed (end_lead (SectionDue cert at 1 0) ends)
+  -- lines of entries with others after them begin with a line above a rank if the others do
+  first_above : (group : Group) (least : ℕ) (xs : List (Entry group)) (rest : List Line) → 0 < order group → least ≤ order group → least < first_rank rest → least < first_rank (map (entry_line task group) xs ++ rest)
+  first_above group least [] rest after below above = above
+  first_above group least (x ∷ xs) rest after below above = omega (arith, entry_rank group after x, below)
+
+  -- the lines of sections begin with one above the rank of those before them
+  pub sections_above : (draft : Draft) (least : ℕ) (rest : List Section) → AreKnown least rest → 0 < least → least ≤ 100 → least < first_rank (lines_then task draft rest (end_line task ∷ []))
+  sections_above draft least [] known some low = omega (arith, low)
+  sections_above draft least (OneOf group ∷ later) known some low = first_above group least (entries group draft) _ known.0.0 known.1 (omega (arith, known.1, sections_above draft (order group + 1) later known.2 (omega arith) (omega (arith, low_order group))))
+  sections_above draft least (Any group ∷ later) known some low = first_above group least (entries group draft) _ known.0.0 known.1 (omega (arith, known.1, sections_above draft (order group + 1) later known.2 (omega arith) (omega (arith, low_order group))))
+  sections_above draft least (Few group ∷ later) known some low = first_above group least (entries group draft) _ known.0.0 known.1 (omega (arith, known.1, sections_above draft (order group + 1) later known.2 (omega arith) (omega (arith, low_order group))))
+  sections_above draft least (Blocks g.Layer g.Cube ∷ later) known some low = absurd (omega (arith, some, known.1))
+  sections_above draft least (Blocks first second ∷ later) known some low = absurd known.0
+
+  -- a draft has one number of each group of which there is one
+  abbrev HasSingles : Draft → List Section → Type 0
+  HasSingles draft [] = ⊤
+  HasSingles draft (OneOf group ∷ later) = (count_of group draft ≡ 1) × HasSingles draft later
+  HasSingles draft (section ∷ later) = HasSingles draft later
+
+  module _ (draft : Draft) (own : IsDraftOf task draft) (cert : Kind) where
+    -- the lines of sections lead to the end
+    sections_lead : (at least : ℕ) (rest : List Section) → drop at (sections cert) ≡ rest → AreKnown least rest → 0 < least → HasSingles draft rest → Lead task (SectionDue cert at 0 0) (lines_then task draft rest (end_line task ∷ [])) NothingDue
+    sections_lead at least [] there known some singles = end_lead (SectionDue cert at 0 0) (rw there refl)
+    sections_lead at least (OneOf group ∷ later) there known some singles =
+        one (entries group draft) (own.parts group known.0.0).0 singles.0 (sections_above draft (order group + 1) later known.2 (omega arith) (omega (arith, low_order group)))
+        (sections_lead (at + 1) (order group + 1) later (sym (drop-drop 1 at (sections cert)) ∙ ap (drop 1) there) known.2 (omega arith) singles.1)
+      where
+        one : (xs : List (Entry group)) → Each (IsEntryOf task group) xs → length xs ≡ 1 → order group + 1 < first_rank (lines_then task draft later (end_line task ∷ [])) → Lead task (SectionDue cert (at + 1) 0 0) (lines_then task draft later (end_line task ∷ [])) NothingDue →
+            Lead task (SectionDue cert at 0 0) (map (entry_line task group) xs ++ lines_then task draft later (end_line task ∷ [])) NothingDue
+        one [] h single above lead = absurd (omega (arith, single))
+        one (x ∷ []) h single above lead =
+            takes cert at (OneOf group) later there known.0 0 0 (SectionDue cert at 1 0) (entry_line task group x) _ (entry_good group x (All-head (IsEntryOf task group) x [] h)) (rw (entry_in group x) refl)
+            (skip cert at (OneOf group) later there known.0 1 0 _ refl above lead)
+        one (x ∷ y ∷ xs) h single above lead = absurd (omega (arith, single))
+    sections_lead at least (Any group ∷ later) there known some singles =
+        entries_lead cert at (Any group) later there known.0 group (λ count. 0) (length (entries group draft) + 1) (λ lines. refl) (λ kind count is more. rw is refl) 0 (entries group draft) _ (omega arith) (own.parts group known.0.0).0
+        (sections_above draft (order group + 1) later known.2 (omega arith) (omega (arith, low_order group))) (sections_lead (at + 1) (order group + 1) later (sym (drop-drop 1 at (sections cert)) ∙ ap (drop 1) there) known.2 (omega arith) singles)
+    sections_lead at least (Few group ∷ later) there known some singles =
+        entries_lead cert at (Few group) later there known.0 group (λ count. count) (2 ^ 32) (λ lines. refl) (λ kind count is more. rw is (few (count + 1) (SectionDue cert at (count + 1) 0) more)) 0 (entries group draft) _ (omega (arith, (own.parts group known.0.0).1 known.0.2)) (own.parts group known.0.0).0
+        (sections_above draft (order group + 1) later known.2 (omega arith) (omega (arith, low_order group))) (sections_lead (at + 1) (order group + 1) later (sym (drop-drop 1 at (sections cert)) ∙ ap (drop 1) there) known.2 (omega arith) singles)
+    sections_lead at least (Blocks g.Layer g.Cube ∷ later) there known some singles = absurd (omega (arith, some, known.1))
+    sections_lead at least (Blocks first second ∷ later) there known some singles = absurd known.0
+
+    -- the lines of layers and of later sections lead to the end
+    all_lead : (later : List Section) → sections cert ≡ Blocks g.Layer g.Cube ∷ later → AreKnown 1 later → HasSingles draft later → Lead task (SectionDue cert 0 0 0) (flat_map (layer_lines task) (all_layers draft) ++ lines_then task draft later (end_line task ∷ [])) NothingDue
+    all_lead later there known singles =
+        layers_first cert later there (all_layers draft) _ own.layers (sections_above draft 1 later known (omega arith) (omega arith)) (sections_lead 1 1 later (ap (drop 1) there) known (omega arith) singles)
 
   header_lead : (kind : LineKind) (meanings : Meanings (form kind)) (cert : Kind) (lines : List Line) → AreOfTask task (form kind) meanings → Allows HeaderDue (SectionDue cert 0 0 0) kind →
       Lead task (SectionDue cert 0 0 0) lines NothingDue → Lead task HeaderDue (spelled_line task kind meanings ∷ lines) NothingDue
   header_lead kind meanings cert lines of allowed lead = good_lead HeaderDue (SectionDue cert 0 0 0) NothingDue (spelled_line task kind meanings) lines (line_good task kind meanings of) allowed lead
 
+  -- the entries of a certificate that belongs to a task
+
+  of_pairs : (pairs : List Pair) → BelongAsPairs task pairs → Each IsSmallPair pairs → AreEntriesOf task g.Pair pairs
+  of_pairs pairs h small = (λ k d lt. (h.over k d lt, h.there k d lt, small k d lt), λ is. absurd (cc))
+
+  of_rules : (rules : List Rule) → BelongAsRules task rules → Each (λ (rule : Rule). AreSmallTargets rule.targets) rules → AreEntriesOf task g.Rule rules
+  of_rules rules h small = (λ k d lt. (h.belong.over k d lt, h.belong.there k d lt, h.targeted k d lt, small k d lt), λ is. h.few)
+
+  of_items : (items : List Item) → BelongAsItems task items → Each (λ (item : Item). IsSmallWay item.way) items → AreEntriesOf task g.Item items
+  of_items items h small = (λ k d lt. (h.over k (get_or items k d) (slice_get-get_or items k d lt), h.numbered k d lt, small k d lt), λ is. h.few)
+
+  of_number : (group : Group) (number : Entry group) → IsEntryOf task group number → AreEntriesOf task group (number ∷ [])
+  of_number group number h = (All-cons (IsEntryOf task group) number [] h (All-nil (IsEntryOf task group)), λ is. omega arith)
+
+  pub parts_belong : (cert : Cert) → Belongs task cert → HasSmallNumbers cert → IsDraftOf task (parts_of cert)
+  parts_belong (Policy layers pairs rules reach) h small = record { layers = h.0; parts = parts }
+    where
+      parts : (group : Group) → 0 < order group → AreEntriesOf task group (entries group (parts_of (Policy layers pairs rules reach)))
+      parts g.Layer after = absurd (omega (arith, after))
+      parts g.Pair after = of_pairs pairs h.1 small.0
+      parts g.Rule after = of_rules rules h.2 small.1
+      parts g.Reach after = of_number g.Reach reach small.2
+      parts group after = nothing_of task group after
+  parts_belong (Refusal layers) h small = record { layers = h; parts = parts }
+    where
+      parts : (group : Group) → 0 < order group → AreEntriesOf task group (entries group (parts_of (Refusal layers)))
+      parts g.Layer after = absurd (omega (arith, after))
+      parts group after = nothing_of task group after
+  parts_belong (Covered layers pairs rules items start) h small = record { layers = h.0; parts = parts }
+    where
+      parts : (group : Group) → 0 < order group → AreEntriesOf task group (entries group (parts_of (Covered layers pairs rules items start)))
+      parts g.Layer after = absurd (omega (arith, after))
+      parts g.Pair after = of_pairs pairs h.1 small.0
+      parts g.Rule after = of_rules rules h.2 small.1
+      parts g.Item after = of_items items h.3 small.2
+      parts g.Start after = of_number g.Start start small.3
+      parts group after = nothing_of task group after
+
   -- the lines of a certificate lead from the header to the end
   pub cert_leads : (cert : Cert) → Belongs task cert → HasSmallNumbers cert → Lead task HeaderDue (cert_lines task cert) NothingDue
-  cert_leads (Policy layers pairs rules reach) h small =
-      let last = last_lead (OfPolicy ByReach) 3 (reach_line task reach) (line_good task k.Reach (reach, tt) (small.2, tt)) refl refl in
-      header_lead k.PolicyHeader (tt, tt) (OfPolicy ByReach) _ (tt, tt) refl
-      (plan_lead (OfPolicy ByReach) _ refl layers pairs rules (reach_line task reach ∷ end_line task ∷ []) _ refl h.0 (good_pairs pairs h.1 small.0) h.2.few (good_rules rules h.2 small.1) (omega arith) last)
-  cert_leads (Refusal layers) h small =
-      header_lead k.RefusalHeader (tt, tt) OfRefusal _ (tt, tt) refl (layers_first OfRefusal _ refl layers (end_line task ∷ []) h (omega arith) (end_lead (SectionDue OfRefusal 1 0 0) refl))
-  cert_leads (Covered layers pairs rules items start) h small =
-      let last = last_lead (OfPolicy ByCover) 4 (start_line task start) (line_good task k.Start (start, tt) (small.3, tt)) refl refl in
-      let of_items =
-      lines_lead (OfPolicy ByCover) 3 (Few g.Item) (OneOf g.Start ∷ []) refl tt IsGoodItem (item_line task) item_good (λ count. count) (2 ^ 32) (λ lines. refl)
-      (λ item count more. let one = few (count + 1) (SectionDue (OfPolicy ByCover) 3 (count + 1) 0) more in item_kind (λ kind. after_in (Few g.Item) (OfPolicy ByCover) 3 count 0 kind ≡ Some (SectionDue (OfPolicy ByCover) 3 (count + 1) 0)) one one item)
-      0 items (start_line task start ∷ end_line task ∷ []) (omega (arith, h.3.few)) (good_items items h.3 small.2) (omega arith) last
-      in
-      header_lead k.CoverHeader (tt, tt) (OfPolicy ByCover) _ (tt, tt) refl
-      (plan_lead (OfPolicy ByCover) _ refl layers pairs rules (map (item_line task) items ++ (start_line task start ∷ end_line task ∷ [])) _ refl h.0 (good_pairs pairs h.1 small.0) h.2.few (good_rules rules h.2 small.1)
-      (above_all (item_line task) 21 (item_kind (λ kind. 21 < rank kind) (omega arith) (omega arith)) items (start_line task start ∷ end_line task ∷ []) (omega arith)) of_items)
+  cert_leads cert h small = by cert (parts_belong cert h small)
+    where
+      by : (cert : Cert) → IsDraftOf task (parts_of cert) → Lead task HeaderDue (cert_lines task cert) NothingDue
+      by (Policy layers pairs rules reach) own = header_lead k.PolicyHeader (tt, tt) (OfPolicy ByReach) _ (tt, tt) refl (all_lead _ own (OfPolicy ByReach) _ refl (all_known (OfPolicy ByReach)).2 (refl, tt))
+      by (Refusal layers) own = header_lead k.RefusalHeader (tt, tt) OfRefusal _ (tt, tt) refl (all_lead _ own OfRefusal _ refl (all_known OfRefusal).2 tt)
+      by (Covered layers pairs rules items start) own = header_lead k.CoverHeader (tt, tt) (OfPolicy ByCover) _ (tt, tt) refl (all_lead _ own (OfPolicy ByCover) _ refl (all_known (OfPolicy ByCover)).2 (refl, tt))

@@ -1,12 +1,11 @@
 -- What is printed is how certificates are written.
-use Rattle.std.proofs.Common.{◌≡◌, ℕ, ◌+◌, ◌<◌, ◌≤◌, length, zero, suc, Bool, List, [], ◌∷◌, ◌++◌, Option, Some, None, map, codes, refl, sym, ap, ◌∙◌, arith, append_assoc, drop, get_or, All as Each}
+use Rattle.std.proofs.Common.{◌≡◌, ℕ, ◌+◌, ◌<◌, ◌≤◌, length, zero, suc, Bool, List, [], ◌∷◌, ◌++◌, Option, Some, None, map, codes, refl, sym, ap, ◌∙◌, arith, append_assoc, drop, get_or}
 use Rattle.std.specs.Prelude.{slice_get}
 use Rattle.std.specs.Fmt.{decimal}
 use Rattle.std.specs.List.{filter_map, flat_map, enumerate_from, cons_option}
 use Rattle.std.specs.Option.{option_map, option_map_or}
 use Rattle.std.proofs.lemmas.Grind.{flat_map-append}
 use Rattle.std.proofs.lemmas.List.{at_drop_more}
-use Rattle.std.proofs.lemmas.Option.{slice_get-get_or}
 use Rattle.fond_text.specs.declared.atom.Atom.{Atom}
 use Rattle.fond_task.specs.declared.task.Act.{Act}
 use Rattle.fond_task.specs.declared.task.Labels.{Labels}
@@ -22,11 +21,9 @@ use Rattle.fond_cover.specs.declared.item.Item.{Item}
 use Rattle.fond_cover.specs.declared.item.Way.{Way}
 use Rattle.fond_cover.specs.declared.item.Way.TheVariants.{Goal as ToGoal, Rule as ByRule}
 use Rattle.fond_policy.specs.declared.cert.Cert.TheVariants.{Policy, Refusal, Covered}
-use Rattle.fond_policy.specs.Belongs.{BelongAsPairs, BelongAsRules, BelongAsItems}
-use Rattle.fond_cert.specs.Items.{IsPairOf, IsRuleOf, IsItemOf}
 use Rattle.fond_form.specs.Lines.{group_text, spaced, WrittenLiteral, sign_text, literals_text}
 use Rattle.fond_form.specs.Forms.{Field, text_of, form, value_text, Values, fields_text, Line}
-use Rattle.fond_cert.specs.Printed.{atom_literal_text, cube_text, fed, chosen_text, cond_text, pair_text, rule_text, way_text, item_text, layer_text, plan_text, policy_text, items_text, cover_text, refusal_text}
+use Rattle.fond_cert.specs.Printed.{atom_literal_text, cube_text, fed, chosen_text, cond_text, pair_text, rule_text, way_text, item_text, plan_text, policy_text, items_text, cover_text, refusal_text}
 use Rattle.fond_cert.specs.Spellings.{action_leaves, act_leaves, written_literal, written_cube, target_word, targets_line, layer_lines, pair_line, rule_line, way_line, item_line, reach_line, start_line, end_line, lines_text, spelling}
 use Rattle.fond_cert.proofs.Acts.{leaves_text as action_leaves_text}
 use Rattle.fond_cert.proofs.CubeTexts.{leaves_text}
@@ -146,12 +143,3 @@ pub refusal_is : (task : Task) (layers : List (List CubeView)) → refusal_text 
 refusal_is task layers =
     ap (λ u. codes "dualfond 1 refusal\n" ++ u)
     (ap (λ t. t ++ codes "end\n") (sym (several_lines (layer_lines task) layers)) ∙ sym (lines_append (flat_map (layer_lines task) layers) (end_line task ∷ [])))
-
-pub pairs_of : (task : Task) (pairs : List Pair) → BelongAsPairs task pairs → Each (IsPairOf task) pairs
-pairs_of task pairs h = λ k d lt. (h.over k d lt, h.there k d lt)
-
-pub rules_of : (task : Task) (rules : List Rule) → BelongAsRules task rules → Each (IsRuleOf task) rules
-rules_of task rules h = λ k d lt. (h.belong.over k d lt, h.belong.there k d lt, h.targeted k d lt)
-
-pub items_of : (task : Task) (items : List Item) → BelongAsItems task items → Each (IsItemOf task) items
-items_of task items h = λ k d lt. (h.over k (get_or items k d) (slice_get-get_or items k d lt), h.numbered k d lt)

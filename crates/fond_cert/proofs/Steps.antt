@@ -1,6 +1,6 @@
 -- Drafts after a line.
-use Rattle.std.proofs.Common.{◌≡◌, ◌≢◌, ◌⊎◌, inl, inr, ℕ, zero, suc, ◌+◌, ◌-◌, ◌<◌, ◌^◌, ◌==◌, nat_lt, nat_eq, true, List, [], ◌∷◌, ◌++◌, All, Option, Some, None, length, drop, refl, sym, ap, ◌∙◌, subst, arith, length-append, append_assoc}
-use Rattle.std.specs.Prelude.{IfSome}
+use Rattle.std.proofs.Common.{◌≡◌, ◌≢◌, ◌⊎◌, inl, inr, ℕ, zero, suc, ◌+◌, ◌-◌, ◌<◌, ◌^◌, ◌==◌, ◌&&◌, ◌≤◌, nat_lt, nat_eq, Bool, true, false, List, [], ◌∷◌, ◌++◌, All, Option, Some, None, length, drop, map, flat_map, refl, sym, ap, ◌∙◌, subst, arith, length-append, append_assoc}
+use Rattle.std.specs.Prelude.{⊤}
 use Rattle.std.proofs.Math.Bool.{or-true}
 use Rattle.std.proofs.Math.Seq.{drop-nil}
 use Rattle.std.proofs.lemmas.Bool.Decides.{nat_tests}
@@ -9,17 +9,14 @@ use Rattle.std.proofs.lemmas.Grind.{flat_map-append}
 use Rattle.std.proofs.lemmas.List.{append-nil, map-append}
 use Rattle.std.proofs.lemmas.List.Elements.{All-head, All-tail, All-cons, All-nil, All-append}
 use Rattle.fond_task.specs.declared.task.Task.{Task}
-use Rattle.fond_game.specs.declared.rule.Pair.{Pair as OnePair}
-use Rattle.fond_game.specs.declared.rule.Rule.{Rule}
 use Rattle.fond_game.specs.Layers.{CubeView}
 use Rattle.fond_layers.specs.Over.{IsOver, AreOver}
-use Rattle.fond_cover.specs.declared.item.Item.{Item}
 use Rattle.fond_cert.specs.declared.draft.Draft.{Draft}
 use Rattle.fond_form.specs.declared.table.LineKind.{LineKind}
 use Rattle.fond_form.specs.declared.table.LineKind.TheVariants as k
 use Rattle.fond_form.specs.Forms.{form, Line}
 use Rattle.fond_policy.specs.Belongs.{BelongAsLayers}
-use Rattle.fond_cert.specs.Drafts.{opened, all_layers, draft_lines, IsDraftOf, with_open, closed, grown, with_pair, with_rule, with_item, with_reach, with_start, no_parts, header, HasNoLast, HasNoEvidence, HasLayersAlone, IsWholeOf, count_of, order, order_of, has_order, HasOnly, HasNoneAfter, IsCounted, HasReached, FitsDue, HasRoom}
+use Rattle.fond_cert.specs.Drafts.{draft_lines, IsEntryOf, AreEntriesOf, IsDraftOf, closed, with_entry, grown, is_few, count_of, order, order_of, has_order, HasOnly, HasNoneAfter, IsCounted, HasReached, FitsDue, HasRoom}
 use Rattle.fond_cert.specs.declared.due.Evidence.TheVariants.{Reach as ByReach, Cover as ByCover}
 use Rattle.fond_cert.specs.declared.due.Kind.{Kind}
 use Rattle.fond_cert.specs.declared.due.Kind.TheVariants.{Policy as OfPolicy, Refusal as OfRefusal}
@@ -29,11 +26,10 @@ use Rattle.fond_cert.specs.declared.due.Group.{Group}
 use Rattle.fond_cert.specs.declared.due.Group.TheVariants as g
 use Rattle.fond_cert.specs.declared.due.Section.{Section}
 use Rattle.fond_cert.specs.declared.due.Section.TheVariants.{One, Any, Few, Blocks}
-use Rattle.fond_cert.specs.Sections.{sections, after_in, due_after}
-use Rattle.fond_cert.specs.Items.{IsReadPair, IsReadRule, IsReadItem}
+use Rattle.fond_cert.specs.Sections.{sections, is_in, after_in, due_after}
 use Rattle.fond_cert.specs.Filled.{pair_of, fair_of, unfair_of, goal_item_of, rule_item_of}
-use Rattle.fond_cert.specs.Spellings.{Meanings, AreOfTask, spelled_line, cube_line, pair_line, rule_line, item_line, reach_line, start_line, end_line}
-use Rattle.fond_cert.proofs.Befores.{line_order, some_is, passed, few_is, IsKnown, IsAllowedIn, section_of, nil_if, none_if, no_last, no_evidence, layers_alone, before_end}
+use Rattle.fond_cert.specs.Spellings.{Meanings, AreOfTask, spelled_line, cube_line, layer_lines, end_line, Entry, entry_line, with_opened, all_layers, entries, section_lines, lines_then, header, no_parts, kind_of}
+use Rattle.fond_cert.proofs.Befores.{some_is, passed, few_is, is_single, IsKnown, AreKnown, all_known, IsAllowedIn, IsWholeOf, section_of, nil_if, none_if, before_end}
 
 -- after a line, a draft fits what is due, with one more line
 pub record IsStepped (task : Task) (own : Line) (next : Due) (after : Draft) (lines : List Line) : Type 0 where
@@ -54,46 +50,21 @@ all_more P xs y h k = All-append P xs (y ∷ []) h (All-cons P y [] k (All-nil P
 one_more : {X : Type 0} (xs : List X) (y : X) → length (xs ++ (y ∷ [])) ≡ length xs + 1
 one_more xs y = length-append xs (y ∷ [])
 
-module _ (task : Task) (draft : Draft) where
-  closed_layers : all_layers (closed draft) ≡ all_layers draft
-  closed_layers = append-nil (all_layers draft)
+both_true : (a b : Bool) → (a && b) ≡ true → (a ≡ true) × (b ≡ true)
+both_true true b e = (refl, e)
+both_true false b e = absurd (cc)
 
-  closed_lines : draft_lines task (closed draft) ≡ draft_lines task draft
-  closed_lines = simp append-nil
+-- groups after the layers do not depend on these
+apart : (draft : Draft) (layers : List (List CubeView)) (current : Option (List CubeView)) (group : Group) → 0 < order group → entries group (record draft { layers = layers; current = current }) ≡ entries group draft
+apart draft layers current g.Layer after = absurd (omega (arith, after))
+apart draft layers current g.Cube after = absurd (omega (arith, after))
+apart draft layers current group after = refl
 
-  closed_draft : IsDraftOf task draft → IsDraftOf task (closed draft)
-  closed_draft h = record {
-    layers = subst (BelongAsLayers task) (sym closed_layers) h.layers;
-    pairs = h.pairs;
-    rules = h.rules;
-    few = h.few;
-    items = h.items;
-    few_items = h.few_items;
-    reach = h.reach;
-    start = h.start;
-  }
+with_layers : (task : Task) (draft : Draft) (layers : List (List CubeView)) (current : Option (List CubeView)) → BelongAsLayers task (with_opened layers current) → IsDraftOf task draft → IsDraftOf task (record draft { layers = layers; current = current })
+with_layers task draft layers current belong own = record { layers = belong; parts = λ group after. subst (AreEntriesOf task group) (sym (apart draft layers current group after)) (own.parts group after) }
 
-  layer_more : HasLayersAlone draft → draft_lines task (with_open (closed draft) (Some [])) ≡ draft_lines task draft ++ (spelled_line task k.Layer (tt, tt) ∷ [])
-  layer_more h = rw (h.0, h.1, h.2.0, h.2.1.0, h.2.1.1) (simp (flat_map-append, append_assoc, append-nil))
-
-  cube_more : (current : List CubeView) (cube : CubeView) → draft.current ≡ Some current → HasLayersAlone draft →
-      draft_lines task (with_open draft (Some (current ++ (cube ∷ [])))) ≡ draft_lines task draft ++ (cube_line task cube ∷ [])
-  cube_more current cube e h = rw (h.0, h.1, h.2.0, h.2.1.0, h.2.1.1, e) (simp (flat_map-append, map-append, append_assoc, append-nil))
-
-  pair_more : (pair : OnePair) → draft.rules ≡ [] → HasNoEvidence draft → draft_lines task (with_pair draft pair) ≡ draft_lines task draft ++ (pair_line task pair ∷ [])
-  pair_more pair e h = rw (e, h.0, h.1.0, h.1.1) (simp (map-append, append_assoc, append-nil))
-
-  rule_more : (rule : Rule) → HasNoEvidence draft → draft_lines task (with_rule draft rule) ≡ draft_lines task draft ++ (rule_line task rule ∷ [])
-  rule_more rule h = rw (h.0, h.1.0, h.1.1) (simp (map-append, append_assoc, append-nil))
-
-  item_more : (item : Item) → HasNoLast draft → draft_lines task (with_item draft item) ≡ draft_lines task draft ++ (item_line task item ∷ [])
-  item_more item h = rw (h.0, h.1) (simp (map-append, append_assoc, append-nil))
-
-  reach_more : (reach : ℕ) → HasNoLast draft → draft_lines task (with_reach draft reach) ≡ draft_lines task draft ++ (reach_line task reach ∷ [])
-  reach_more reach h = rw (h.0, h.1) (simp (append_assoc, append-nil))
-
-  start_more : (start : ℕ) → HasNoLast draft → draft_lines task (with_start draft start) ≡ draft_lines task draft ++ (start_line task start ∷ [])
-  start_more start h = rw (h.0, h.1) (simp (append_assoc, append-nil))
+closed_draft : (task : Task) (draft : Draft) → IsDraftOf task draft → IsDraftOf task (closed draft)
+closed_draft task draft own = with_layers task draft (all_layers draft) None own.layers own
 
 -- lines with one more, if the draft has one more
 lines_more : (lines more all : List Line) (first own : Line) → lines ≡ first ∷ more → all ≡ more ++ (own ∷ []) → lines ++ (own ∷ []) ≡ first ∷ all
@@ -103,201 +74,265 @@ lines_more lines more all first own e f = ap (λ l. l ++ (own ∷ [])) e ∙ ap 
 abbrev IsShort : List CubeView → Type 0
 IsShort layer = length layer < 2 ^ 32
 
--- a line adds nothing to groups of another order
-none_more : (draft : Draft) (kind : LineKind) (m : Meanings (form kind)) (group : Group) → order group ≢ line_order kind → count_of group draft ≡ 0 → count_of group (grown draft kind m) ≡ 0
-none_more draft k.Layer m g.Layer apart none = absurd (apart refl)
-none_more draft k.Cube m g.Layer apart none = absurd (apart refl)
-none_more draft k.Cube m g.Cube apart none = absurd (apart refl)
-none_more draft k.Pair m g.Pair apart none = absurd (apart refl)
-none_more draft k.FairRule m g.Rule apart none = absurd (apart refl)
-none_more draft k.UnfairRule m g.Rule apart none = absurd (apart refl)
-none_more draft k.GoalItem m g.Item apart none = absurd (apart refl)
-none_more draft k.RuleItem m g.Item apart none = absurd (apart refl)
-none_more draft k.Reach m g.Reach apart none = absurd (apart refl)
-none_more draft k.Start m g.Start apart none = absurd (apart refl)
-none_more draft kind m g.Layer apart none = ap length (append-nil (all_layers draft)) ∙ none
-none_more draft kind m g.Cube apart none = refl
-none_more draft kind m group apart none = none
+-- an entry of a group is added to that group
+kept : (group other : Group) (draft : Draft) (entry : Entry group) → 0 < order other → (group ≡ other) ⊎ (entries other (with_entry group draft entry) ≡ entries other draft)
+kept group g.Layer draft entry after = absurd (omega (arith, after))
+kept group g.Cube draft entry after = absurd (omega (arith, after))
+kept g.Pair g.Pair draft entry after = inl refl
+kept g.Rule g.Rule draft entry after = inl refl
+kept g.Item g.Item draft entry after = inl refl
+kept g.Reach g.Reach draft entry after = inl refl
+kept g.Start g.Start draft entry after = inl refl
+kept group other draft entry after = inr refl
 
--- a draft has these counts of a section, belongs to the task, and has one line more than another draft
-abbrev HasGrown : Task → Section → Draft → (kind : LineKind) → Meanings (form kind) → ℕ → ℕ → Draft → Type 0
-HasGrown task section draft kind m lines inner after = IsCounted section after lines inner × IsDraftOf task after × (draft_lines task after ≡ draft_lines task draft ++ (spelled_line task kind m ∷ []))
+layers_kept : (group : Group) (draft : Draft) (entry : Entry group) → 0 < order group → all_layers (with_entry group draft entry) ≡ all_layers draft
+layers_kept g.Layer draft entry after = absurd (omega (arith, after))
+layers_kept g.Cube draft entry after = absurd (omega (arith, after))
+layers_kept group draft entry after = refl
 
--- what a line of a kind makes of a draft has these counts of a section
-abbrev Grows : Task → Section → Draft → LineKind → ℕ → ℕ → Type 0
-Grows task section draft kind lines inner = (m : Meanings (form kind)) → AreOfTask task (form kind) m → HasGrown task section draft kind m lines inner (grown draft kind m)
+entry_added : (group : Group) (draft : Draft) (entry : Entry group) → 0 < order group → (is_single group ≡ true → count_of group draft ≡ 0) → entries group (with_entry group draft entry) ≡ entries group draft ++ (entry ∷ [])
+entry_added g.Layer draft entry after none = absurd (omega (arith, after))
+entry_added g.Cube draft entry after none = absurd (omega (arith, after))
+entry_added g.Reach draft entry after none = rw (none_if draft.reach (none refl)) refl
+entry_added g.Start draft entry after none = rw (none_if draft.start (none refl)) refl
+entry_added group draft entry after none = refl
 
--- after a line that a section takes, the section is due with the counts of what the line makes of the draft
-pub record IsMoved (task : Task) (section : Section) (cert : Kind) (at : ℕ) (kind : LineKind) (next : Due) (draft : Draft) : Type 0 where
-  pub room : HasRoom kind draft
-  pub order_is : order_of section ≡ line_order kind
+-- a line of a group adds an entry, whose line it is
+made : (task : Task) (group : Group) (kind : LineKind) (draft : Draft) (m : Meanings (form kind)) → 0 < order group → is_in group kind ≡ true → AreOfTask task (form kind) m →
+    (entry : Entry group) × (grown draft kind m ≡ with_entry group draft entry) × (entry_line task group entry ≡ spelled_line task kind m) × IsEntryOf task group entry
+made task g.Layer kind draft m after is of = absurd (omega (arith, after))
+made task g.Cube kind draft m after is of = absurd (omega (arith, after))
+made task g.Pair k.Pair draft m after is of = (pair_of m, refl, refl, (of.1.1.1.1.0, of.0, (of.1.0, of.1.1.0, of.1.1.1.0)))
+made task g.Rule k.FairRule draft m after is of = (fair_of m, refl, refl, (of.1.1.1.0, of.0, tt, (of.1.0, of.1.1.0)))
+made task g.Rule k.UnfairRule draft m after is of = (unfair_of m, refl, refl, (of.1.1.0, of.0, of.1.0.0, of.1.0.1))
+made task g.Item k.GoalItem draft m after is of = (goal_item_of m, refl, refl, (of.0, tt, tt))
+made task g.Item k.RuleItem draft m after is of = (rule_item_of m, refl, refl, (of.1.1.0, of.1.0.0, (of.0, of.1.0.1)))
+made task g.Reach k.Reach draft m after is of = (m.0, refl, refl, of.0)
+made task g.Start k.Start draft m after is of = (m.0, refl, refl, of.0)
+made task group kind draft m after is of = absurd (cc)
+
+-- there is room for what a line makes of which there are fewer than 2^32
+room : (group : Group) (kind : LineKind) (draft : Draft) → is_in group kind ≡ true → (is_few group ≡ true → count_of group draft < 2 ^ 32 - 1) → HasRoom kind draft
+room g.Rule k.FairRule draft is few = few refl
+room g.Rule k.UnfairRule draft is few = few refl
+room g.Item k.GoalItem draft is few = few refl
+room g.Item k.RuleItem draft is few = few refl
+room group k.FairRule draft is few = absurd (cc)
+room group k.UnfairRule draft is few = absurd (cc)
+room group k.GoalItem draft is few = absurd (cc)
+room group k.RuleItem draft is few = absurd (cc)
+room group kind draft is few = tt
+
+-- what a line that a section takes makes of a draft: one line more of the section, with these counts, and nothing else
+record IsMoved (task : Task) (section : Section) (cert : Kind) (at : ℕ) (next : Due) (line : Line) (draft after : Draft) : Type 0 where
   pub lines : ℕ
   pub inner : ℕ
   pub next_is : next ≡ SectionDue cert at lines inner
-  pub grows : Grows task section draft kind lines inner
+  pub counted : IsCounted section after lines inner
+  pub more : section_lines task after section ≡ section_lines task draft section ++ (line ∷ [])
+  pub same : (group : Group) → 0 < order group → order group ≢ order_of section → entries group after ≡ entries group draft
+  pub layers_same : 0 < order_of section → all_layers after ≡ all_layers draft
+  pub draft_of : IsDraftOf task after
 
 -- a layer is being read if one layer more was begun than is complete
-open_by : (current : Option (List CubeView)) (layers : List (List CubeView)) (lines : ℕ) → length (layers ++ opened current) ≡ lines → length layers ≡ lines - 1 → 0 < lines → (cubes : List CubeView) × (current ≡ Some cubes)
+open_by : (current : Option (List CubeView)) (layers : List (List CubeView)) (lines : ℕ) → length (with_opened layers current) ≡ lines → length layers ≡ lines - 1 → 0 < lines → (cubes : List CubeView) × (current ≡ Some cubes)
 open_by (Some cubes) layers lines all closed some = (cubes, refl)
-open_by None layers lines all closed some = absurd (omega (arith, all, closed, some, length-append layers []))
+open_by None layers lines all closed some = absurd (omega (arith, all, closed, some))
 
 module _ (task : Task) (cert : Kind) (at lines inner : ℕ) (next : Due) (draft : Draft) (own : IsDraftOf task draft) where
-  whole : BelongAsLayers task (all_layers (closed draft))
-  whole = (closed_draft task draft own).layers
+  -- one more entry of a group after the layers
+  module _ (group : Group) (after : 0 < order group) (none : is_single group ≡ true → count_of group draft ≡ 0) (few : is_few group ≡ true → count_of group draft + 1 < 2 ^ 32) (entry : Entry group) where
+    one_count : count_of group (with_entry group draft entry) ≡ count_of group draft + 1
+    one_count = ap length (entry_added group draft entry after none) ∙ one_more (entries group draft) entry
 
-  -- the parts of a draft belong to the task
-  belongs : (after : Draft) → BelongAsLayers task (all_layers after) → All (IsReadPair task) after.pairs → All (IsReadRule task) after.rules → length after.rules < 2 ^ 32 → All (IsReadItem task) after.items → length after.items < 2 ^ 32 →
-      IfSome after.reach (λ reach. reach < 2 ^ 64) → IfSome after.start (λ start. start < 2 ^ 32) → IsDraftOf task after
-  belongs after layers pairs rules few items few_items reach start = record {
-    layers = layers;
-    pairs = pairs;
-    rules = rules;
-    few = few;
-    items = items;
-    few_items = few_items;
-    reach = reach;
-    start = start;
-  }
+    with_one : IsEntryOf task group entry → IsDraftOf task (with_entry group draft entry)
+    with_one of = record {
+      layers = subst (BelongAsLayers task) (sym (layers_kept group draft entry after)) own.layers;
+      parts = λ other later. parts other later (kept group other draft entry later);
+    }
+      where
+        parts : (other : Group) → 0 < order other → (group ≡ other) ⊎ (entries other (with_entry group draft entry) ≡ entries other draft) → AreEntriesOf task other (entries other (with_entry group draft entry))
+        parts other later (inr same) = subst (AreEntriesOf task other) (sym same) (own.parts other later)
+        parts other later (inl same) =
+            let old = own.parts group after in
+            let all : All (IsEntryOf task group) (entries group (with_entry group draft entry)) = subst (All (IsEntryOf task group)) (sym (entry_added group draft entry after none)) (all_more (IsEntryOf task group) (entries group draft) entry old.0 of) in
+            subst (λ o. AreEntriesOf task o (entries o (with_entry group draft entry))) same (all, λ is. omega (arith, one_count, few is))
 
-  -- a line of a kind moves a draft on within a section that takes it
-  abbrev Moves : Section → LineKind → Type 0
-  Moves section kind = IsKnown cert section → HasOnly cert draft → IsCounted section draft lines inner → HasNoneAfter section draft → after_in section cert at lines inner kind ≡ Some next → IsMoved task section cert at kind next draft
+    one_moved : (section : Section) (kind : LineKind) (m : Meanings (form kind)) (lines inner : ℕ) → order_of section ≡ order group → section_lines task (with_entry group draft entry) section ≡ map (entry_line task group) (entries group (with_entry group draft entry)) →
+        section_lines task draft section ≡ map (entry_line task group) (entries group draft) → entry_line task group entry ≡ spelled_line task kind m → IsEntryOf task group entry → next ≡ SectionDue cert at lines inner → IsCounted section (with_entry group draft entry) lines inner →
+        IsMoved task section cert at next (spelled_line task kind m) draft (with_entry group draft entry)
+    one_moved section kind m lines inner order_is now was line_is of next_is counted = record {
+      lines = lines;
+      inner = inner;
+      next_is = next_is;
+      counted = counted;
+      more =
+          now ∙ ap (map (entry_line task group)) (entry_added group draft entry after none) ∙ map-append (entry_line task group) (entries group draft) (entry ∷ [])
+          ∙ ap (λ line. map (entry_line task group) (entries group draft) ++ (line ∷ [])) line_is ∙ ap (λ l. l ++ (spelled_line task kind m ∷ [])) (sym was);
+      same = λ other later apart. other_same other later apart (kept group other draft entry later);
+      layers_same = λ later. layers_kept group draft entry after;
+      draft_of = with_one of;
+    }
+      where
+        other_same : (other : Group) → 0 < order other → order other ≢ order_of section → (group ≡ other) ⊎ (entries other (with_entry group draft entry) ≡ entries other draft) → entries other (with_entry group draft entry) ≡ entries other draft
+        other_same other later apart (inl same) = absurd (apart (sym (order_is ∙ ap order same)))
+        other_same other later apart (inr same) = same
 
-  moved_to : (section : Section) (kind : LineKind) (lines inner : ℕ) → order_of section ≡ line_order kind → HasRoom kind draft → next ≡ SectionDue cert at lines inner → Grows task section draft kind lines inner →
-      IsMoved task section cert at kind next draft
-  moved_to section kind lines inner order_is room next_is grows = record {
-    room = room;
-    order_is = order_is;
-    lines = lines;
-    inner = inner;
-    next_is = next_is;
-    grows = grows;
-  }
+  -- a line moves a draft on within a section that takes it
+  abbrev Moves : Section → (kind : LineKind) → Meanings (form kind) → Type 0
+  Moves section kind m = IsMoved task section cert at next (spelled_line task kind m) draft (grown draft kind m)
 
-  layer_moved : Moves (Blocks g.Layer g.Cube) k.Layer
-  layer_moved known only counted none e =
+  layer_moved : (m : Meanings (form k.Layer)) → IsCounted (Blocks g.Layer g.Cube) draft lines inner → after_in (Blocks g.Layer g.Cube) cert at lines inner k.Layer ≡ Some next → Moves (Blocks g.Layer g.Cube) k.Layer m
+  layer_moved m counted e =
       let few = few_is (lines + 1) (SectionDue cert at (lines + 1) 0) next e in
       let all = all_layers draft in
-      let count = one_more all [] in
-      moved_to (Blocks g.Layer g.Cube) k.Layer (lines + 1) 0 refl tt few.1
-      (λ m of. (
-        (count ∙ ap (λ n. n + 1) counted.0, refl, omega (arith, counted.0)),
-        belongs (with_open (closed draft) (Some []))
+      let count = one_more all [] in record {
+        lines = lines + 1;
+        inner = 0;
+        next_is = few.1;
+        counted = (count ∙ ap (λ n. n + 1) counted.0, refl, omega (arith, counted.0));
+        more = flat_map-append (layer_lines task) all ([] ∷ []);
+        same = λ group after other. apart draft all (Some []) group after;
+        layers_same = λ after. absurd (omega (arith, after));
+        draft_of =
+            with_layers task draft all (Some [])
             (record {
               few = omega (arith, few.0, count, counted.0);
               few_cubes = all_more IsShort all [] own.layers.few_cubes (omega arith);
               over = all_more (IsOver (length task.atoms)) all [] own.layers.over (All-nil (λ (cube : CubeView). length cube ≡ length task.atoms));
             })
-            own.pairs own.rules own.few own.items own.few_items own.reach own.start,
-        layer_more task draft (layers_alone (Blocks g.Layer g.Cube) draft none (omega arith)),
-      ))
+            own;
+      }
 
-  cube_moved : Moves (Blocks g.Layer g.Cube) k.Cube
-  cube_moved known only counted none e =
+  cube_moved : (m : Meanings (form k.Cube)) → AreOfTask task (form k.Cube) m → IsCounted (Blocks g.Layer g.Cube) draft lines inner → after_in (Blocks g.Layer g.Cube) cert at lines inner k.Cube ≡ Some next → Moves (Blocks g.Layer g.Cube) k.Cube m
+  cube_moved m of counted e =
       let test = passed (nat_lt 0 lines) _ next e in
       let some : 0 < lines = grind (arith, nat_tests, test.0) in
       let few = few_is (inner + 1) (SectionDue cert at lines (inner + 1)) next test.1 in
       let current = open_by draft.current draft.layers lines counted.0 counted.2 some in
-      let same : all_layers draft ≡ draft.layers ++ (current.0 ∷ []) = ap (λ o. draft.layers ++ opened o) current.1 in
-      let cubes : length current.0 ≡ inner = ap (λ o. count_of g.Cube (with_open draft o)) (sym current.1) ∙ counted.1 in
+      let same : all_layers draft ≡ draft.layers ++ (current.0 ∷ []) = ap (with_opened draft.layers) current.1 in
+      let cubes : length current.0 ≡ inner = ap (λ o. count_of g.Cube (record draft { current = o })) (sym current.1) ∙ counted.1 in
       let over : AreOver (length task.atoms) (draft.layers ++ (current.0 ∷ [])) = subst (AreOver (length task.atoms)) same own.layers.over in
       let few_cubes : All IsShort (draft.layers ++ (current.0 ∷ [])) = subst (All IsShort) same own.layers.few_cubes in
-      moved_to (Blocks g.Layer g.Cube) k.Cube lines (inner + 1) refl tt few.1
-      (λ m of.
+      let grown_layer = current.0 ++ (m.0 ∷ []) in
       let size = one_more current.0 m.0 in
-      let long = one_more draft.layers (current.0 ++ (m.0 ∷ [])) ∙ sym (one_more draft.layers current.0) ∙ ap length (sym same) in
-      subst (λ o. HasGrown task (Blocks g.Layer g.Cube) draft k.Cube m lines (inner + 1) (with_open draft (option_map (λ (current : List CubeView). current ++ (m.0 ∷ [])) o))) (sym current.1) (
-        (long ∙ counted.0, size ∙ ap (λ n. n + 1) cubes, counted.2),
-        belongs (with_open draft (Some (current.0 ++ (m.0 ∷ []))))
+      let long = one_more draft.layers grown_layer ∙ sym (one_more draft.layers current.0) ∙ ap length (sym same) in
+      subst (λ o. IsMoved task (Blocks g.Layer g.Cube) cert at next (cube_line task m.0) draft (record draft { current = option_map (λ (layer : List CubeView). layer ++ (m.0 ∷ [])) o })) (sym current.1)
+      (record {
+        lines = lines;
+        inner = inner + 1;
+        next_is = few.1;
+        counted = (long ∙ counted.0, size ∙ ap (λ n. n + 1) cubes, counted.2);
+        more = rw same (simp (flat_map-append, map-append, append_assoc, append-nil));
+        same = λ group after other. apart draft draft.layers (Some grown_layer) group after;
+        layers_same = λ after. absurd (omega (arith, after));
+        draft_of =
+            with_layers task draft draft.layers (Some grown_layer)
             (record {
               few = omega (arith, long, own.layers.few);
-              few_cubes = all_more IsShort draft.layers (current.0 ++ (m.0 ∷ [])) (all_front IsShort draft.layers (current.0 ∷ []) few_cubes) (omega (arith, size, cubes, few.0));
+              few_cubes = all_more IsShort draft.layers grown_layer (all_front IsShort draft.layers (current.0 ∷ []) few_cubes) (omega (arith, size, cubes, few.0));
               over =
-                  all_more (IsOver (length task.atoms)) draft.layers (current.0 ++ (m.0 ∷ [])) (all_front (IsOver (length task.atoms)) draft.layers (current.0 ∷ []) over)
+                  all_more (IsOver (length task.atoms)) draft.layers grown_layer (all_front (IsOver (length task.atoms)) draft.layers (current.0 ∷ []) over)
                   (all_more (λ (cube : CubeView). length cube ≡ length task.atoms) current.0 m.0 (all_last (IsOver (length task.atoms)) draft.layers current.0 over) of.0);
             })
-            own.pairs own.rules own.few own.items own.few_items own.reach own.start,
-        cube_more task draft current.0 m.0 current.1 (layers_alone (Blocks g.Layer g.Cube) draft none (omega arith)),
-      ))
-
-  pair_moved : Moves (Any g.Pair) k.Pair
-  pair_moved known only counted none e =
-      moved_to (Any g.Pair) k.Pair lines 0 refl tt (some_is (SectionDue cert at lines 0) next e)
-      (λ m of. (
-        tt,
-        belongs (with_pair draft (pair_of m)) whole (all_more (IsReadPair task) draft.pairs (pair_of m) own.pairs (of.1.1.1.1.0, of.0, (of.1.0, of.1.1.0, of.1.1.1.0))) own.rules own.few own.items own.few_items own.reach own.start,
-        pair_more task draft (pair_of m) (nil_if draft.rules (none g.Rule (omega arith))) (no_evidence (Any g.Pair) draft none (omega arith)),
-      ))
-
-  -- what a rule adds
-  rule_added : (rule : Rule) → HasNoneAfter (Few g.Rule) draft → IsReadRule task rule → lines + 1 < 2 ^ 32 → length draft.rules ≡ lines →
-      (length (draft.rules ++ (rule ∷ [])) ≡ lines + 1) × IsDraftOf task (with_rule draft rule) × (draft_lines task (with_rule draft rule) ≡ draft_lines task draft ++ (rule_line task rule ∷ []))
-  rule_added rule none of few counted =
-      let count = one_more draft.rules rule ∙ ap (λ n. n + 1) counted in (
-        count,
-        belongs (with_rule draft rule) whole own.pairs (all_more (IsReadRule task) draft.rules rule own.rules of) (omega (arith, count, few)) own.items own.few_items own.reach own.start,
-        rule_more task draft rule (no_evidence (Few g.Rule) draft none (omega arith)),
-      )
-
-  -- what an item adds
-  item_added : (item : Item) → HasNoneAfter (Few g.Item) draft → IsReadItem task item → lines + 1 < 2 ^ 32 → length draft.items ≡ lines →
-      (length (draft.items ++ (item ∷ [])) ≡ lines + 1) × IsDraftOf task (with_item draft item) × (draft_lines task (with_item draft item) ≡ draft_lines task draft ++ (item_line task item ∷ []))
-  item_added item none of few counted =
-      let count = one_more draft.items item ∙ ap (λ n. n + 1) counted in (
-        count,
-        belongs (with_item draft item) whole own.pairs own.rules own.few (all_more (IsReadItem task) draft.items item own.items of) (omega (arith, count, few)) own.reach own.start,
-        item_more task draft item (no_last (Few g.Item) draft none (omega arith)),
-      )
-
-  reach_moved : Moves (One g.Reach) k.Reach
-  reach_moved known only counted none e =
-      let test = passed (lines == 0) _ next e in
-      let first : lines ≡ 0 = grind (arith, nat_tests, test.0) in
-      moved_to (One g.Reach) k.Reach 1 0 refl tt (some_is (SectionDue cert at 1 0) next test.1)
-      (λ m of. (
-        refl,
-        belongs (with_reach draft m.0) whole own.pairs own.rules own.few own.items own.few_items of.0 own.start,
-        reach_more task draft m.0 (none_if draft.reach (counted ∙ first), none_if draft.start (none g.Start (omega arith))),
-      ))
-
-  start_moved : Moves (One g.Start) k.Start
-  start_moved known only counted none e =
-      let test = passed (lines == 0) _ next e in
-      let first : lines ≡ 0 = grind (arith, nat_tests, test.0) in
-      let alone : HasOnly (OfPolicy ByCover) draft = subst (λ cert. HasOnly cert draft) known only in
-      moved_to (One g.Start) k.Start 1 0 refl tt (some_is (SectionDue cert at 1 0) next test.1)
-      (λ m of. (
-        refl,
-        belongs (with_start draft m.0) whole own.pairs own.rules own.few own.items own.few_items own.reach of.0,
-        start_more task draft m.0 (none_if draft.reach (alone g.Reach refl), none_if draft.start (counted ∙ first)),
-      ))
+            own;
+      })
 
   -- a line moves a draft on within each section
-  moved : (section : Section) (kind : LineKind) → Moves section kind
-  moved (Blocks g.Layer g.Cube) k.Layer known only counted none e = layer_moved known only counted none e
-  moved (Blocks g.Layer g.Cube) k.Cube known only counted none e = cube_moved known only counted none e
-  moved (Any g.Pair) k.Pair known only counted none e = pair_moved known only counted none e
-  moved (Few g.Rule) k.FairRule known only counted none e =
-      let few = few_is (lines + 1) (SectionDue cert at (lines + 1) 0) next e in
-      moved_to (Few g.Rule) k.FairRule (lines + 1) 0 refl (omega (arith, few.0, counted)) few.1 (λ m of. rule_added (fair_of m) none (of.1.1.1.0, of.0, tt, (of.1.0, of.1.1.0)) few.0 counted)
-  moved (Few g.Rule) k.UnfairRule known only counted none e =
-      let few = few_is (lines + 1) (SectionDue cert at (lines + 1) 0) next e in
-      moved_to (Few g.Rule) k.UnfairRule (lines + 1) 0 refl (omega (arith, few.0, counted)) few.1 (λ m of. rule_added (unfair_of m) none (of.1.1.0, of.0, of.1.0.0, of.1.0.1) few.0 counted)
-  moved (Few g.Item) k.GoalItem known only counted none e =
-      let few = few_is (lines + 1) (SectionDue cert at (lines + 1) 0) next e in
-      moved_to (Few g.Item) k.GoalItem (lines + 1) 0 refl (omega (arith, few.0, counted)) few.1 (λ m of. item_added (goal_item_of m) none (of.0, tt, tt) few.0 counted)
-  moved (Few g.Item) k.RuleItem known only counted none e =
-      let few = few_is (lines + 1) (SectionDue cert at (lines + 1) 0) next e in
-      moved_to (Few g.Item) k.RuleItem (lines + 1) 0 refl (omega (arith, few.0, counted)) few.1 (λ m of. item_added (rule_item_of m) none (of.1.1.0, of.1.0.0, (of.0, of.1.0.1)) few.0 counted)
-  moved (One g.Reach) k.Reach known only counted none e = reach_moved known only counted none e
-  moved (One g.Start) k.Start known only counted none e = start_moved known only counted none e
-  moved (Blocks g.Layer g.Cube) kind known only counted none e = absurd (cc)
-  moved (Any g.Pair) kind known only counted none e = absurd (cc)
-  moved (Few g.Rule) kind known only counted none e = absurd (cc)
-  moved (Few g.Item) kind known only counted none e = absurd (cc)
-  moved (One g.Reach) kind known only counted none e = absurd (cc)
-  moved (One g.Start) kind known only counted none e = absurd (cc)
-  moved section kind known only counted none e = absurd known
+  moved : (section : Section) (kind : LineKind) (m : Meanings (form kind)) → IsKnown section → AreOfTask task (form kind) m → IsCounted section draft lines inner → after_in section cert at lines inner kind ≡ Some next → Moves section kind m
+  moved (One group) kind m known of counted e =
+      let test = passed (is_in group kind && lines == 0) _ next e in
+      let both = both_true (is_in group kind) (lines == 0) test.0 in
+      let first : lines ≡ 0 = grind (arith, nat_tests, both.1) in
+      let entry = made task group kind draft m known.0 both.0 of in
+      let none : count_of group draft ≡ 0 = counted ∙ first in
+      let few : count_of group draft + 1 < 2 ^ 32 = omega (arith, none) in
+      let count = one_count group known.0 (λ is. none) (λ is. few) entry.0 in
+      subst (IsMoved task (One group) cert at next (spelled_line task kind m) draft) (sym entry.1)
+      (one_moved group known.0 (λ is. none) (λ is. few) entry.0 (One group) kind m 1 0 refl refl refl entry.2 entry.3 (some_is (SectionDue cert at 1 0) next test.1) (omega (arith, count, none)))
+  moved (Any group) kind m known of counted e =
+      let test = passed (is_in group kind) _ next e in
+      let entry = made task group kind draft m known.0 test.0 of in
+      subst (IsMoved task (Any group) cert at next (spelled_line task kind m) draft) (sym entry.1)
+      (one_moved group known.0 (λ is. absurd (cc)) (λ is. absurd (cc)) entry.0 (Any group) kind m lines 0 refl refl refl entry.2 entry.3 (some_is (SectionDue cert at lines 0) next test.1) tt)
+  moved (Few group) kind m known of counted e =
+      let test = passed (is_in group kind) _ next e in
+      let few = few_is (lines + 1) (SectionDue cert at (lines + 1) 0) next test.1 in
+      let entry = made task group kind draft m known.0 test.0 of in
+      let count = one_count group known.0 (λ is. absurd (cc)) (λ is. omega (arith, few.0, counted)) entry.0 in
+      subst (IsMoved task (Few group) cert at next (spelled_line task kind m) draft) (sym entry.1)
+      (one_moved group known.0 (λ is. absurd (cc)) (λ is. omega (arith, few.0, counted)) entry.0 (Few group) kind m (lines + 1) 0 refl refl refl entry.2 entry.3 few.1 (count ∙ ap (λ n. n + 1) counted))
+  moved (Blocks g.Layer g.Cube) k.Layer m known of counted e = layer_moved m counted e
+  moved (Blocks g.Layer g.Cube) k.Cube m known of counted e = cube_moved m of counted e
+  moved (Blocks g.Layer g.Cube) kind m known of counted e = absurd (cc)
+  moved (Blocks first second) kind m known of counted e = absurd known
+
+  room_in : (section : Section) (kind : LineKind) → IsKnown section → IsCounted section draft lines inner → after_in section cert at lines inner kind ≡ Some next → HasRoom kind draft
+  room_in (One group) kind known counted e =
+      let both = both_true (is_in group kind) (lines == 0) (passed (is_in group kind && lines == 0) _ next e).0 in
+      let first : lines ≡ 0 = grind (arith, nat_tests, both.1) in
+      room group kind draft both.0 (λ is. omega (arith, first, counted))
+  room_in (Any group) kind known counted e = room group kind draft (passed (is_in group kind) _ next e).0 (λ is. absurd (cc))
+  room_in (Few group) kind known counted e =
+      let test = passed (is_in group kind) _ next e in
+      let few = few_is (lines + 1) (SectionDue cert at (lines + 1) 0) next test.1 in
+      room group kind draft test.0 (λ is. omega (arith, few.0, counted))
+  room_in (Blocks g.Layer g.Cube) k.Layer known counted e = tt
+  room_in (Blocks g.Layer g.Cube) k.Cube known counted e = tt
+  room_in (Blocks g.Layer g.Cube) kind known counted e = absurd (cc)
+  room_in (Blocks first second) kind known counted e = absurd known
+
+-- lines of two drafts that have the same entries of groups of these orders
+module _ (task : Task) (draft after : Draft) (IsSame : ℕ → Type 0) (same : (group : Group) → 0 < order group → IsSame (order group) → entries group after ≡ entries group draft) (layers_same : IsSame 0 → all_layers after ≡ all_layers draft) where
+  section_same : (section : Section) → IsKnown section → IsSame (order_of section) → section_lines task after section ≡ section_lines task draft section
+  section_same (One group) known is = ap (map (entry_line task group)) (same group known.0 is)
+  section_same (Any group) known is = ap (map (entry_line task group)) (same group known.0 is)
+  section_same (Few group) known is = ap (map (entry_line task group)) (same group known.0 is)
+  section_same (Blocks g.Layer g.Cube) known is = ap (flat_map (layer_lines task)) (layers_same is)
+  section_same (Blocks first second) known is = absurd known
+
+closed_lines : (task : Task) (draft : Draft) (further : List Line) (least : ℕ) (xs : List Section) → AreKnown least xs → lines_then task (closed draft) xs further ≡ lines_then task draft xs further
+closed_lines task draft further least [] known = refl
+closed_lines task draft further least (x ∷ xs) known = λ i.
+    section_same task draft (closed draft) (λ n. ⊤) (λ group after is. apart draft (all_layers draft) None group after) (λ is. refl) x known.0 tt i ++ closed_lines task draft further (order_of x + 1) xs known.2 i
+
+-- a draft has no lines of later sections
+section_none : (task : Task) (draft : Draft) (section : Section) → IsKnown section → 0 < order_of section → ((group : Group) → order_of section ≡ order group → count_of group draft ≡ 0) → section_lines task draft section ≡ []
+section_none task draft (One group) known after none = ap (map (entry_line task group)) (nil_if (entries group draft) (none group refl))
+section_none task draft (Any group) known after none = ap (map (entry_line task group)) (nil_if (entries group draft) (none group refl))
+section_none task draft (Few group) known after none = ap (map (entry_line task group)) (nil_if (entries group draft) (none group refl))
+section_none task draft (Blocks g.Layer g.Cube) known after none = absurd (omega (arith, after))
+section_none task draft (Blocks first second) known after none = absurd known
+
+none_lines : (task : Task) (draft : Draft) (section : Section) (least : ℕ) (xs : List Section) → HasNoneAfter section draft → AreKnown least xs → order_of section < least → lines_then task draft xs [] ≡ []
+none_lines task draft section least [] none known below = refl
+none_lines task draft section least (x ∷ xs) none known below = λ i.
+    section_none task draft x known.0 (omega (arith, below, known.1)) (λ group is. none group (omega (arith, below, known.1, is))) i ++ none_lines task draft section (order_of x + 1) xs none known.2 (omega (arith, below, known.1)) i
+
+lines_end : (task : Task) (draft : Draft) (further : List Line) (xs : List Section) → lines_then task draft xs [] ++ further ≡ lines_then task draft xs further
+lines_end task draft further [] = refl
+lines_end task draft further (x ∷ xs) = append_assoc (section_lines task draft x) (lines_then task draft xs []) further ∙ ap (λ l. section_lines task draft x ++ l) (lines_end task draft further xs)
+
+-- a section comes after those before it
+comes_after : (at least : ℕ) (xs : List Section) (section : Section) (later : List Section) → drop at xs ≡ section ∷ later → AreKnown least xs → least ≤ order_of section
+comes_after zero least xs section later there known = let from : AreKnown least (section ∷ later) = subst (AreKnown least) there known in from.1
+comes_after (suc at) least [] section later there known = absurd (cc)
+comes_after (suc at) least (x ∷ xs) section later there known = omega (arith, known.1, comes_after at (order_of x + 1) xs section later there known.2)
+
+-- one line more of a section, with no lines of later sections, is one line more
+module _ (task : Task) (section : Section) (later : List Section) (draft after : Draft) (line : Line) (none : HasNoneAfter section draft) (none_now : HasNoneAfter section after) (more : section_lines task after section ≡ section_lines task draft section ++ (line ∷ []))
+    (same : (other : Section) → IsKnown other → order_of other ≢ order_of section → section_lines task after other ≡ section_lines task draft other) where
+  grown_lines : (at least : ℕ) (xs : List Section) → drop at xs ≡ section ∷ later → AreKnown least xs → lines_then task after xs [] ≡ lines_then task draft xs [] ++ (line ∷ [])
+  grown_lines zero least xs there known =
+      let from : AreKnown least (section ∷ later) = subst (AreKnown least) there known in
+      let now : lines_then task after later [] ≡ [] = none_lines task after section (order_of section + 1) later none_now from.2 (omega arith) in
+      let was : lines_then task draft later [] ≡ [] = none_lines task draft section (order_of section + 1) later none from.2 (omega arith) in
+      subst (λ xs. lines_then task after xs [] ≡ lines_then task draft xs [] ++ (line ∷ [])) (sym there) (rw (now, was, more) (simp (append_assoc, append-nil)))
+  grown_lines (suc at) least [] there known = absurd (cc)
+  grown_lines (suc at) least (x ∷ xs) there known =
+      let above = comes_after at (order_of x + 1) xs section later there known.2 in
+      ap (λ l. l ++ lines_then task after xs []) (same x known.0 (λ is. omega (arith, above, is))) ∙ ap (λ l. section_lines task draft x ++ l) (grown_lines at (order_of x + 1) xs there known.2)
+      ∙ sym (append_assoc (section_lines task draft x) (lines_then task draft xs []) (line ∷ []))
 
 -- one of some sections has its own order
 own_order : (at : ℕ) (xs : List Section) (section : Section) (later : List Section) → drop at xs ≡ section ∷ later → has_order (order_of section) xs ≡ true
@@ -305,10 +340,26 @@ own_order at [] section later e = absurd (omega (arith, ap length e, ap length (
 own_order zero (x ∷ xs) section later e = let same : x ≡ section = cc in rw same (grind (arith, nat_tests))
 own_order (suc at) (x ∷ xs) section later e = let more = own_order at xs section later e in rw more (or-true (nat_eq (order_of x) (order_of section)))
 
+-- certificates have layers
+layers_used : (cert : Kind) → has_order 0 (sections cert) ≡ true
+layers_used (OfPolicy ByReach) = refl
+layers_used (OfPolicy ByCover) = refl
+layers_used OfRefusal = refl
+
+after_layers : (cert : Kind) (group : Group) → has_order (order group) (sections cert) ≡ false → 0 < order group
+after_layers cert g.Layer unused = let used = layers_used cert in absurd (cc)
+after_layers cert g.Cube unused = let used = layers_used cert in absurd (cc)
+after_layers cert group unused = omega arith
+
 -- a draft without parts has no lines
 none_of_empty : (group : Group) → count_of group no_parts ≡ 0
 none_of_empty g.Layer = refl
 none_of_empty group = refl
+
+nothing_written : (task : Task) (cert : Kind) → draft_lines task cert no_parts ≡ []
+nothing_written task (OfPolicy ByReach) = refl
+nothing_written task (OfPolicy ByCover) = refl
+nothing_written task OfRefusal = refl
 
 -- a draft without parts fits the first section
 first_reached : (cert : Kind) → HasReached (sections cert) no_parts 0 0
@@ -320,35 +371,39 @@ module _ (task : Task) (next : Due) (before after : Draft) (lines : List Line) (
   header_step : (cert : Kind) → before ≡ no_parts → lines ≡ [] → next ≡ SectionDue cert 0 0 0 → after ≡ closed before → IsStepped task (header task cert) next after lines
   header_step cert empty none next_is is =
       let same : after ≡ no_parts = is ∙ ap closed empty in record {
-        fits = rw (next_is, same) (ap (λ l. l ++ (header task cert ∷ [])) none, λ group unused. none_of_empty group, first_reached cert);
+        fits = rw (next_is, same) (ap (λ l. l ++ (header task cert ∷ [])) none ∙ ap (λ l. header task cert ∷ l) (sym (nothing_written task cert)), λ group unused. none_of_empty group, first_reached cert);
         draft = rw is (closed_draft task before own);
       }
 
-  end_step : (cert : Kind) → lines ≡ header task cert ∷ draft_lines task before → IsWholeOf cert before × (next ≡ NothingDue) → after ≡ closed before → IsStepped task (end_line task) next after lines
-  end_step cert written whole is = record {
-    fits = rw (whole.1, is) (refl, (cert, whole_closed cert whole.0, lines_more lines _ _ (header task cert) (end_line task) written (ap (λ l. l ++ (end_line task ∷ [])) (closed_lines task before))));
-    draft = rw is (closed_draft task before own);
-  }
-    where
-      whole_closed : (kind : Kind) → IsWholeOf kind before → IsWholeOf kind (closed before)
-      whole_closed (OfPolicy ByReach) h = h
-      whole_closed (OfPolicy ByCover) h = h
-      whole_closed OfRefusal h = h
+  end_step : (cert : Kind) → lines ≡ header task cert ∷ draft_lines task cert before → IsWholeOf cert before × (next ≡ NothingDue) → after ≡ closed before → IsStepped task (end_line task) next after lines
+  end_step cert written whole is =
+      let ends = end_line task ∷ [] in
+      let all : lines_then task (closed before) (sections cert) ends ≡ draft_lines task cert before ++ ends = closed_lines task before ends 0 (sections cert) (all_known cert) ∙ sym (lines_end task before ends (sections cert)) in
+      let kinds = ap (λ kind. header task kind ∷ lines_then task (closed before) (sections kind) ends) (sym whole.0.1) in
+      let parts = ap (λ d. header task (kind_of whole.0.0) ∷ lines_then task d (sections (kind_of whole.0.0)) ends) whole.0.2 in
+      record {
+        fits = rw whole.1 (whole.0.0, is ∙ whole.0.2, lines_more lines _ _ (header task cert) (end_line task) written all ∙ kinds ∙ parts);
+        draft = rw is (closed_draft task before own);
+      }
 
-  section_step : (cert : Kind) (kind : LineKind) (m : Meanings (form kind)) → lines ≡ header task cert ∷ draft_lines task before → HasOnly cert before → AreOfTask task (form kind) m → after ≡ grown before kind m →
+  section_step : (cert : Kind) (kind : LineKind) (m : Meanings (form kind)) → lines ≡ header task cert ∷ draft_lines task cert before → HasOnly cert before → AreOfTask task (form kind) m → after ≡ grown before kind m →
       IsAllowedIn cert kind next before → IsStepped task (spelled_line task kind m) next after lines
   section_step cert kind m written only of is a =
-      let one = moved task cert a.at a.lines a.inner next before own a.section kind a.known only a.counted a.none a.allowed in
-      let more = one.grows m of in
-      let used : has_order (line_order kind) (sections cert) ≡ true = subst (λ n. has_order n (sections cert) ≡ true) one.order_is (own_order a.at (sections cert) a.section a.later a.there) in
+      let one = moved task cert a.at a.lines a.inner next before own a.section kind m a.known of a.counted a.allowed in
+      let now = grown before kind m in
+      let used = own_order a.at (sections cert) a.section a.later a.there in
+      let none_now : HasNoneAfter a.section now = λ group below. ap length (one.same group (omega (arith, below)) (λ same. omega (arith, below, same))) ∙ a.none group below in
+      let same = section_same task before now (λ n. n ≢ order_of a.section) one.same (λ other. one.layers_same (omega (arith, other))) in
+      let more = grown_lines task a.section a.later before now (spelled_line task kind m) a.none none_now one.more same a.at 0 (sections cert) a.there (all_known cert) in
       record {
         fits =
             rw (one.next_is, is) (
-              lines_more lines _ _ (header task cert) (spelled_line task kind m) written more.2,
-              λ group unused. none_more before kind m group (λ same. let clash = subst (λ n. has_order n (sections cert) ≡ true) (sym same) used in absurd (cc)) (only group unused),
-              rw a.there (more.0, λ group below. none_more before kind m group (λ same. omega (arith, below, one.order_is, same)) (a.none group below)),
+              lines_more lines _ _ (header task cert) (spelled_line task kind m) written more,
+              λ group unused.
+                  ap length (one.same group (after_layers cert group unused) (λ same. let clash = subst (λ n. has_order n (sections cert) ≡ true) (sym same) used in absurd (cc))) ∙ only group unused,
+              rw a.there (one.counted, none_now),
             );
-        draft = rw is more.1;
+        draft = rw is one.draft_of;
       }
 
 -- a line that is allowed takes a draft to what is due next
@@ -373,7 +428,7 @@ has_room task (SectionDue cert at count inner) next draft lines kind fits own e 
   where
     by : (kind ≡ k.End) ⊎ IsAllowedIn cert kind next draft → HasRoom kind draft
     by (inl end) = rw end tt
-    by (inr a) = (moved task cert a.at a.lines a.inner next draft own a.section kind a.known fits.1 a.counted a.none a.allowed).room
+    by (inr a) = room_in task cert a.at a.lines a.inner next draft own a.section kind a.known a.counted a.allowed
 has_room task HeaderDue next draft lines k.FairRule fits own e = absurd (cc)
 has_room task HeaderDue next draft lines k.UnfairRule fits own e = absurd (cc)
 has_room task HeaderDue next draft lines k.GoalItem fits own e = absurd (cc)

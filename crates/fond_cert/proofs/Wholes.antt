@@ -1,12 +1,13 @@
 -- Texts that were read line by line.
-use Rattle.std.proofs.Common.{◌≡◌, ◌≢◌, inl, inr, ℕ, ◌+◌, ◌-◌, ◌≤◌, ◌<◌, ◌^◌, List, [], ◌∷◌, ◌++◌, All, Option, Some, None, length, map, codes, refl, sym, ap, ◌∙◌, subst, arith, length-append, append_assoc}
-use Rattle.std.specs.List.{flat_map}
-use Rattle.std.specs.Prelude.{IfSome, slice_get}
+use Rattle.std.proofs.Common.{◌≡◌, ◌≢◌, inl, inr, ℕ, ◌+◌, ◌-◌, ◌≤◌, ◌<◌, ◌^◌, List, [], ◌∷◌, ◌++◌, All, Some, None, length, codes, refl, sym, ap, ◌∙◌, subst, arith, length-append}
+use Rattle.std.specs.Prelude.{slice_get}
 use Rattle.std.proofs.lemmas.List.{append-nil}
-use Rattle.std.proofs.lemmas.List.Elements.{All-nil}
+use Rattle.std.proofs.lemmas.List.Elements.{All-head, All-nil}
 use Rattle.std.proofs.lemmas.Option.{get_or_from_slice_get, slice_get_within}
 use Rattle.fond_task.specs.declared.task.Task.{Task}
 use Rattle.fond_game.specs.Layers.{CubeView}
+use Rattle.fond_game.specs.declared.rule.Pair.{Pair}
+use Rattle.fond_game.specs.declared.rule.Rule.{Rule}
 use Rattle.fond_cover.specs.declared.item.Item.{Item}
 use Rattle.fond_cert.specs.declared.draft.Draft.{Draft}
 use Rattle.fond_cert.specs.declared.code.TheConstants.{OUT_OF_FORM}
@@ -18,20 +19,19 @@ use Rattle.fond_form.specs.declared.table.LineKind.{LineKind}
 use Rattle.fond_form.specs.Forms.{form, HasForm, Line, line_text}
 use Rattle.fond_policy.specs.declared.cert.Cert.{Cert}
 use Rattle.fond_policy.specs.declared.cert.Cert.TheVariants.{Policy, Refusal, Covered}
-use Rattle.fond_policy.specs.Belongs.{Belongs, BelongAsLayers, BelongAsPairs, BelongAsRules, BelongAsItems}
+use Rattle.fond_policy.specs.Belongs.{Belongs, BelongAsPairs, BelongAsRules, BelongAsItems}
 use Rattle.fond_cert.specs.Made.{IsRefusedBy}
-use Rattle.fond_cert.specs.Drafts.{no_parts, all_layers, draft_lines, opened, last_lines, IsDraftOf, header, HasLayersAlone, IsWholeOf, FitsDue}
-use Rattle.fond_cert.specs.declared.due.Evidence.TheVariants.{Reach as ByReach, Cover as ByCover}
-use Rattle.fond_cert.specs.declared.due.Kind.{Kind}
-use Rattle.fond_cert.specs.declared.due.Kind.TheVariants.{Policy as OfPolicy, Refusal as OfRefusal}
+use Rattle.fond_cert.specs.Drafts.{order, IsEntryOf, AreEntriesOf, IsDraftOf, FitsDue}
+use Rattle.fond_cert.specs.declared.due.Group.{Group}
+use Rattle.fond_cert.specs.declared.due.Group.TheVariants as g
 use Rattle.fond_cert.specs.declared.due.Due.TheVariants.{Header as HeaderDue, Nothing as NothingDue}
 use Rattle.fond_cert.specs.Sections.{due_after}
 use Rattle.fond_cert.specs.Faults.{HasNoForm, Lead, IsRefusedLine, IsRefusedAt, IsCertFault}
 use Rattle.fond_form.specs.Feeds.{HasNoFeed}
-use Rattle.fond_cert.specs.Items.{IsReadPair, IsReadRule, IsReadItem}
-use Rattle.fond_cert.specs.Progress.{IsReady, IsTaken, IsWhole, cert_by, cert_of, IsPlaced}
+use Rattle.fond_cert.specs.Items.{IsReadPair, IsReadItem}
+use Rattle.fond_cert.specs.Progress.{IsReady, IsTaken, IsWhole, cert_of, IsPlaced}
 use Rattle.fond_cert.specs.Refusals.{LineRefuses, CertRefuses}
-use Rattle.fond_cert.specs.Spellings.{spelled_line, layer_lines, pair_line, rule_line, item_line, reach_line, end_line, lines_text, spelling}
+use Rattle.fond_cert.specs.Spellings.{spelled_line, entries, no_parts, parts_of, lines_text, spelling}
 use Rattle.fond_policy.specs.Sizes.{HasSmallNumbers}
 use Rattle.fond_cert.specs.Words.{Refused}
 use Rattle.fond_cert.proofs.Leads.{lead_more, lines_append, text_more, nothing_allowed}
@@ -49,6 +49,10 @@ pub record IsReadTo (task : Task) (text rest : List ℕ) (due : Due) (draft : Dr
   pub fits : FitsDue task due draft own
   pub belongs : IsDraftOf task draft
 
+pub nothing_of : (task : Task) (group : Group) → 0 < order group → AreEntriesOf task group (entries group no_parts)
+nothing_of task g.Layer after = absurd (omega (arith, after))
+nothing_of task group after = (All-nil (IsEntryOf task group), λ is. omega arith)
+
 pub nothing_read : (task : Task) (text : List ℕ) (draft : Draft) → draft ≡ no_parts → IsReadTo task text text HeaderDue draft
 nothing_read task text draft e = record {
   lines = [];
@@ -65,13 +69,7 @@ nothing_read task text draft e = record {
           few_cubes = All-nil (λ (layer : List CubeView). length layer < 2 ^ 32);
           over = All-nil (λ (layer : List CubeView). All (λ (cube : CubeView). length cube ≡ length task.atoms) layer);
         };
-        pairs = All-nil (IsReadPair task);
-        rules = All-nil (IsReadRule task);
-        few = omega arith;
-        items = All-nil (IsReadItem task);
-        few_items = omega arith;
-        reach = tt;
-        start = tt;
+        parts = nothing_of task;
       });
 }
 
@@ -155,79 +153,57 @@ pub whole_read : (task : Task) (text rest : List ℕ) (due : Due) (draft : Draft
 whole_read task text rest due draft h e f =
     let fits : FitsDue task NothingDue draft h.own = rw e at h.fits in
     let is : text ≡ lines_text h.own = h.split ∙ ap (λ t. lines_text h.lines ++ t) f ∙ append-nil (lines_text h.lines) ∙ h.same in
-    (h.belongs, (fits.0, (fits.1.0, fits.1.1, is ∙ ap lines_text fits.1.2)))
+    (h.belongs, (fits.0, fits.1, is ∙ ap lines_text fits.2))
 
--- the certificate of a whole draft
-module _ (task : Task) (text : List ℕ) (draft : Draft) (belongs : IsDraftOf task draft) (whole : IsWhole task text draft) where
-  layers_are : all_layers draft ≡ draft.layers
-  layers_are = ap (λ o. draft.layers ++ opened o) whole.0 ∙ append-nil draft.layers
+-- a certificate whose parts belong to a task belongs to it, and its numbers are small
+module _ (task : Task) where
+  as_pairs : (pairs : List Pair) → All (IsReadPair task) pairs → BelongAsPairs task pairs
+  as_pairs pairs h = record { over = λ k d lt. (h k d lt).0; there = λ k d lt. (h k d lt).1 }
 
-  as_layers : BelongAsLayers task draft.layers
-  as_layers = subst (BelongAsLayers task) layers_are belongs.layers
-
-  as_pairs : BelongAsPairs task draft.pairs
-  as_pairs = record { over = λ k d lt. (belongs.pairs k d lt).0; there = λ k d lt. (belongs.pairs k d lt).1 }
-
-  as_rules : BelongAsRules task draft.rules
-  as_rules = record {
-    few = belongs.few;
-    belong = record { over = λ k d lt. (belongs.rules k d lt).0; there = λ k d lt. (belongs.rules k d lt).1 };
-    targeted = λ k d lt. (belongs.rules k d lt).2;
+  as_rules : (rules : List Rule) → AreEntriesOf task g.Rule rules → BelongAsRules task rules
+  as_rules rules h = record {
+    few = h.1 refl;
+    belong = record { over = λ k d lt. (h.0 k d lt).0; there = λ k d lt. (h.0 k d lt).1 };
+    targeted = λ k d lt. (h.0 k d lt).2;
   }
 
-  abbrev layers_text : List Line
-  layers_text = flat_map (layer_lines task) draft.layers
+  item_at : (items : List Item) → All (IsReadItem task) items → (number : ℕ) (item : Item) → slice_get items number ≡ Some item → IsReadItem task item
+  item_at items h number item e = subst (IsReadItem task) (get_or_from_slice_get items number item item e) (h number item (slice_get_within items number item e))
 
-  item_at : (number : ℕ) (item : Item) → slice_get draft.items number ≡ Some item → IsReadItem task item
-  item_at number item e = subst (IsReadItem task) (get_or_from_slice_get draft.items number item item e) (belongs.items number item (slice_get_within draft.items number item e))
-
-  as_items : BelongAsItems task draft.items
-  as_items = record {
-    few = belongs.few_items;
-    over = λ number item e. (item_at number item e).0;
-    numbered = λ k d lt. (belongs.items k d lt).1;
+  as_items : (items : List Item) → AreEntriesOf task g.Item items → BelongAsItems task items
+  as_items items h = record {
+    few = h.1 refl;
+    over = λ number item e. (item_at items h.0 number item e).0;
+    numbered = λ k d lt. (h.0 k d lt).1;
   }
 
-  -- the lines of a draft and the end line, if its reach number and its start number are these
-  ended : (reach start : Option ℕ) → draft.reach ≡ reach → draft.start ≡ start → draft_lines task draft ++ (end_line task ∷ [])
-      ≡ layers_text ++ (map (pair_line task) draft.pairs ++ (map (rule_line task) draft.rules ++ (map (item_line task) draft.items ++ (last_lines task reach start ++ (end_line task ∷ [])))))
-  ended reach start e f =
-      rw (e, f, layers_are) (simp append_assoc)
-
-  refusal_lines : HasLayersAlone draft → draft_lines task draft ++ (end_line task ∷ []) ≡ layers_text ++ (end_line task ∷ [])
-  refusal_lines h = rw (h.0, h.1, h.2.0, h.2.1.0, h.2.1.1, layers_are) (ap (λ t. t ++ (end_line task ∷ [])) (append-nil layers_text))
-
-  -- a certificate is read, and its numbers are small
-  abbrev IsRead : Cert → Type 0
-  IsRead cert = Belongs task cert × (text ≡ spelling task cert) × HasSmallNumbers cert
-
-  read_by : (kind : Kind) → IsWholeOf kind draft → text ≡ lines_text (header task kind ∷ (draft_lines task draft ++ (end_line task ∷ []))) → IsRead (cert_of draft)
-  read_by (OfPolicy ByReach) h is =
-      let cert : cert_of draft ≡ Policy draft.layers draft.pairs draft.rules h.0 = ap (λ r. cert_by draft r draft.start) h.1 in
-      let lines = ap (λ l. lines_text (header task (OfPolicy ByReach) ∷ l)) (ended (Some h.0) None h.1 h.3) in
-      let without = ap (λ (l : List Item). lines_text (header task (OfPolicy ByReach) ∷ (layers_text ++ (map (pair_line task) draft.pairs ++ (map (rule_line task) draft.rules ++ (map (item_line task) l ++ (reach_line task h.0 ∷ end_line task ∷ []))))))) h.2 in
-      subst IsRead (sym cert)
-      ((as_layers, as_pairs, as_rules), is ∙ lines ∙ without, ((λ k d lt. (belongs.pairs k d lt).2), (λ k d lt. (belongs.rules k d lt).3), subst (λ (r : Option ℕ). IfSome r (λ n. n < 2 ^ 64)) h.1 belongs.reach))
-  read_by (OfPolicy ByCover) h is =
-      let cert : cert_of draft ≡ Covered draft.layers draft.pairs draft.rules draft.items h.0 = ap (λ r. cert_by draft r draft.start) h.2 ∙ ap (λ s. cert_by draft None s) h.1 in
-      let lines = ap (λ l. lines_text (header task (OfPolicy ByCover) ∷ l)) (ended None (Some h.0) h.2 h.1) in
-      subst IsRead (sym cert) (
-        (as_layers, as_pairs, as_rules, as_items),
-        is ∙ lines,
-        ((λ k d lt. (belongs.pairs k d lt).2), (λ k d lt. (belongs.rules k d lt).3), (λ k d lt. (belongs.items k d lt).2), subst (λ (s : Option ℕ). IfSome s (λ n. n < 2 ^ 32)) h.1 belongs.start),
+  belongs : (cert : Cert) → IsDraftOf task (parts_of cert) → Belongs task cert × HasSmallNumbers cert
+  belongs (Policy layers pairs rules reach) own =
+      let of_pairs = own.parts g.Pair (omega arith) in
+      let of_rules = own.parts g.Rule (omega arith) in
+      let of_reach = own.parts g.Reach (omega arith) in
+      ((own.layers, as_pairs pairs of_pairs.0, as_rules rules of_rules), ((λ k d lt. (of_pairs.0 k d lt).2), (λ k d lt. (of_rules.0 k d lt).3), All-head (λ n. n < 2 ^ 64) reach [] of_reach.0))
+  belongs (Refusal layers) own = (own.layers, tt)
+  belongs (Covered layers pairs rules items start) own =
+      let of_pairs = own.parts g.Pair (omega arith) in
+      let of_rules = own.parts g.Rule (omega arith) in
+      let of_items = own.parts g.Item (omega arith) in
+      let of_start = own.parts g.Start (omega arith) in (
+        (own.layers, as_pairs pairs of_pairs.0, as_rules rules of_rules, as_items items of_items),
+        ((λ k d lt. (of_pairs.0 k d lt).2), (λ k d lt. (of_rules.0 k d lt).3), (λ k d lt. (of_items.0 k d lt).2), All-head (λ n. n < 2 ^ 32) start [] of_start.0),
       )
-  read_by OfRefusal h is =
-      let cert : cert_of draft ≡ Refusal draft.layers = ap (λ r. cert_by draft r draft.start) h.2.1.0 ∙ ap (λ s. cert_by draft None s) h.2.1.1 in
-      subst IsRead (sym cert) (as_layers, is ∙ ap (λ l. lines_text (header task OfRefusal ∷ l)) (refusal_lines h), tt)
 
-  read : IsRead (cert_of draft)
-  read = read_by whole.1.0 whole.1.1 whole.1.2
+  cert_is : (cert : Cert) → cert_of (parts_of cert) ≡ cert
+  cert_is (Policy layers pairs rules reach) = refl
+  cert_is (Refusal layers) = refl
+  cert_is (Covered layers pairs rules items start) = refl
 
-  pub cert_small : HasSmallNumbers (cert_of draft)
-  cert_small = read.2
-
-  pub cert_read : Belongs task (cert_of draft) × (text ≡ spelling task (cert_of draft))
-  cert_read = (read.0, read.1)
+  -- the certificate of a whole draft is read, and its numbers are small
+  pub cert_read : (text : List ℕ) (draft : Draft) → IsDraftOf task draft → IsWhole task text draft → Belongs task (cert_of draft) × (text ≡ spelling task (cert_of draft)) × HasSmallNumbers (cert_of draft)
+  cert_read text draft own whole =
+      let same : cert_of draft ≡ whole.0 = ap cert_of whole.1 ∙ cert_is whole.0 in
+      let of = belongs whole.0 (subst (IsDraftOf task) whole.1 own) in
+      subst (λ (cert : Cert). Belongs task cert × (text ≡ spelling task cert) × HasSmallNumbers cert) (sym same) (of.0, whole.2, of.1)
 
 -- a text of a kind that is not allowed has no form
 pub not_allowed : (due : Due) (piece : List ℕ) (kind : LineKind) → HasForm (form kind) piece → due_after due kind ≡ None → HasNoForm due piece

@@ -16,10 +16,6 @@ IsPairOf task pair = (length pair.cond ≡ length task.atoms) × (pair.act < len
 abbrev pub IsRuleOf : Task → Rule → Type 0
 IsRuleOf task rule = (length rule.cond ≡ length task.atoms) × (rule.act < length task.acts) × HasTarget rule.targets
 
--- an item belongs to a task: its cube is over the task's atoms, and it has an item number if it has a rule
-abbrev pub IsItemOf : Task → Item → Type 0
-IsItemOf task item = (length item.cube ≡ length task.atoms) × HasNumber item.way
-
 -- what reading a pair ensures: it belongs to the task, and its numbers are small
 abbrev pub IsReadPair : Task → Pair → Type 0
 IsReadPair task pair = (length pair.cond ≡ length task.atoms) × (pair.act < length task.acts) × IsSmallPair pair

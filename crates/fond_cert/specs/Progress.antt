@@ -1,5 +1,5 @@
 -- How far a text was read.
-use Rattle.std.specs.Prelude.{◌≡◌, ℕ, ◌+◌, List, [], ◌∷◌, ◌++◌, Option, Some, None}
+use Rattle.std.specs.Prelude.{◌≡◌, ℕ, ◌+◌, List, Option, Some, None}
 use Rattle.fond_task.specs.declared.task.Task.{Task}
 use Rattle.fond_policy.specs.declared.cert.Cert.{Cert}
 use Rattle.fond_policy.specs.declared.cert.Cert.TheVariants.{Policy, Refusal, Covered}
@@ -11,10 +11,9 @@ use Rattle.fond_cert.specs.declared.error.LineError.{LineError}
 use Rattle.fond_cert.specs.declared.error.LineError.TheVariants.{Refused as RefusedLine, NoMemory}
 use Rattle.fond_form.specs.declared.table.LineKind.{LineKind}
 use Rattle.fond_form.specs.Forms.{Line}
-use Rattle.fond_cert.specs.Drafts.{draft_lines, IsDraftOf, IsGrown, header, IsWholeOf, FitsDue}
-use Rattle.fond_cert.specs.declared.due.Kind.{Kind}
+use Rattle.fond_cert.specs.Drafts.{IsDraftOf, IsGrown, FitsDue}
 use Rattle.fond_cert.specs.Sections.{due_after}
-use Rattle.fond_cert.specs.Spellings.{end_line, lines_text}
+use Rattle.fond_cert.specs.Spellings.{parts_of, spelling}
 
 -- a draft belongs to a task and fits what is due
 abbrev pub IsReady : Task → Due → Draft → Type 0
@@ -25,9 +24,9 @@ abbrev pub IsTaken : Task → Due → Draft → List ℕ → Due → Draft → T
 IsTaken task due before piece next after =
     (kind : LineKind) × (due_after due kind ≡ Some next) × IsGrown task kind piece before after
 
--- a text is that of a draft to which nothing is missing
+-- a text is that of a certificate whose parts a draft has
 abbrev pub IsWhole : Task → List ℕ → Draft → Type 0
-IsWhole task text draft = (draft.current ≡ None) × ((kind : Kind) × IsWholeOf kind draft × (text ≡ lines_text (header task kind ∷ (draft_lines task draft ++ end_line task ∷ []))))
+IsWhole task text draft = (cert : Cert) × (draft ≡ parts_of cert) × (text ≡ spelling task cert)
 
 -- the certificate of a draft with this reach number, or else with this start number, or else the refusal
 abbrev pub cert_by : Draft → Option ℕ → Option ℕ → Cert

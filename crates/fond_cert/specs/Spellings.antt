@@ -1,5 +1,5 @@
 -- How certificates are written: the one spelling of each.
-use Rattle.std.specs.Prelude.{ℕ, ◌<◌, ◌≡◌, ◌^◌, List, [], ◌∷◌, ◌++◌, Bool, All as Each, codes, length, map, slice_get, ⊤}
+use Rattle.std.specs.Prelude.{ℕ, ◌<◌, ◌≡◌, ◌^◌, List, [], ◌∷◌, ◌++◌, Bool, Option, Some, None, All as Each, codes, length, map, slice_get, ⊤}
 use Rattle.std.specs.Fmt.{decimal}
 use Rattle.std.specs.List.{enumerate_from, filter_map, flat_map}
 use Rattle.std.specs.Option.{option_map, option_map_or}
@@ -22,6 +22,15 @@ use Rattle.fond_cover.specs.declared.item.Way.TheVariants.{Goal as ToGoal, Rule 
 use Rattle.fond_policy.specs.declared.cert.Cert.{Cert}
 use Rattle.fond_policy.specs.declared.cert.Cert.TheVariants.{Policy, Refusal, Covered}
 use Rattle.fond_policy.specs.Sizes.{IsSmallTarget}
+use Rattle.fond_cert.specs.declared.draft.Draft.{Draft}
+use Rattle.fond_cert.specs.declared.due.Evidence.TheVariants.{Reach as ByReach, Cover as ByCover}
+use Rattle.fond_cert.specs.declared.due.Group.{Group}
+use Rattle.fond_cert.specs.declared.due.Group.TheVariants as g
+use Rattle.fond_cert.specs.declared.due.Kind.{Kind}
+use Rattle.fond_cert.specs.declared.due.Kind.TheVariants.{Policy as OfPolicy, Refusal as OfRefusal}
+use Rattle.fond_cert.specs.declared.due.Section.{Section}
+use Rattle.fond_cert.specs.declared.due.Section.TheVariants.{One as OneOf, Any, Few, Blocks}
+use Rattle.fond_cert.specs.Sections.{sections}
 use Rattle.fond_form.specs.declared.table.LineKind.{LineKind}
 use Rattle.fond_form.specs.declared.table.LineKind.TheVariants as k
 use Rattle.fond_form.specs.declared.table.Sort.{Sort}
@@ -149,15 +158,87 @@ start_line task start = spelled_line task k.Start (start, tt)
 abbrev pub end_line : Task → Line
 end_line task = spelled_line task k.End (tt, tt)
 
--- the lines of a certificate
+-- what one line of a group stands for, or the lines of a layer: a layer, a cube, a pair, a rule, an item, or a number
+abbrev pub Entry : Group → Type 0
+Entry g.Layer = List CubeView
+Entry g.Cube = CubeView
+Entry g.Pair = Pair
+Entry g.Rule = Rule
+Entry g.Item = Item
+Entry g.Reach = ℕ
+Entry g.Start = ℕ
+
+-- the line of an entry; of a layer, its first line
+abbrev pub entry_line : Task → (group : Group) → Entry group → Line
+entry_line task g.Layer = λ layer. spelled_line task k.Layer (tt, tt)
+entry_line task g.Cube = cube_line task
+entry_line task g.Pair = pair_line task
+entry_line task g.Rule = rule_line task
+entry_line task g.Item = item_line task
+entry_line task g.Reach = reach_line task
+entry_line task g.Start = start_line task
+
+-- layers, and after them the one that is being read, if there is one
+abbrev pub with_opened : List (List CubeView) → Option (List CubeView) → List (List CubeView)
+with_opened layers None = layers
+with_opened layers (Some layer) = layers ++ (layer ∷ [])
+
+-- all layers of a draft
+abbrev pub all_layers : Draft → List (List CubeView)
+all_layers draft = with_opened draft.layers draft.current
+
+-- an optional value as a list
+abbrev pub listed : {X : Type 0} → Option X → List X
+listed None = []
+listed (Some value) = value ∷ []
+
+-- the entries of a group in a draft, in the order of their lines; the cubes are those of the layer that is being read
+abbrev pub entries : (group : Group) → Draft → List (Entry group)
+entries g.Layer draft = all_layers draft
+entries g.Cube draft = option_map_or (λ (layer : List CubeView). layer) draft.current []
+entries g.Pair draft = draft.pairs
+entries g.Rule draft = draft.rules
+entries g.Item draft = draft.items
+entries g.Reach draft = listed draft.reach
+entries g.Start draft = listed draft.start
+
+-- the lines of a section of a draft, entry by entry, or layer by layer
+abbrev pub section_lines : Task → Draft → Section → List Line
+section_lines task draft (OneOf group) = map (entry_line task group) (entries group draft)
+section_lines task draft (Any group) = map (entry_line task group) (entries group draft)
+section_lines task draft (Few group) = map (entry_line task group) (entries group draft)
+section_lines task draft (Blocks first second) = flat_map (layer_lines task) (all_layers draft)
+
+-- the lines of sections of a draft, section by section, and further lines after them
+abbrev pub lines_then : Task → Draft → List Section → List Line → List Line
+lines_then task draft [] further = further
+lines_then task draft (section ∷ later) further = section_lines task draft section ++ lines_then task draft later further
+
+-- the header of a certificate
+abbrev pub header : Task → Kind → Line
+header task (OfPolicy ByReach) = spelled_line task k.PolicyHeader (tt, tt)
+header task (OfPolicy ByCover) = spelled_line task k.CoverHeader (tt, tt)
+header task OfRefusal = spelled_line task k.RefusalHeader (tt, tt)
+
+-- a draft without parts
+abbrev pub no_parts : Draft
+no_parts = record { layers = []; current = None; pairs = []; rules = []; items = []; reach = None; start = None }
+
+-- the parts of a certificate, as a draft that has all of them
+abbrev pub parts_of : Cert → Draft
+parts_of (Policy layers pairs rules reach) = record no_parts { layers = layers; pairs = pairs; rules = rules; reach = Some reach }
+parts_of (Refusal layers) = record no_parts { layers = layers }
+parts_of (Covered layers pairs rules items start) = record no_parts { layers = layers; pairs = pairs; rules = rules; items = items; start = Some start }
+
+-- whether a certificate is a policy or a refusal, and how the policy shows where it leads
+abbrev pub kind_of : Cert → Kind
+kind_of (Policy layers pairs rules reach) = OfPolicy ByReach
+kind_of (Refusal layers) = OfRefusal
+kind_of (Covered layers pairs rules items start) = OfPolicy ByCover
+
+-- the lines of a certificate: its header, those of its sections, and the last line
 abbrev pub cert_lines : Task → Cert → List Line
-cert_lines task (Policy layers pairs rules reach) =
-    spelled_line task k.PolicyHeader (tt, tt)
-    ∷ (flat_map (layer_lines task) layers ++ (map (pair_line task) pairs ++ (map (rule_line task) rules ++ (reach_line task reach ∷ end_line task ∷ []))))
-cert_lines task (Refusal layers) = spelled_line task k.RefusalHeader (tt, tt) ∷ (flat_map (layer_lines task) layers ++ (end_line task ∷ []))
-cert_lines task (Covered layers pairs rules items start) =
-    spelled_line task k.CoverHeader (tt, tt)
-    ∷ (flat_map (layer_lines task) layers ++ (map (pair_line task) pairs ++ (map (rule_line task) rules ++ (map (item_line task) items ++ (start_line task start ∷ end_line task ∷ [])))))
+cert_lines task cert = header task (kind_of cert) ∷ lines_then task (parts_of cert) (sections (kind_of cert)) (end_line task ∷ [])
 
 -- the text of lines, each with a line feed after it
 abbrev pub lines_text : List Line → List ℕ

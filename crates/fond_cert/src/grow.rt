@@ -1,11 +1,12 @@
 //! Adding what a line makes to a draft. Beside the time and memory that reading the line takes, a call takes the time and
 //! memory of adding one item to a list.
 
-ghost use Rattle.fond_cert.specs.Drafts.{closed, with_open, with_cube, with_pair, with_rule, with_item, with_reach, with_start, all_layers, grown, IsGrown, HasRoom};
+ghost use Rattle.fond_cert.specs.Drafts.{closed, with_entry, grown, IsGrown, HasRoom};
 ghost use Rattle.fond_cert.specs.Filled.{Hold};
 ghost use Rattle.fond_cert.specs.Made.{IsRefusedBy};
 ghost use Rattle.fond_cert.specs.Refusals.{LineRefuses};
-ghost use Rattle.fond_cert.specs.Spellings.{Meanings, AreOfTask};
+ghost use Rattle.fond_cert.specs.Spellings.{Meanings, AreOfTask, all_layers, no_parts};
+ghost use Rattle.fond_cert.specs.declared.due.Group.TheVariants as g;
 ghost use Rattle.fond_form.specs.Forms.{form, HasForm};
 ghost use Rattle.fond_task.specs.declared.task.Task.{Task};
 ghost use Rattle.fond_game.specs.Layers.{CubeView};
@@ -31,7 +32,7 @@ use std::alloc::Global;
 impl Draft {
     /// A draft without parts. It takes no memory.
     pub fn new(alloc: Global) -> Draft
-        ensures { result ≡ record { layers = []; current = None; pairs = []; rules = []; items = []; reach = None; start = None } }
+        ensures { result ≡ no_parts }
     {
         Draft {
             layers: Layers::new(alloc),
@@ -60,7 +61,7 @@ impl Draft {
     fn add_layer(&mut self, alloc: Global) -> Result<(), NoMemory>
         requires few { length (all_layers self.old) < 2 ^ 32 }
         requires few_cubes { All (λ (layer : List CubeView). length layer < 2 ^ 32) (all_layers self.old) }
-        ensures { OnOk result (self.new ≡ with_open (closed self.old) (Some [])) }
+        ensures { OnOk result (self.new ≡ with_entry g.Layer self.old []) }
     {
         self.close()?;
         self.current = Some(Layer::new(alloc));
@@ -69,7 +70,7 @@ impl Draft {
 
     /// Adds a cube to the layer that is being read.
     fn add_cube(&mut self, cube: Cube) -> Result<(), NoMemory>
-        ensures { OnOk result (self.new ≡ with_cube self.old cube) }
+        ensures { OnOk result (self.new ≡ with_entry g.Cube self.old cube) }
     {
         if let Some(layer) = &mut self.current {
             layer.push(cube)?;
@@ -81,7 +82,7 @@ impl Draft {
     fn add_pair(&mut self, pair: Pair) -> Result<(), NoMemory>
         requires few { length (all_layers self.old) < 2 ^ 32 }
         requires few_cubes { All (λ (layer : List CubeView). length layer < 2 ^ 32) (all_layers self.old) }
-        ensures { OnOk result (self.new ≡ with_pair self.old pair) }
+        ensures { OnOk result (self.new ≡ with_entry g.Pair self.old pair) }
     {
         self.close()?;
         self.pairs.push(pair)
@@ -92,7 +93,7 @@ impl Draft {
         requires few { length (all_layers self.old) < 2 ^ 32 }
         requires few_cubes { All (λ (layer : List CubeView). length layer < 2 ^ 32) (all_layers self.old) }
         requires room { length self.old.rules < 2 ^ 32 - 1 }
-        ensures { OnOk result (self.new ≡ with_rule self.old rule) }
+        ensures { OnOk result (self.new ≡ with_entry g.Rule self.old rule) }
     {
         self.close()?;
         self.rules.push(rule)
@@ -103,7 +104,7 @@ impl Draft {
         requires few { length (all_layers self.old) < 2 ^ 32 }
         requires few_cubes { All (λ (layer : List CubeView). length layer < 2 ^ 32) (all_layers self.old) }
         requires room { length self.old.items < 2 ^ 32 - 1 }
-        ensures { OnOk result (self.new ≡ with_item self.old item) }
+        ensures { OnOk result (self.new ≡ with_entry g.Item self.old item) }
     {
         self.close()?;
         self.items.push(item)
@@ -113,7 +114,7 @@ impl Draft {
     fn add_reach(&mut self, reach: u64) -> Result<(), NoMemory>
         requires few { length (all_layers self.old) < 2 ^ 32 }
         requires few_cubes { All (λ (layer : List CubeView). length layer < 2 ^ 32) (all_layers self.old) }
-        ensures { OnOk result (self.new ≡ with_reach self.old reach) }
+        ensures { OnOk result (self.new ≡ with_entry g.Reach self.old reach) }
     {
         self.close()?;
         self.reach = Some(reach);
@@ -124,7 +125,7 @@ impl Draft {
     fn add_start(&mut self, start: u32) -> Result<(), NoMemory>
         requires few { length (all_layers self.old) < 2 ^ 32 }
         requires few_cubes { All (λ (layer : List CubeView). length layer < 2 ^ 32) (all_layers self.old) }
-        ensures { OnOk result (self.new ≡ with_start self.old start) }
+        ensures { OnOk result (self.new ≡ with_entry g.Start self.old start) }
     {
         self.close()?;
         self.start = Some(start);

@@ -4,8 +4,9 @@ ghost use Rattle.fond_cert.specs.Drafts.{IsDraftOf};
 ghost use Rattle.fond_cert.specs.Faults.{IsCertFault, IsRefusedLine};
 ghost use Rattle.fond_cert.specs.Progress.{IsReady, IsTaken, IsWhole, IsPlaced};
 ghost use Rattle.fond_cert.specs.Refusals.{LineRefuses, CertRefuses};
+ghost use Rattle.fond_cert.specs.Spellings.{no_parts};
 ghost use Rattle.fond_cert.specs.declared.due.Due.TheVariants.{Nothing};
-ghost use Rattle.std.specs.Prelude.{◌≡◌, ◌+◌, ◌-◌, ◌≤◌, [], None, length, Decides, IfOk, IfErr, OnOk};
+ghost use Rattle.std.specs.Prelude.{◌≡◌, ◌+◌, ◌-◌, ◌≤◌, [], length, Decides, IfOk, IfErr, OnOk};
 
 use crate::code::OUT_OF_FORM;
 use crate::draft::Draft;
@@ -77,7 +78,7 @@ fn add_lines(
     text: &[u8],
     draft: &mut Draft,
 ) -> Result<(), CertError>
-    requires { draft.old ≡ record { layers = []; current = None; pairs = []; rules = []; items = []; reach = None; start = None } }
+    requires { draft.old ≡ no_parts }
     ensures read { OnOk result (IsDraftOf index.now draft.new × IsWhole index.now text.now draft.new) }
     ensures refused { IfErr result (CertRefuses (IsCertFault index.now text.now)) }
 {

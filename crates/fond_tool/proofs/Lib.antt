@@ -1,5 +1,6 @@
 mod Accepted
 mod Answered
+mod Certified
 mod Checks
 mod Ends
 mod Lists

@@ -2,6 +2,7 @@ use Rattle.fond_tool.specs.Checks.{AnswersCheck}
 use Rattle.fond_tool.specs.Rejections.{of_cert}
 use Rattle.fond_cert.specs.Faults.{IsCertFault}
 use Rattle.fond_tool.proofs.Checks.{judged}
+use Rattle.fond_tool.proofs.Certified.{text_of_equal}
 use Rattle.fond_tool.proofs.Rejections.{cert_rejected, rejected_by}
 use Rattle.fond_tool.proofs.check.certified_verdict.Goals as goal
 
@@ -15,5 +16,5 @@ returns-in_err-cert-clause-rejected c =
 
 pub returns-clause-replied : goal.returns-clause-replied
 returns-clause-replied c =
-    judged c.args.files.now.task.value c.args.files.now.game.value c.args.cert.now c.requires c.in_ok-cert.cert (rw c.deref-game.ensures at c.in_ok-cert.ensures.belongs, c.in_ok-cert.ensures.small, rw c.deref-game.ensures at c.in_ok-cert.ensures.read)
+    judged c.args.files.now.task.value c.args.files.now.game.value c.args.cert.now c.requires c.in_ok-cert.cert (text_of_equal _ _ _ _ c.deref-game.ensures (c.in_ok-cert.ensures.belongs, c.in_ok-cert.ensures.small, c.in_ok-cert.ensures.read))
     c.in_ok-verdict_answer.field-0 (rw c.deref-game.ensures at c.in_ok-verdict_answer.ensures)

@@ -3,6 +3,7 @@ use Rattle.fond_rules.specs.Belongs.{BelongTo}
 use Rattle.fond_tool.specs.Rejections.{of_cert}
 use Rattle.fond_tool.specs.Simulations.{AnswersSimulate}
 use Rattle.fond_cert.specs.Faults.{IsCertFault}
+use Rattle.fond_tool.proofs.Certified.{text_of_equal}
 use Rattle.fond_tool.proofs.Rejections.{cert_rejected, rejected_by}
 use Rattle.fond_tool.proofs.Runs.{rules_belong, simulated}
 use Rattle.fond_tool.proofs.simulate.certified_simulation.Goals as goal
@@ -20,5 +21,5 @@ drawn_answer-requires c = subst (BelongTo c.deref-game.result.now) (sym c.rules_
 
 pub returns-clause-replied : goal.returns-clause-replied
 returns-clause-replied c =
-    simulated c.args.files.now.task.value c.args.files.now.game.value c.requires c.args.cert.now c.args.seed c.args.steps c.in_ok-cert.cert (rw c.deref-game.ensures at c.in_ok-cert.ensures.belongs, c.in_ok-cert.ensures.small, rw c.deref-game.ensures at c.in_ok-cert.ensures.read)
+    simulated c.args.files.now.task.value c.args.files.now.game.value c.requires c.args.cert.now c.args.seed c.args.steps c.in_ok-cert.cert (text_of_equal _ _ _ _ c.deref-game.ensures (c.in_ok-cert.ensures.belongs, c.in_ok-cert.ensures.small, c.in_ok-cert.ensures.read))
     c.in_ok-drawn_answer.field-0 (rw (c.rules_of-rules.ensures, c.deref-game.ensures) at c.in_ok-drawn_answer.ensures)
