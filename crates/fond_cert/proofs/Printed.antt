@@ -20,11 +20,17 @@ use Rattle.fond_game.specs.declared.rule.Targets.TheVariants.{One, All}
 use Rattle.fond_cover.specs.declared.item.Item.{Item}
 use Rattle.fond_cover.specs.declared.item.Way.{Way}
 use Rattle.fond_cover.specs.declared.item.Way.TheVariants.{Goal as ToGoal, Rule as ByRule}
-use Rattle.fond_policy.specs.declared.cert.Cert.TheVariants.{Policy, Refusal, Covered}
+use Rattle.fond_policy.specs.declared.cert.Cert.{Cert}
+use Rattle.fond_cert.specs.declared.draft.Draft.{Draft}
+use Rattle.fond_cert.specs.declared.due.Group.{Group}
+use Rattle.fond_cert.specs.declared.due.Group.TheVariants as g
+use Rattle.fond_cert.specs.declared.due.Section.{Section}
+use Rattle.fond_cert.specs.declared.due.Section.TheVariants.{One as OneOf, Any, Few, Blocks}
+use Rattle.fond_cert.specs.Sections.{sections}
 use Rattle.fond_form.specs.Lines.{group_text, spaced, WrittenLiteral, sign_text, literals_text}
 use Rattle.fond_form.specs.Forms.{Field, text_of, form, value_text, Values, fields_text, Line}
-use Rattle.fond_cert.specs.Printed.{atom_literal_text, cube_text, fed, chosen_text, cond_text, pair_text, rule_text, way_text, item_text, plan_text, policy_text, items_text, cover_text, refusal_text}
-use Rattle.fond_cert.specs.Spellings.{action_leaves, act_leaves, written_literal, written_cube, target_word, targets_line, layer_lines, pair_line, rule_line, way_line, item_line, reach_line, start_line, end_line, lines_text, spelling}
+use Rattle.fond_cert.specs.Printed.{atom_literal_text, cube_text, fed, chosen_text, cond_text, pair_text, rule_text, way_text, item_text, layer_text, entry_text}
+use Rattle.fond_cert.specs.Spellings.{action_leaves, act_leaves, written_literal, written_cube, target_word, targets_line, layer_lines, pair_line, rule_line, way_line, item_line, reach_line, start_line, end_line, Entry, entry_line, all_layers, entries, lines_then, header, parts_of, kind_of, lines_text, spelling}
 use Rattle.fond_cert.proofs.Acts.{leaves_text as action_leaves_text}
 use Rattle.fond_cert.proofs.CubeTexts.{leaves_text}
 use Rattle.fond_cert.proofs.Leads.{lines_append}
@@ -111,35 +117,45 @@ pub mapped : {X : Type 0} (f : X → Line) (g : X → List ℕ) → ((x : X) →
 mapped f g h [] = refl
 mapped f g h (x ∷ xs) = ap (λ t. t ++ flat_map g xs) (h x) ∙ ap (λ t. fed (f x) ++ t) (mapped f g h xs)
 
--- the text of layers, pairs and rules, with that of other lines after it
-plan_is : (task : Task) (layers : List (List CubeView)) (pairs : List Pair) (rules : List Rule) (last : List Line) →
-    plan_text task layers pairs rules ++ lines_text last ≡ lines_text (flat_map (layer_lines task) layers ++ (map (pair_line task) pairs ++ (map (rule_line task) rules ++ last)))
-plan_is task layers pairs rules last =
-    rw (
-      sym (several_lines (layer_lines task) layers),
-      mapped (pair_line task) (pair_text task) (pair_is task) pairs,
-      mapped (rule_line task) (rule_text task) (rule_is task) rules,
-    ) (simp (flat_map-append, append_assoc))
+-- the text of an entry is that of its line
+entry_is : (task : Task) (group : Group) (entry : Entry group) → entry_text task group entry ≡ fed (entry_line task group entry)
+entry_is task g.Pair pair = pair_is task pair
+entry_is task g.Rule rule = rule_is task rule
+entry_is task g.Item item = item_is task item
+entry_is task g.Reach reach = line_is (reach_line task reach)
+entry_is task g.Start start = line_is (start_line task start)
+entry_is task group entry = refl
 
-pub policy_is : (task : Task) (layers : List (List CubeView)) (pairs : List Pair) (rules : List Rule) (reach : ℕ) → policy_text task layers pairs rules reach ≡ spelling task (Policy layers pairs rules reach)
-policy_is task layers pairs rules reach =
-    ap (λ t. codes "dualfond 1 policy\n" ++ (plan_text task layers pairs rules ++ (t ++ codes "end\n"))) (line_is (reach_line task reach))
-    ∙ ap (λ t. codes "dualfond 1 policy\n" ++ t) (plan_is task layers pairs rules (reach_line task reach ∷ end_line task ∷ []))
+-- the texts of items, one by one, and a further text
+abbrev texts_then : {X : Type 0} → (X → List ℕ) → List X → List ℕ → List ℕ
+texts_then f [] further = further
+texts_then f (x ∷ xs) further = f x ++ texts_then f xs further
 
-last_is : (task : Task) (items : List Item) (start : ℕ) → items_text task items start ++ codes "end\n" ≡ lines_text (map (item_line task) items ++ (start_line task start ∷ end_line task ∷ []))
-last_is task items start =
-    ap (λ t. (flat_map (item_text task) items ++ t) ++ codes "end\n") (line_is (start_line task start))
-    ∙ append_assoc (flat_map (item_text task) items) (fed (start_line task start)) (codes "end\n")
-    ∙ ap (λ t. t ++ (fed (start_line task start) ++ codes "end\n")) (mapped (item_line task) (item_text task) (item_is task) items)
-    ∙ sym (lines_append (map (item_line task) items) (start_line task start ∷ end_line task ∷ []))
+flat_then : {X : Type 0} (f : X → List ℕ) (xs : List X) (further : List ℕ) → flat_map f xs ++ further ≡ texts_then f xs further
+flat_then f [] further = refl
+flat_then f (x ∷ xs) further = append_assoc (f x) (flat_map f xs) further ∙ ap (λ t. f x ++ t) (flat_then f xs further)
 
-pub cover_is : (task : Task) (layers : List (List CubeView)) (pairs : List Pair) (rules : List Rule) (items : List Item) (start : ℕ) →
-    cover_text task layers pairs rules items start ≡ spelling task (Covered layers pairs rules items start)
-cover_is task layers pairs rules items start =
-    ap (λ u. codes "dualfond 2 policy\n" ++ u)
-    (ap (λ t. plan_text task layers pairs rules ++ t) (last_is task items start) ∙ plan_is task layers pairs rules (map (item_line task) items ++ (start_line task start ∷ end_line task ∷ [])))
+entries_are : (task : Task) (group : Group) (xs : List (Entry group)) (further : List ℕ) (lines : List Line) → further ≡ lines_text lines → texts_then (entry_text task group) xs further ≡ lines_text (map (entry_line task group) xs ++ lines)
+entries_are task group [] further lines same = same
+entries_are task group (x ∷ xs) further lines same = λ i. entry_is task group x i ++ entries_are task group xs further lines same i
 
-pub refusal_is : (task : Task) (layers : List (List CubeView)) → refusal_text task layers ≡ spelling task (Refusal layers)
-refusal_is task layers =
-    ap (λ u. codes "dualfond 1 refusal\n" ++ u)
-    (ap (λ t. t ++ codes "end\n") (sym (several_lines (layer_lines task) layers)) ∙ sym (lines_append (flat_map (layer_lines task) layers) (end_line task ∷ [])))
+-- the text of sections as it is printed, and the last line
+abbrev sections_text : Task → Draft → List Section → List ℕ
+sections_text task draft [] = codes "end\n"
+sections_text task draft (OneOf group ∷ later) = texts_then (entry_text task group) (entries group draft) (sections_text task draft later)
+sections_text task draft (Any group ∷ later) = flat_map (entry_text task group) (entries group draft) ++ sections_text task draft later
+sections_text task draft (Few group ∷ later) = flat_map (entry_text task group) (entries group draft) ++ sections_text task draft later
+sections_text task draft (Blocks first second ∷ later) = flat_map (layer_text task) (all_layers draft) ++ sections_text task draft later
+
+sections_are : (task : Task) (draft : Draft) (sections : List Section) → sections_text task draft sections ≡ lines_text (lines_then task draft sections (end_line task ∷ []))
+sections_are task draft [] = refl
+sections_are task draft (OneOf group ∷ later) = entries_are task group (entries group draft) _ _ (sections_are task draft later)
+sections_are task draft (Any group ∷ later) = flat_then (entry_text task group) (entries group draft) _ ∙ entries_are task group (entries group draft) _ _ (sections_are task draft later)
+sections_are task draft (Few group ∷ later) = flat_then (entry_text task group) (entries group draft) _ ∙ entries_are task group (entries group draft) _ _ (sections_are task draft later)
+sections_are task draft (Blocks first second ∷ later) =
+    let layers = sym (several_lines (layer_lines task) (all_layers draft)) in
+    (λ i. layers i ++ sections_are task draft later i) ∙ sym (lines_append (flat_map (layer_lines task) (all_layers draft)) (lines_then task draft later (end_line task ∷ [])))
+
+-- what is printed of a certificate is its text
+pub spelling_is : (task : Task) (cert same : Cert) → cert ≡ same → fed (header task (kind_of same)) ++ sections_text task (parts_of same) (sections (kind_of same)) ≡ spelling task cert
+spelling_is task cert same is = ap (λ t. fed (header task (kind_of same)) ++ t) (sections_are task (parts_of same) (sections (kind_of same))) ∙ ap (spelling task) (sym is)

@@ -17,7 +17,9 @@ use Rattle.fond_cover.specs.declared.item.Way.{Way}
 use Rattle.fond_cover.specs.declared.item.Way.TheVariants.{Goal as ToGoal, Rule as ByRule}
 use Rattle.fond_form.specs.Lines.{group_text, spaced, sign_text, literals_text}
 use Rattle.fond_form.specs.Forms.{Line, line_text}
-use Rattle.fond_cert.specs.Spellings.{act_leaves, target_word, written_cube, layer_lines, lines_text}
+use Rattle.fond_cert.specs.declared.due.Group.{Group}
+use Rattle.fond_cert.specs.declared.due.Group.TheVariants as g
+use Rattle.fond_cert.specs.Spellings.{act_leaves, target_word, written_cube, cube_line, layer_lines, Entry, entry_line, lines_text}
 
 -- the text of an atom's literal, if there is one
 abbrev pub atom_literal_text : Labels → Atom → Option Bool → List ℕ
@@ -66,10 +68,6 @@ way_text (ByRule rule numbers) = decimal rule ++ spaced (map decimal numbers)
 abbrev pub item_text : Task → Item → List ℕ
 item_text task item = codes "item " ++ (way_text item.way ++ cond_text task item.cube)
 
--- the text of layers, pairs and rules
-abbrev pub plan_text : Task → List (List CubeView) → List Pair → List Rule → List ℕ
-plan_text task layers pairs rules = flat_map (layer_text task) layers ++ (flat_map (pair_text task) pairs ++ flat_map (rule_text task) rules)
-
 -- the text of the reach line
 abbrev pub reach_text : ℕ → List ℕ
 reach_text reach = codes "reach " ++ (decimal reach ++ codes "\n")
@@ -78,20 +76,12 @@ reach_text reach = codes "reach " ++ (decimal reach ++ codes "\n")
 abbrev pub start_text : ℕ → List ℕ
 start_text start = codes "start " ++ (decimal start ++ codes "\n")
 
--- the text of a policy with a reach number, part by part
-abbrev pub policy_text : Task → List (List CubeView) → List Pair → List Rule → ℕ → List ℕ
-policy_text task layers pairs rules reach =
-    codes "dualfond 1 policy\n" ++ (plan_text task layers pairs rules ++ (reach_text reach ++ codes "end\n"))
-
--- the text of items and the start line
-abbrev pub items_text : Task → List Item → ℕ → List ℕ
-items_text task items start = flat_map (item_text task) items ++ start_text start
-
--- the text of a policy with a cover, part by part
-abbrev pub cover_text : Task → List (List CubeView) → List Pair → List Rule → List Item → ℕ → List ℕ
-cover_text task layers pairs rules items start =
-    codes "dualfond 2 policy\n" ++ (plan_text task layers pairs rules ++ (items_text task items start ++ codes "end\n"))
-
--- the text of a refusal, part by part
-abbrev pub refusal_text : Task → List (List CubeView) → List ℕ
-refusal_text task layers = codes "dualfond 1 refusal\n" ++ (flat_map (layer_text task) layers ++ codes "end\n")
+-- the text of an entry's line, part by part
+abbrev pub entry_text : Task → (group : Group) → Entry group → List ℕ
+entry_text task g.Layer = λ layer. fed (entry_line task g.Layer layer)
+entry_text task g.Cube = λ cube. fed (cube_line task cube)
+entry_text task g.Pair = pair_text task
+entry_text task g.Rule = rule_text task
+entry_text task g.Item = item_text task
+entry_text task g.Reach = reach_text
+entry_text task g.Start = start_text

@@ -3,7 +3,7 @@
 
 ghost use Rattle.fond_policy.specs.Belongs.{Belongs};
 ghost use Rattle.fond_cert.specs.Items.{IsPairOf, IsRuleOf};
-ghost use Rattle.fond_cert.specs.Printed.{fed, reach_text, start_text, chosen_text, places_text, cond_text, pair_text, rule_text, layer_text, way_text, item_text, plan_text, items_text};
+ghost use Rattle.fond_cert.specs.Printed.{fed, reach_text, start_text, chosen_text, places_text, cond_text, pair_text, rule_text, layer_text, way_text, item_text};
 ghost use Rattle.fond_cert.specs.Spellings.{cube_line, lines_text, spelling};
 ghost use Rattle.fond_edge.specs.Pens.{flow, IsPut, IsLost, Adds};
 ghost use Rattle.fond_game.specs.Layers.{CubeView};
@@ -275,34 +275,6 @@ impl Listing for Items {
     }
 }
 
-/// Adds the lines of items and the start line.
-fn put_cover<K: Sink>(task: &Task, items: &Items, start: u32, pen: &mut Pen, sink: &mut K)
-    ensures { Adds (flow (K.written sink.old) (K.faults sink.old) pen.old)
-        (flow (K.written sink.new) (K.faults sink.new) pen.new) (items_text task.now items.now start) }
-{
-    put_all(task, items, pen, sink);
-    put_start(start, pen, sink);
-}
-
-/// Adds the lines of layers, pairs and rules.
-fn put_plan<K: Sink>(
-    task: &Task,
-    layers: &Layers,
-    pairs: &Pairs,
-    rules: &Rules,
-    pen: &mut Pen,
-    sink: &mut K,
-)
-    requires pairs { All (IsPairOf task.now) pairs.now }
-    requires rules { All (IsRuleOf task.now) rules.now }
-    ensures { Adds (flow (K.written sink.old) (K.faults sink.old) pen.old)
-        (flow (K.written sink.new) (K.faults sink.new) pen.new) (plan_text task.now layers.now pairs.now rules.now) }
-{
-    put_all(task, layers, pen, sink);
-    put_all(task, pairs, pen, sink);
-    put_all(task, rules, pen, sink);
-}
-
 /// Adds the last line.
 fn put_end<K: Sink>(pen: &mut Pen, sink: &mut K)
     ensures { Adds (flow (K.written sink.old) (K.faults sink.old) pen.old)
@@ -325,7 +297,9 @@ fn put_lines<K: Sink>(task: &Task, cert: &Cert, pen: &mut Pen, sink: &mut K)
             reach,
         } => {
             pen.add(sink, b"dualfond 1 policy\n");
-            put_plan(task, layers, pairs, rules, pen, sink);
+            put_all(task, layers, pen, sink);
+            put_all(task, pairs, pen, sink);
+            put_all(task, rules, pen, sink);
             put_reach(*reach, pen, sink);
             put_end(pen, sink);
         }
@@ -342,8 +316,11 @@ fn put_lines<K: Sink>(task: &Task, cert: &Cert, pen: &mut Pen, sink: &mut K)
             start,
         } => {
             pen.add(sink, b"dualfond 2 policy\n");
-            put_plan(task, layers, pairs, rules, pen, sink);
-            put_cover(task, items, *start, pen, sink);
+            put_all(task, layers, pen, sink);
+            put_all(task, pairs, pen, sink);
+            put_all(task, rules, pen, sink);
+            put_all(task, items, pen, sink);
+            put_start(*start, pen, sink);
             put_end(pen, sink);
         }
     }
