@@ -9,7 +9,7 @@ use Rattle.fond_task.specs.declared.task.Task.{Task}
 use Rattle.fond_task.specs.Texts.{atom_text}
 use Rattle.fond_task.specs.Numbers.{atom_number}
 use Rattle.fond_form.specs.Lines.{IsGroup, group_text, WrittenLiteral, sign_text, literal_text}
-use Rattle.fond_form.specs.Parts.{IsGroupText, HasNoLiteral, AreLiterals}
+use Rattle.fond_form.specs.Parts.{IsGroupText, HasNoLiteral, IsLiteralsText}
 use Rattle.fond_cert.specs.declared.code.TheConstants.{UNKNOWN_ATOM}
 use Rattle.fond_cert.specs.Words.{unknown, refused_or, literals_refusal, atom_numbers, is_increasing}
 use Rattle.fond_cert.specs.Checked.{with_literal, cube_of, IsCubeAt, IsLiteralRefused, rises}
@@ -50,7 +50,7 @@ pub record LeftLiterals (task : Task) (at : ℕ) (text rest : List ℕ) (cube : 
   pub cube_is : cube_of task (replicate (length task.atoms) None) whole ≡ cube_of task cube left
   pub order_is : is_increasing (atom_numbers task whole) ≡ (is_ordered && rises_from last (atom_numbers task left))
 
-pub all_left : (task : Task) (at : ℕ) (text : List ℕ) → AreLiterals text → (cube : List (Option Bool)) → cube ≡ replicate (length task.atoms) None → LeftLiterals task at text text cube None true
+pub all_left : (task : Task) (at : ℕ) (text : List ℕ) → IsLiteralsText text → (cube : List (Option Bool)) → cube ≡ replicate (length task.atoms) None → LeftLiterals task at text text cube None true
 all_left task at text h cube new = record {
   whole = h.0;
   left = h.0;

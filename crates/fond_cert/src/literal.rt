@@ -2,7 +2,7 @@
 
 ghost use Rattle.fond_cert.specs.Refusals.{LineRefuses};
 ghost use Rattle.fond_cert.specs.Checked.{rises, IsCubeAt, IsLiteralRefused, IsValueText, Means, IsValueRefused};
-ghost use Rattle.fond_form.specs.Parts.{AreLiterals};
+ghost use Rattle.fond_form.specs.Parts.{IsLiteralsText};
 ghost use Rattle.fond_form.specs.declared.table.Sort.TheVariants.{Literals as LiteralsSort};
 ghost use Rattle.std.specs.Prelude.{◌≡◌, ◌+◌, ◌<◌, ◌^◌, ◌&&◌, None, Some, length, replicate, slice_set, IfOk, IfErr};
 
@@ -62,7 +62,7 @@ fn read_literals(
     text: &[u8],
     at: usize,
 ) -> Result<Literals, LineError>
-    requires spelled { AreLiterals text.now }
+    requires spelled { IsLiteralsText text.now }
     requires within { at + length text.now < 2 ^ 64 }
     ensures read { IfOk result (λ literals. IsCubeAt index.now at text.now literals.cube literals.is_ordered) }
     ensures wrong { IfErr result (LineRefuses (IsLiteralRefused index.now at text.now)) }

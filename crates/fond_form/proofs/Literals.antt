@@ -4,7 +4,7 @@ use Rattle.std.proofs.Common.{◌≡◌, ◌≢◌, ℕ, ◌==◌, length, Bool,
 use Rattle.std.specs.List.{flat_map}
 use Rattle.std.proofs.lemmas.List.Elements.{All-head, All-tail, All-cons, All-nil}
 use Rattle.fond_form.specs.Lines.{IsGroup, group_text, WrittenLiteral, sign_text, literal_text}
-use Rattle.fond_form.specs.Parts.{IsGroupText, HasNoGroup, AreLiterals, HasNoLiteral}
+use Rattle.fond_form.specs.Parts.{IsGroupText, HasNoGroup, IsLiteralsText, HasNoLiteral}
 use Rattle.fond_form.proofs.Groups.{same_rest}
 
 pub literal_apart : (literal : WrittenLiteral) (rest : List ℕ) → literal_text literal ++ rest ≡ 32 ∷ (sign_text literal.sign ++ (group_text literal.leaves ++ rest))
@@ -36,11 +36,11 @@ pub no_atom : (text inner further : List ℕ) (sign : Bool) → text ≡ 32 ∷ 
 no_atom text inner further sign i j h literal rest group e =
     h literal.leaves rest group (after_sign sign literal.sign _ _ (sym j ∙ after_space _ _ (sym i ∙ e ∙ literal_apart literal rest)))
 
-pub no_literals_left : (text : List ℕ) → text ≡ [] → AreLiterals text
+pub no_literals_left : (text : List ℕ) → text ≡ [] → IsLiteralsText text
 no_literals_left text e = ([], All-nil (λ (literal : WrittenLiteral). IsGroup literal.leaves), e)
 
 -- a text that begins with a literal is one of literals if and only if the rest is
-pub literals_more : (text atom rest : List ℕ) (sign : Bool) → IsGroupText atom → text ≡ 32 ∷ (sign_text sign ++ (atom ++ rest)) → AreLiterals rest → AreLiterals text
+pub literals_more : (text atom rest : List ℕ) (sign : Bool) → IsGroupText atom → text ≡ 32 ∷ (sign_text sign ++ (atom ++ rest)) → IsLiteralsText rest → IsLiteralsText text
 literals_more text atom rest sign group e h =
     let literal : WrittenLiteral = record { sign = sign; leaves = group.0 } in (
       literal ∷ h.0,
@@ -49,7 +49,7 @@ literals_more text atom rest sign group e h =
     )
 
 literals_less_by : (text atom rest : List ℕ) (sign : Bool) → IsGroupText atom → text ≡ 32 ∷ (sign_text sign ++ (atom ++ rest)) →
-    (literals : List WrittenLiteral) → All (λ literal. IsGroup literal.leaves) literals → text ≡ flat_map literal_text literals → AreLiterals rest
+    (literals : List WrittenLiteral) → All (λ literal. IsGroup literal.leaves) literals → text ≡ flat_map literal_text literals → IsLiteralsText rest
 literals_less_by text atom rest sign group e [] h f = absurd (cc)
 literals_less_by text atom rest sign group e (literal ∷ literals) h f =
     let P = λ (literal : WrittenLiteral). IsGroup literal.leaves in
@@ -57,7 +57,7 @@ literals_less_by text atom rest sign group e (literal ∷ literals) h f =
     let atoms = after_sign sign literal.sign _ _ apart in
     (literals, All-tail P literal literals h, same_rest group.0 literal.leaves _ _ group.1 (All-head P literal literals h) (ap (λ t. t ++ rest) (sym group.2) ∙ atoms))
 
-pub literals_less : (text atom rest : List ℕ) (sign : Bool) → IsGroupText atom → text ≡ 32 ∷ (sign_text sign ++ (atom ++ rest)) → AreLiterals text → AreLiterals rest
+pub literals_less : (text atom rest : List ℕ) (sign : Bool) → IsGroupText atom → text ≡ 32 ∷ (sign_text sign ++ (atom ++ rest)) → IsLiteralsText text → IsLiteralsText rest
 literals_less text atom rest sign group e h = literals_less_by text atom rest sign group e h.0 h.1 h.2
 
 literals_end_by : (text : List ℕ) → HasNoLiteral text → (literals : List WrittenLiteral) → All (λ literal. IsGroup literal.leaves) literals → text ≡ flat_map literal_text literals → text ≡ []
@@ -66,11 +66,11 @@ literals_end_by text none (literal ∷ literals) h e =
     absurd (none literal (flat_map literal_text literals) (All-head (λ (literal : WrittenLiteral). IsGroup literal.leaves) literal literals h) e)
 
 -- literals that begin with none are none
-pub literals_end : (text : List ℕ) → HasNoLiteral text → AreLiterals text → text ≡ []
+pub literals_end : (text : List ℕ) → HasNoLiteral text → IsLiteralsText text → text ≡ []
 literals_end text none h = literals_end_by text none h.0 h.1 h.2
 
-pub literals_decided : (text rest : List ℕ) (r : Bool) → r ≡ (length rest == 0) → HasNoLiteral rest → (AreLiterals rest → AreLiterals text) → (AreLiterals text → AreLiterals rest) →
-    (r ≡ true → AreLiterals text) × (AreLiterals text → r ≡ true)
+pub literals_decided : (text rest : List ℕ) (r : Bool) → r ≡ (length rest == 0) → HasNoLiteral rest → (IsLiteralsText rest → IsLiteralsText text) → (IsLiteralsText text → IsLiteralsText rest) →
+    (r ≡ true → IsLiteralsText text) × (IsLiteralsText text → r ≡ true)
 literals_decided text [] r e none f g = (λ t. f (no_literals_left [] refl), λ h. e)
 literals_decided text (b ∷ rest) r e none f g = (
   λ t. let z : length (b ∷ rest) ≡ 0 = eqb-true (length (b ∷ rest)) 0 (sym e ∙ t) in absurd (omega arith),

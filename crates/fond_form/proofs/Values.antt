@@ -5,7 +5,7 @@ use Rattle.std.proofs.lemmas.List.{append-nil}
 use Rattle.std.proofs.lemmas.List.Elements.{All-head}
 use Rattle.std.proofs.Math.Seq.{take-append_seam, drop-append_seam}
 use Rattle.fond_form.specs.Lines.{spaced, is_number, is_target, AreWords, literals_text}
-use Rattle.fond_form.specs.Parts.{IsGroupText, HasNoGroup, AreLiterals, EndsWord, IsCut, HasNoWord}
+use Rattle.fond_form.specs.Parts.{IsGroupText, HasNoGroup, IsLiteralsText, EndsWord, IsCut, HasNoWord}
 use Rattle.fond_form.specs.Cutting.{HasNoValue, BeginsWith, HasNoWords, BeginsWithWords}
 use Rattle.fond_form.specs.declared.table.Sort.TheVariants.{Nothing, Action, Short, Long, Target, Shorts, Targets, Literals}
 use Rattle.fond_form.proofs.Cuts.{same_word, number_no_space, target_no_space}
@@ -71,10 +71,10 @@ no_targets text none value rest right ends e = none value rest right.0 right.1 e
 pub are_targets : (text front rest : List ℕ) → BeginsWithWords is_target text front rest → BeginsWith Targets text front rest
 are_targets text front rest h = record { value = h.words; right = (h.some, h.right); front_is = h.front_is; ends = (h.ends, h.none); split = h.split }
 
-pub no_literals : (text : List ℕ) → ¬ AreLiterals text → HasNoValue Literals text
+pub no_literals : (text : List ℕ) → ¬ IsLiteralsText text → HasNoValue Literals text
 no_literals text none value rest right ends e = none (value, right, e ∙ ap (λ t. literals_text value ++ t) ends ∙ append-nil (literals_text value))
 
-pub are_literals_at : (text front rest : List ℕ) → AreLiterals text → front ≡ take (length text) text → rest ≡ drop (length text) text → BeginsWith Literals text front rest
+pub are_literals_at : (text front rest : List ℕ) → IsLiteralsText text → front ≡ take (length text) text → rest ≡ drop (length text) text → BeginsWith Literals text front rest
 are_literals_at text front rest h f g =
     let all : take (length text) text ≡ text = ap (take (length text)) (sym (append-nil text)) ∙ take-append_seam text [] in
     let none : drop (length text) text ≡ [] = ap (drop (length text)) (sym (append-nil text)) ∙ drop-append_seam text [] in

@@ -21,8 +21,8 @@ after_leaves is_open (b ∷ rest) =
     else None
 
 -- a text is that of literals
-abbrev pub AreLiterals : List ℕ → Type 0
-AreLiterals text = (literals : List WrittenLiteral) × AreProper literals × (text ≡ literals_text literals)
+abbrev pub IsLiteralsText : List ℕ → Type 0
+IsLiteralsText text = (literals : List WrittenLiteral) × AreProper literals × (text ≡ literals_text literals)
 
 -- a text begins with no literal
 abbrev pub HasNoLiteral : List ℕ → Type 0

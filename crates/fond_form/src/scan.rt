@@ -4,7 +4,7 @@
 ghost use Rattle.std.specs.List.{prefix_len};
 ghost use Rattle.std.specs.Prelude.{◌==◌, not, ◌≡◌, ◌≢◌, ◌++◌, ◌↔◌, ℕ, Bool, List, false, true, option_map, MatchOption, codes};
 ghost use Rattle.fond_form.specs.Lines.{is_plain_byte, sign_text};
-ghost use Rattle.fond_form.specs.Parts.{IsGroupText, HasNoGroup, after_leaves, AreLiterals, HasNoLiteral};
+ghost use Rattle.fond_form.specs.Parts.{IsGroupText, HasNoGroup, after_leaves, IsLiteralsText, HasNoLiteral};
 
 /// Whether the byte may occur in a leaf of a certificate.
 fn is_plain_byte(b: u8) -> bool
@@ -78,7 +78,7 @@ pub fn literal<'a>(text: &'a [u8]) -> Option<(bool, &'a [u8], &'a [u8])>
 
 /// Whether the text is that of literals.
 pub(crate) fn are_literals(text: &[u8]) -> bool
-    ensures { result ≡ true ↔ AreLiterals text.now }
+    ensures { result ≡ true ↔ IsLiteralsText text.now }
 {
     let mut rest = text;
     while let Some((_, _, further)) = literal(rest) {
