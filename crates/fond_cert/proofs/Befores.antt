@@ -56,10 +56,6 @@ rank k.PolicyHeader = 102
 rank k.CoverHeader = 103
 rank k.RefusalHeader = 104
 
--- the order of the group of a kind of lines; layers and cubes share one
-abbrev pub line_order : LineKind → ℕ
-line_order kind = rank kind - 1
-
 -- a group of which there is one number
 abbrev pub is_single : Group → Bool
 is_single g.Reach = true

@@ -28,7 +28,7 @@ use Rattle.fond_cert.specs.declared.due.Section.{Section}
 use Rattle.fond_cert.specs.declared.due.Section.TheVariants.{One, Any, Few, Blocks}
 use Rattle.fond_cert.specs.Sections.{sections, is_in, after_in, due_after}
 use Rattle.fond_cert.specs.Filled.{pair_of, fair_of, unfair_of, goal_item_of, rule_item_of}
-use Rattle.fond_cert.specs.Spellings.{Meanings, AreOfTask, spelled_line, cube_line, layer_lines, end_line, Entry, entry_line, with_opened, all_layers, entries, section_lines, lines_then, header, no_parts, kind_of}
+use Rattle.fond_cert.specs.Spellings.{Meanings, AreOfTask, spelled_line, cube_line, layer_lines, end_line, Entry, entry_line, with_current, all_layers, entries, section_lines, lines_then, header, no_parts, kind_of}
 use Rattle.fond_cert.proofs.Befores.{some_is, passed, few_is, is_single, IsKnown, AreKnown, all_known, IsAllowedIn, IsWholeOf, section_of, nil_if, none_if, before_end}
 
 -- after a line, a draft fits what is due, with one more line
@@ -60,7 +60,7 @@ apart draft layers current g.Layer after = absurd (omega (arith, after))
 apart draft layers current g.Cube after = absurd (omega (arith, after))
 apart draft layers current group after = refl
 
-with_layers : (task : Task) (draft : Draft) (layers : List (List CubeView)) (current : Option (List CubeView)) → BelongAsLayers task (with_opened layers current) → IsDraftOf task draft → IsDraftOf task (record draft { layers = layers; current = current })
+with_layers : (task : Task) (draft : Draft) (layers : List (List CubeView)) (current : Option (List CubeView)) → BelongAsLayers task (with_current layers current) → IsDraftOf task draft → IsDraftOf task (record draft { layers = layers; current = current })
 with_layers task draft layers current belong own = record { layers = belong; parts = λ group after. subst (AreEntriesOf task group) (sym (apart draft layers current group after)) (own.parts group after) }
 
 closed_draft : (task : Task) (draft : Draft) → IsDraftOf task draft → IsDraftOf task (closed draft)
@@ -135,7 +135,7 @@ record IsMoved (task : Task) (section : Section) (cert : Kind) (at : ℕ) (next 
   pub draft_of : IsDraftOf task after
 
 -- a layer is being read if one layer more was begun than is complete
-open_by : (current : Option (List CubeView)) (layers : List (List CubeView)) (lines : ℕ) → length (with_opened layers current) ≡ lines → length layers ≡ lines - 1 → 0 < lines → (cubes : List CubeView) × (current ≡ Some cubes)
+open_by : (current : Option (List CubeView)) (layers : List (List CubeView)) (lines : ℕ) → length (with_current layers current) ≡ lines → length layers ≡ lines - 1 → 0 < lines → (cubes : List CubeView) × (current ≡ Some cubes)
 open_by (Some cubes) layers lines all closed some = (cubes, refl)
 open_by None layers lines all closed some = absurd (omega (arith, all, closed, some))
 
@@ -210,7 +210,7 @@ module _ (task : Task) (cert : Kind) (at lines inner : ℕ) (next : Due) (draft 
       let some : 0 < lines = grind (arith, nat_tests, test.0) in
       let few = few_is (inner + 1) (SectionDue cert at lines (inner + 1)) next test.1 in
       let current = open_by draft.current draft.layers lines counted.0 counted.2 some in
-      let same : all_layers draft ≡ draft.layers ++ (current.0 ∷ []) = ap (with_opened draft.layers) current.1 in
+      let same : all_layers draft ≡ draft.layers ++ (current.0 ∷ []) = ap (with_current draft.layers) current.1 in
       let cubes : length current.0 ≡ inner = ap (λ o. count_of g.Cube (record draft { current = o })) (sym current.1) ∙ counted.1 in
       let over : AreOver (length task.atoms) (draft.layers ++ (current.0 ∷ [])) = subst (AreOver (length task.atoms)) same own.layers.over in
       let few_cubes : All IsShort (draft.layers ++ (current.0 ∷ [])) = subst (All IsShort) same own.layers.few_cubes in

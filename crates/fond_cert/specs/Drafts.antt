@@ -37,7 +37,7 @@ order g.Item = 30
 order g.Reach = 40
 order g.Start = 50
 
--- whether there are fewer than 2^32 entries of a group
+-- whether a group is that of a section of few lines, fewer than 2^32
 abbrev pub is_few : Group → Bool
 is_few g.Rule = true
 is_few g.Item = true
@@ -57,7 +57,7 @@ IsEntryOf task g.Item item = IsReadItem task item
 IsEntryOf task g.Reach reach = reach < 2 ^ 64
 IsEntryOf task g.Start start = start < 2 ^ 32
 
--- entries of a group belong to a task: each does, and there are fewer than 2^32 if there have to be
+-- entries of a group belong to a task: each does, and of a group of few lines there are fewer than 2^32
 abbrev pub AreEntriesOf : Task → (group : Group) → List (Entry group) → Type 0
 AreEntriesOf task group some = All (IsEntryOf task group) some × (is_few group ≡ true → length some < 2 ^ 32)
 
@@ -66,12 +66,12 @@ pub record IsDraftOf (task : Task) (draft : Draft) : Type 0 where
   pub layers : BelongAsLayers task (all_layers draft)
   pub parts : (group : Group) → 0 < order group → AreEntriesOf task group (entries group draft)
 
--- a draft whose layers are all read
+-- a draft with its current layer, if there is one, put after the layers that are all read
 abbrev pub closed : Draft → Draft
 closed draft = record draft { layers = all_layers draft; current = None }
 
--- a draft with one more entry of a group: a cube in the layer that is being read, if there is one, or a layer that is being read, or
--- another entry after layers that are all read
+-- a draft with an entry of a group added: a cube goes into the layer that is being read, if there is one; any other entry closes that
+-- layer first, and a layer is then the one that is being read; a reach or start number replaces an earlier one
 abbrev pub with_entry : (group : Group) → Draft → Entry group → Draft
 with_entry g.Layer draft layer = record (closed draft) { current = Some layer }
 with_entry g.Cube draft cube = record draft { current = option_map (λ (layer : List CubeView). layer ++ (cube ∷ [])) draft.current }
@@ -81,7 +81,8 @@ with_entry g.Item draft item = record (closed draft) { items = draft.items ++ (i
 with_entry g.Reach draft reach = record (closed draft) { reach = Some reach }
 with_entry g.Start draft start = record (closed draft) { start = Some start }
 
--- a draft with what a line of a kind makes of these meanings
+-- a draft with what a line of a kind makes of these meanings; a header or the last line adds nothing and closes the layer that is
+-- being read
 abbrev pub grown : Draft → (kind : LineKind) → Meanings (form kind) → Draft
 grown draft k.Layer meanings = with_entry g.Layer draft []
 grown draft k.Cube meanings = with_entry g.Cube draft meanings.0

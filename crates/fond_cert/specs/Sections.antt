@@ -36,7 +36,7 @@ abbrev pub if_few : ℕ → Due → Option Due
 if_few count due = if nat_lt count (2 ^ 32) then Some due else None
 
 -- what is due after a line of a kind, if this section takes it: the section at this position, of which this many lines or blocks were
--- read, the last block with this many inner lines
+-- read (0 if there may be any number), the last block with this many inner lines
 abbrev pub after_in : Section → Kind → ℕ → ℕ → ℕ → LineKind → Option Due
 after_in (One group) cert at lines inner kind = if is_in group kind && lines == 0 then Some (SectionDue cert at 1 0) else None
 after_in (Any group) cert at lines inner kind = if is_in group kind then Some (SectionDue cert at lines 0) else None
@@ -56,7 +56,8 @@ abbrev pub or_later : Option Due → Option Due → Option Due
 or_later (Some due) later = Some due
 or_later None later = later
 
--- what is due after a line of a kind, by the first of these sections that takes it; the last line follows all sections
+-- what is due after a line of a kind, by the first of these sections that takes it, if those before it may end; the last line comes
+-- after sections that all may end
 abbrev pub after_sections : Kind → ℕ → ℕ → ℕ → List Section → LineKind → Option Due
 after_sections cert at lines inner [] k.End = Some NothingDue
 after_sections cert at lines inner [] kind = None

@@ -179,13 +179,13 @@ entry_line task g.Reach = reach_line task
 entry_line task g.Start = start_line task
 
 -- layers, and after them the one that is being read, if there is one
-abbrev pub with_opened : List (List CubeView) → Option (List CubeView) → List (List CubeView)
-with_opened layers None = layers
-with_opened layers (Some layer) = layers ++ (layer ∷ [])
+abbrev pub with_current : List (List CubeView) → Option (List CubeView) → List (List CubeView)
+with_current layers None = layers
+with_current layers (Some layer) = layers ++ (layer ∷ [])
 
 -- all layers of a draft
 abbrev pub all_layers : Draft → List (List CubeView)
-all_layers draft = with_opened draft.layers draft.current
+all_layers draft = with_current draft.layers draft.current
 
 -- an optional value as a list
 abbrev pub listed : {X : Type 0} → Option X → List X
@@ -202,12 +202,12 @@ entries g.Item draft = draft.items
 entries g.Reach draft = listed draft.reach
 entries g.Start draft = listed draft.start
 
--- the lines of a section of a draft, entry by entry, or layer by layer
+-- the lines of a section of a draft, entry by entry; blocks are always the layers with their cubes
 abbrev pub section_lines : Task → Draft → Section → List Line
 section_lines task draft (OneOf group) = map (entry_line task group) (entries group draft)
 section_lines task draft (Any group) = map (entry_line task group) (entries group draft)
 section_lines task draft (Few group) = map (entry_line task group) (entries group draft)
-section_lines task draft (Blocks first second) = flat_map (layer_lines task) (all_layers draft)
+section_lines task draft (Blocks _ _) = flat_map (layer_lines task) (all_layers draft)
 
 -- the lines of sections of a draft, section by section, and further lines after them
 abbrev pub lines_then : Task → Draft → List Section → List Line → List Line
@@ -230,7 +230,7 @@ parts_of (Policy layers pairs rules reach) = record no_parts { layers = layers; 
 parts_of (Refusal layers) = record no_parts { layers = layers }
 parts_of (Covered layers pairs rules items start) = record no_parts { layers = layers; pairs = pairs; rules = rules; items = items; start = Some start }
 
--- whether a certificate is a policy or a refusal, and how the policy shows where it leads
+-- the kind of a certificate: a policy with its sort of evidence, or a refusal
 abbrev pub kind_of : Cert → Kind
 kind_of (Policy layers pairs rules reach) = OfPolicy ByReach
 kind_of (Refusal layers) = OfRefusal

@@ -40,7 +40,7 @@ pub enum Section {
 }
 
 /// What is due: the header; a line of the section at this position or of a later one, or the last line, after this many lines or
-/// blocks of the section, the last block with this many inner lines; or nothing more.
+/// blocks of the section (0 if it may have any number of lines), the last block with this many inner lines; or nothing more.
 #[derive(Clone, Copy)]
 pub enum Due {
     Header,
