@@ -2,13 +2,14 @@
 use Rattle.std.specs.Prelude.{ℕ, Bool, List, [], ◌∷◌, ◌++◌, Option, Some, None, if◌then◌else◌, nat_eq}
 use Rattle.std.specs.Cmp.Lexicographic.{pointwise}
 
+-- for any test of whether two elements are the same
 module _ {X : Type 0} (same : X → X → Bool) where
-  -- the number of a list among lists with their numbers, if the list is there, by a test of its elements
+  -- the number beside the first list that is the same as this one, element by element, if there is one
   abbrev pub number_by : List (List X × ℕ) → List X → Option ℕ
   number_by [] list = None
   number_by (item ∷ items) list = if pointwise same item.0 list then Some item.1 else number_by items list
 
-  -- the lists with one more list and its number at the end, or the same lists if the list is already there
+  -- the lists with this list and number added at the end, unless a list is the same as this one
   abbrev pub with_list : List (List X × ℕ) → List X → ℕ → List (List X × ℕ)
   with_list items list number = unless (number_by items list)
     where

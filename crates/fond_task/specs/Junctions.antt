@@ -6,7 +6,7 @@ use Rattle.fond_task.specs.declared.form.Kleene.{Kleene}
 use Rattle.fond_task.specs.declared.form.Kleene.TheVariants.{No, Yes}
 use Rattle.fond_task.specs.Values.{greater, lesser}
 
--- the other junction: the negation of a junction is the dual junction of the negated parts
+-- the dual of a junction, under which its negation joins the negated parts (De Morgan)
 abbrev pub dual : Junction → Junction
 dual All = Any
 dual Any = All
@@ -21,6 +21,7 @@ abbrev pub joined : Junction → Kleene → Kleene → Kleene
 joined All = lesser
 joined Any = greater
 
--- the value of a junction of some parts: a conjunction is the least, and a disjunction the greatest
+-- the value of a junction whose parts have these values, where No < Unknown < Yes: their least for a conjunction, and Yes if there are
+-- none; their greatest for a disjunction, and No if there are none
 abbrev pub joined_all : Junction → List Kleene → Kleene
 joined_all junction values = fold (joined junction) (neutral junction) values

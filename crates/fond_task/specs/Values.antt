@@ -47,13 +47,13 @@ abbrev pub literal_value : Option Bool → Bool → Kleene
 literal_value None sign = Unknown
 literal_value (Some value) sign = if is_same value sign then Yes else No
 
--- the value of one layer of a form on a cube, given the values of its parts
+-- the value on a cube of a form whose parts have these values
 abbrev pub value_step : List (Option Bool) → Form-F Kleene → Kleene
 value_step cube (Truth value) = if value then Yes else No
 value_step cube (Lit atom sign) = literal_value (literal_at cube atom) sign
 value_step cube (And parts) = least parts.items
 value_step cube (Or parts) = greatest parts.items
 
--- the value of a form on a cube: a conjunction is the least of its parts, a disjunction the greatest
+-- the value of a form on a cube: that of a conjunction is the least of its parts' values, that of a disjunction the greatest
 abbrev pub value : List (Option Bool) → Form → Kleene
 value cube = fold-Form Kleene (value_step cube)
