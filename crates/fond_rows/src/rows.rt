@@ -39,6 +39,9 @@ pub const CHECK: [&str; 5] = ["check", "domain", "problem", "side", "cert"];
 /// The words of `migrate` over four files.
 pub const MIGRATE: [&str; 5] = ["migrate", "domain", "problem", "side", "cert"];
 
+/// The line of `check` for a lean policy.
+const ACCEPTED: &[u8] = b"accepted policy lean\n";
+
 /// A worked example: the words, the files of the shelf by name and text, and the status and the text of the answer.
 #[derive(Clone, Copy)]
 pub struct Row<'a> {
@@ -78,6 +81,19 @@ fn shelf_files(alloc: Global, files: &[(&str, &str)]) -> Result<ShelfFiles, Fail
             .map_err(|_| "file")?;
     }
     Ok(held)
+}
+
+/// The files, and one more with this name and these bytes.
+fn and_file(
+    alloc: Global,
+    mut files: ShelfFiles,
+    name: &str,
+    bytes: &[u8],
+) -> Result<ShelfFiles, Fail> {
+    let name = Word::copy(alloc, name.as_bytes()).map_err(|_| "name")?;
+    let bytes = Bytes::copy(alloc, bytes).map_err(|_| "bytes")?;
+    files.push(ShelfFile { name, bytes }).map_err(|_| "file")?;
+    Ok(files)
 }
 
 fn words(alloc: Global, line: &[&str]) -> Result<Vec<Word>, Fail> {
@@ -123,6 +139,19 @@ fn answer_to(
     answer_into(alloc, line, files, bad_read, sink)
 }
 
+/// What was answered is this status and this text.
+fn assert_told(
+    rt: &impl Abort,
+    told: &Told,
+    status: u8,
+    text: &[u8],
+    name: &str,
+) -> Result<(), Fail> {
+    assert_eq!(rt; told.status, status, "{name}");
+    assert_eq!(rt; told.text.as_slice(), text, "{name}");
+    Ok(())
+}
+
 /// A text of a topic is answered with the topic's status and with this answer.
 fn check_text(
     rt: &impl Abort,
@@ -131,14 +160,10 @@ fn check_text(
     text: &str,
     answer: &str,
 ) -> Result<(), Fail> {
-    let mut files = shelf_files(alloc, topic.files)?;
-    files
-        .push(shelf_file(alloc, topic.file, text)?)
-        .map_err(|_| "file")?;
+    let files = shelf_files(alloc, topic.files)?;
+    let files = and_file(alloc, files, topic.file, text.as_bytes())?;
     let told = answer_to(alloc, topic.words, files, None, None)?;
-    assert_eq!(rt; told.status, topic.status, "{text}");
-    assert_eq!(rt; told.text.as_slice(), answer.as_bytes(), "{text}");
-    Ok(())
+    assert_told(rt, &told, topic.status, answer.as_bytes(), text)
 }
 
 /// Each text of a table is answered with the topic's status and with the answer beside it.
@@ -169,10 +194,7 @@ pub fn check_with(
 ) -> Result<(), Fail> {
     let files = shelf_files(alloc, row.files)?;
     let told = answer_to(alloc, row.words, files, bad_read, bad_write)?;
-    let name = row.name;
-    assert_eq!(rt; told.status, row.status, "{name}");
-    assert_eq!(rt; told.text.as_slice(), row.text.as_bytes(), "{name}");
-    Ok(())
+    assert_told(rt, &told, row.status, row.text.as_bytes(), row.name)
 }
 
 /// A sink that has room for so many bytes, takes at most `piece` of them at a time, and fails at the numbered write.
@@ -203,10 +225,7 @@ pub fn check_room(
     ).map_err(|_| "sink")?;
     let told = answer_into(alloc, row.words, files, None, sink)?;
     let front = row.text.as_bytes().get(..written).ok_or("front")?;
-    let name = row.name;
-    assert_eq!(rt; told.status, row.status, "{name}");
-    assert_eq!(rt; told.text.as_slice(), front, "{name}");
-    Ok(())
+    assert_told(rt, &told, row.status, front, row.name)
 }
 
 /// Each domain and problem of a table is answered by `succ` with this status and with the answer beside them.
@@ -272,56 +291,58 @@ pub fn check_bytes(
         ("side", side),
         ("script", ""),
     ];
-    let mut files = shelf_files(alloc, &texts)?;
-    let name = Word::copy(alloc, b"cert").map_err(|_| "name")?;
-    let bytes = Bytes::copy(alloc, cert).map_err(|_| "text")?;
-    files.push(ShelfFile { name, bytes }).map_err(|_| "file")?;
+    let files = and_file(alloc, shelf_files(alloc, &texts)?, "cert", cert)?;
     let told = answer_to(alloc, words, files, None, None)?;
-    assert_eq!(rt; told.status, status, "{text}");
-    assert_eq!(rt; told.text.as_slice(), text.as_bytes(), "{text}");
-    Ok(())
+    assert_told(rt, &told, status, text.as_bytes(), text)
+}
+
+/// The files of a task with these texts.
+fn texts_files(alloc: Global, [domain, problem, side]: [&str; 3]) -> Result<ShelfFiles, Fail> {
+    shelf_files(
+        alloc,
+        &[("domain", domain), ("problem", problem), ("side", side)],
+    )
+}
+
+/// The answer of `plan` to these files and this budget.
+fn planned(alloc: Global, files: ShelfFiles, budget: &str) -> Result<Told, Fail> {
+    let words = ["plan", "domain", "problem", "side", budget];
+    answer_to(alloc, &words, files, None, None)
+}
+
+/// The text that `check` answers to the files of a task and a certificate.
+fn verdict(alloc: Global, files: ShelfFiles, cert: &[u8]) -> Result<Bytes, Fail> {
+    let files = and_file(alloc, files, "cert", cert)?;
+    Ok(answer_to(alloc, &CHECK, files, None, None)?.text)
 }
 
 /// `plan` answers these files and this budget with this status and this text.
 pub fn check_decided(
     rt: &impl Abort,
     alloc: Global,
-    [domain, problem, side]: [&str; 3],
+    texts: [&str; 3],
     budget: &str,
     status: u8,
     text: &str,
 ) -> Result<(), Fail> {
-    let task = [("domain", domain), ("problem", problem), ("side", side)];
-    let words = ["plan", "domain", "problem", "side", budget];
-    let told = answer_to(alloc, &words, shelf_files(alloc, &task)?, None, None)?;
-    assert_eq!(rt; told.status, status, "{domain}");
-    assert_eq!(rt; told.text.as_slice(), text.as_bytes(), "{domain}");
-    Ok(())
+    let told = planned(alloc, texts_files(alloc, texts)?, budget)?;
+    assert_told(rt, &told, status, text.as_bytes(), texts[0])
 }
 
 /// `plan` answers these files and this budget with this status, and `check` its text with this one.
 pub fn check_plan(
     rt: &impl Abort,
     alloc: Global,
-    [domain, problem, side]: [&str; 3],
+    texts: [&str; 3],
     budget: &str,
     status: u8,
-    verdict: &str,
+    answer: &str,
 ) -> Result<(), Fail> {
-    let task = [("domain", domain), ("problem", problem), ("side", side)];
-    let words = ["plan", "domain", "problem", "side", budget];
-    let planned = answer_to(alloc, &words, shelf_files(alloc, &task)?, None, None)?;
-    assert_eq!(rt; planned.status, status, "{domain}");
-    let mut files = shelf_files(alloc, &task)?;
-    let name = Word::copy(alloc, b"cert").map_err(|_| "name")?;
-    files
-        .push(ShelfFile {
-            name,
-            bytes: planned.text,
-        })
-        .map_err(|_| "file")?;
-    let checked = answer_to(alloc, &CHECK, files, None, None)?;
-    assert_eq!(rt; checked.text.as_slice(), verdict.as_bytes(), "{domain}");
+    let told = planned(alloc, texts_files(alloc, texts)?, budget)?;
+    let domain = texts[0];
+    assert_eq!(rt; told.status, status, "{domain}");
+    let checked = verdict(alloc, texts_files(alloc, texts)?, told.text.as_slice())?;
+    assert_eq!(rt; checked.as_slice(), answer.as_bytes(), "{domain}");
     Ok(())
 }
 
@@ -340,6 +361,12 @@ fn task_files(
     Ok(files)
 }
 
+/// The certificate in what `demo` answers: its first lines are these, and the last is that of `check`.
+fn shown_cert<'a>(text: &'a [u8], head: &str) -> Result<&'a [u8], Fail> {
+    let rest = text.strip_prefix(head.as_bytes()).ok_or("head")?;
+    Ok(rest.strip_suffix(ACCEPTED).ok_or("end")?)
+}
+
 /// `demo` answers this size with these first lines, a certificate and the line of `check`, which accepts the certificate for the
 /// files of this size.
 pub fn check_demo(
@@ -354,22 +381,9 @@ pub fn check_demo(
     }
     let told = answer_to(alloc, &["demo", word], ShelfFiles::new(alloc), None, None)?;
     assert_eq!(rt; told.status, 0, "{head}");
-    let rest = told
-        .text
-        .as_slice()
-        .strip_prefix(head.as_bytes())
-        .ok_or("head")?;
-    let cert = rest.strip_suffix(b"accepted policy lean\n").ok_or("end")?;
     let demo = demo_files(alloc, size).map_err(|_| "demo")?;
-    let mut files = task_files(alloc, demo.domain, demo.problem, demo.side)?;
-    let name = Word::copy(alloc, b"cert").map_err(|_| "name")?;
-    let bytes = Bytes::copy(alloc, cert).map_err(|_| "text")?;
-    files.push(ShelfFile { name, bytes }).map_err(|_| "file")?;
-    let checked = answer_to(alloc, &CHECK, files, None, None)?;
-    assert_eq!(rt;
-        checked.text.as_slice(),
-        b"accepted policy lean\n".as_slice(),
-        "{head}"
-    );
+    let files = task_files(alloc, demo.domain, demo.problem, demo.side)?;
+    let checked = verdict(alloc, files, shown_cert(told.text.as_slice(), head)?)?;
+    assert_eq!(rt; checked.as_slice(), ACCEPTED, "{head}");
     Ok(())
 }
