@@ -2,3 +2,4 @@ pub mod Walked
 pub mod Barred
 pub mod Right
 pub mod Furthered
+pub mod Waiting
