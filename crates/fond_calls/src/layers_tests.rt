@@ -31,13 +31,14 @@ fn a_cube_lies_in_layers_that_have_a_wider_one(rt: HostRuntime) -> Result<(), Fa
     let mut layer = Layer::new(alloc);
     layer.push(Cube::new(alloc, 1)?)?;
     let mut layers = Layers::new(alloc);
-    if layers.are_over(heads.len()) {
-        assert!(rt; !layers.has_around(&heads));
+    if !layers.are_over(heads.len()) {
+        return Err(Fail::from("no layers are over any atoms"));
     }
+    assert!(rt; !layers.has_around(&heads));
     layers.add_raw(layer)?;
-    assert!(rt; layers.are_over(1));
-    if layers.are_over(heads.len()) {
-        assert!(rt; layers.has_around(&heads));
+    if !layers.are_over(heads.len()) {
+        return Err(Fail::from("the layer is over one atom"));
     }
+    assert!(rt; layers.has_around(&heads));
     Ok(())
 }
