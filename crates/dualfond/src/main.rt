@@ -2,11 +2,11 @@
 //! with the number of the tool's status.
 #![tactic(auto)]
 
+use fond_commands::status::Status;
 use fond_edge::host_shelf::HostShelf;
 use fond_edge::host_sink::HostSink;
 use fond_text::fault::NoMemory;
 use fond_text::word::Word;
-use fond_tool::status::Status;
 use fond_tool::tool::run_tool;
 use std::alloc::{AllocError, AllocFailed};
 use std::process::ExitCode;
@@ -17,7 +17,7 @@ use std::{env, io};
 const NO_COMMAND_LINE: u8 = 11;
 
 /// Why there are no words.
-#[derive(Clone, Copy, Debug, PartialEq, Eq)]
+#[derive(Clone, Copy)]
 enum NoWords {
     NotGiven,
     NoMemory,

@@ -1,7 +1,7 @@
 //! Worked examples of `demo`.
 
 use crate::rows::{Row, check, check_demo};
-use fond_tool::laws::demos_are_accepted;
+use fond_laws::replies::demos_are_accepted;
 use std::test::Fail;
 
 /// A size and what is printed. The first word of the seed 1 is even, and those of the seed 2 are even and odd.

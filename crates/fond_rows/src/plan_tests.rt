@@ -2,7 +2,7 @@
 
 use crate::rows::{COIN, COIN_P, Row, check, check_decided, check_plan, check_with};
 use crate::tasks::{Task, files_of};
-use fond_tool::laws::{
+use fond_laws::replies::{
     correct_are_accepted, hopeless_tasks_are_refused, migrated_are_accepted, planned_are_accepted,
     small_tasks_are_decided, solutions_never_stick,
 };

@@ -1,14 +1,14 @@
 -- How the tool ends.
 use Rattle.std.proofs.Common.{◌≡◌, ℕ, Bool, true, false, List, ◌∙◌, refl, sym, ap, true≢false}
 use Rattle.fond_edge.specs.Written.{Appended}
-use Rattle.fond_tool.specs.declared.status.Ending.{Ending}
-use Rattle.fond_tool.specs.declared.status.Ending.TheVariants.{Done, Unsolvable, Undecided, Refused, BadWords, ReadFault, Rejected, Stopped}
-use Rattle.fond_tool.specs.declared.status.Status.{Status}
-use Rattle.fond_tool.specs.declared.status.Status.TheVariants.{NoMemory}
+use Rattle.fond_commands.specs.declared.status.Ending.{Ending}
+use Rattle.fond_commands.specs.declared.status.Ending.TheVariants.{Done, Unsolvable, Undecided, Refused, BadWords, ReadFault, Rejected, Stopped}
+use Rattle.fond_commands.specs.declared.status.Status.{Status}
+use Rattle.fond_commands.specs.declared.status.Status.TheVariants.{NoMemory}
 use Rattle.fond_tool.specs.Ends.{ToolReply, Ends, Writes}
-use Rattle.fond_tool.specs.Fetches.{Reads}
-use Rattle.fond_tool.specs.Numbers.{status_of}
-use Rattle.fond_tool.specs.Replies.{Reply}
+use Rattle.fond_commands.specs.Fetches.{Reads}
+use Rattle.fond_commands.specs.Numbers.{status_of}
+use Rattle.fond_commands.specs.Replies.{Reply}
 
 -- how the tool ends once the whole text of a reply is written
 pub ends_written : (words : List (List ℕ)) (reads : Reads) (writes : Writes) (reply : Reply) → ToolReply words reads reply → Appended writes.old writes.new reply.text → Ends words reads writes (status_of reply.ending)

@@ -1,14 +1,4 @@
-mod Accepted
-mod Answered
-mod Certified
-mod Checks
 mod Ends
-mod Lists
-mod Migrated
 mod Planned
-mod Refused
-mod Rejections
-mod Runs
 mod Shown
 mod Solvable
-mod Stuck

@@ -15,7 +15,7 @@ use Rattle.fond_ground.specs.Grounds.{IsGroundOf}
 use Rattle.fond_task.specs.declared.task.Task.{Task}
 use Rattle.fond_tool.specs.Decided.{cert_ending, decision_reply}
 use Rattle.fond_tool.specs.Plans.{AnswersPlan}
-use Rattle.fond_tool.specs.Replies.{Reply}
+use Rattle.fond_commands.specs.Replies.{Reply}
 use Rattle.fond_tool.proofs.Solvable.{solvable}
 
 module _ (task : LiftedTask) (game : Task) (budget : ℕ) (is : IsGroundOf task game) where

@@ -4,8 +4,8 @@ use Rattle.fond_ast.specs.declared.task.LiftedTask.{LiftedTask}
 use Rattle.fond_task.specs.declared.task.Task.{Task}
 use Rattle.fond_tool.specs.Demos.{AnswersDemo, demo_text}
 use Rattle.fond_tool.specs.Plans.{AnswersPlan}
-use Rattle.fond_tool.specs.Replies.{Reply}
-use Rattle.fond_tool.specs.declared.status.Ending.TheVariants.{Done}
+use Rattle.fond_commands.specs.Replies.{Reply}
+use Rattle.fond_commands.specs.declared.status.Ending.TheVariants.{Done}
 
 -- a reply of `plan` that is done is shown between the lines of `demo`
 pub shown_between : (size : ℕ) (task : LiftedTask) (game : Task) (planned reply : Reply) → AnswersPlan task game 1000000 planned → planned.ending ≡ Done → reply ≡ record { text = demo_text size game planned.text; ending = Done } → AnswersDemo size task game reply

@@ -7,9 +7,9 @@ use Rattle.fond_policy.specs.declared.cert.Cert.{Cert}
 use Rattle.fond_policy.specs.declared.cert.Cert.TheVariants.{Refusal}
 use Rattle.fond_planner.specs.declared.decide.Decision.{Decision}
 use Rattle.fond_planner.specs.declared.decide.Decision.TheVariants.{Certified, Undecided as IsUndecided}
-use Rattle.fond_tool.specs.Replies.{Reply, line_reply}
-use Rattle.fond_tool.specs.declared.status.Ending.{Ending}
-use Rattle.fond_tool.specs.declared.status.Ending.TheVariants.{Done, Unsolvable, Undecided}
+use Rattle.fond_commands.specs.Replies.{Reply, line_reply}
+use Rattle.fond_commands.specs.declared.status.Ending.{Ending}
+use Rattle.fond_commands.specs.declared.status.Ending.TheVariants.{Done, Unsolvable, Undecided}
 
 -- the ending after a certificate is printed
 abbrev pub cert_ending : Cert → Ending

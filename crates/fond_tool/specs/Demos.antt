@@ -4,10 +4,10 @@ use Rattle.fond_ast.specs.declared.task.LiftedTask.{LiftedTask}
 use Rattle.fond_task.specs.declared.task.Task.{Task}
 use Rattle.fond_demo.specs.Demos.{demo_domain, demo_problem, demo_side, shown_text}
 use Rattle.fond_front.specs.Texts.{Texts}
-use Rattle.fond_tool.specs.Certified.{TaskReply}
+use Rattle.fond_commands.specs.Certified.{TaskReply}
 use Rattle.fond_tool.specs.Plans.{AnswersPlan}
-use Rattle.fond_tool.specs.Replies.{Reply}
-use Rattle.fond_tool.specs.declared.status.Ending.TheVariants.{Done}
+use Rattle.fond_commands.specs.Replies.{Reply}
+use Rattle.fond_commands.specs.declared.status.Ending.TheVariants.{Done}
 
 -- the texts of the task of this size
 abbrev pub demo_texts : ℕ → Texts

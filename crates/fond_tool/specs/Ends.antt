@@ -2,15 +2,15 @@
 use Rattle.std.specs.Prelude.{ℕ, List, Option, codes, ◌≡◌}
 use Rattle.fond_edge.specs.Faults.{Rose}
 use Rattle.fond_edge.specs.Written.{Appended, AppendedPart}
-use Rattle.fond_tool.specs.declared.status.Status.{Status}
-use Rattle.fond_tool.specs.declared.status.Status.TheVariants.{WriteFault, NoMemory}
-use Rattle.fond_tool.specs.declared.status.Ending.TheVariants.{BadWords, ReadFault}
-use Rattle.fond_tool.specs.declared.words.Job.{Job}
+use Rattle.fond_commands.specs.declared.status.Status.{Status}
+use Rattle.fond_commands.specs.declared.status.Status.TheVariants.{WriteFault, NoMemory}
+use Rattle.fond_commands.specs.declared.status.Ending.TheVariants.{BadWords, ReadFault}
+use Rattle.fond_commands.specs.declared.words.Job.{Job}
 use Rattle.fond_tool.specs.Jobs.{JobReply}
-use Rattle.fond_tool.specs.Fetches.{Reads, AreContents, CannotRead}
-use Rattle.fond_tool.specs.Replies.{Reply, line_reply}
-use Rattle.fond_tool.specs.Numbers.{status_of}
-use Rattle.fond_tool.specs.Words.{AskFor, AskForNone}
+use Rattle.fond_commands.specs.Fetches.{Reads, AreContents, CannotRead}
+use Rattle.fond_commands.specs.Replies.{Reply, line_reply}
+use Rattle.fond_commands.specs.Numbers.{status_of}
+use Rattle.fond_commands.specs.Words.{AskFor, AskForNone}
 
 -- what the tool replies to words: `bad words` if they ask for no job; `read fault`, only if the shelf met a fault or does not
 -- hold one of the files of the job; or what the job replies to the contents of its files

@@ -2,16 +2,16 @@
 use Rattle.std.specs.Prelude.{ℕ, List, [], ◌∷◌}
 use Rattle.fond_front.specs.Texts.{Texts}
 use Rattle.fond_succ.specs.Actions.{names_of}
-use Rattle.fond_tool.specs.declared.words.Job.{Job}
-use Rattle.fond_tool.specs.declared.words.Job.TheVariants.{Succ, Run, Check, Plan, Migrate, Simulate, Demo}
-use Rattle.fond_tool.specs.Checks.{CheckReply}
+use Rattle.fond_commands.specs.declared.words.Job.{Job}
+use Rattle.fond_commands.specs.declared.words.Job.TheVariants.{Succ, Run, Check, Plan, Migrate, Simulate, Demo}
+use Rattle.fond_commands.specs.Checks.{CheckReply}
 use Rattle.fond_tool.specs.Demos.{DemoReply}
-use Rattle.fond_tool.specs.Migrations.{MigrateReply}
+use Rattle.fond_commands.specs.Migrations.{MigrateReply}
 use Rattle.fond_tool.specs.Plans.{PlanReply}
-use Rattle.fond_tool.specs.Replies.{Reply}
-use Rattle.fond_tool.specs.Runs.{RunReply}
-use Rattle.fond_tool.specs.Simulations.{SimulateReply}
-use Rattle.fond_tool.specs.Successors.{SuccReply}
+use Rattle.fond_commands.specs.Replies.{Reply}
+use Rattle.fond_commands.specs.Runs.{RunReply}
+use Rattle.fond_commands.specs.Simulations.{SimulateReply}
+use Rattle.fond_commands.specs.Successors.{SuccReply}
 
 -- the texts of a domain, a problem and a side list
 abbrev pub texts : List ℕ → List ℕ → List ℕ → Texts

@@ -14,9 +14,9 @@ use Rattle.fond_policy.specs.Parts.{AreAllLean, IsRightCover}
 use Rattle.fond_relax.specs.Stable.{IsHopeless}
 use Rattle.fond_bridge.specs.Solutions.{rules_policy}
 use Rattle.fond_front.specs.Texts.{Texts}
-use Rattle.fond_tool.specs.Certified.{IsCertText, TaskReply}
-use Rattle.fond_tool.specs.Replies.{Reply, line_reply}
-use Rattle.fond_tool.specs.declared.status.Ending.TheVariants.{Done, Unsolvable, Undecided}
+use Rattle.fond_commands.specs.Certified.{IsCertText, TaskReply}
+use Rattle.fond_commands.specs.Replies.{Reply, line_reply}
+use Rattle.fond_commands.specs.declared.status.Ending.TheVariants.{Done, Unsolvable, Undecided}
 
 -- what `plan` replies in a task with this ground task: the text of a correct policy certificate with a cover, whose pairs,
 -- rules and items are lean, and whose rules are a solution of the task, which then is solvable; the text of a correct refusal,

@@ -1,21 +1,21 @@
 //! The jobs, each over the contents of its files.
 
 ghost use Rattle.fond_tool.specs.Jobs.{JobReply, texts as texts_by};
-ghost use Rattle.fond_tool.specs.Rejections.{Rejects};
-ghost use Rattle.fond_tool.specs.Words.{command_of, file_count, Say};
+ghost use Rattle.fond_commands.specs.Rejections.{Rejects};
+ghost use Rattle.fond_commands.specs.Words.{command_of, file_count, Say};
 ghost use Rattle.std.specs.Prelude.{◌≡◌, ◌≤◌, [], ℕ, List, get_or, length, IfOk, IfErr};
 
-use crate::answer::Answer;
-use crate::check::check_cert;
 use crate::demo::demo;
-use crate::fetch::Content;
-use crate::migrate::migrate;
 use crate::plan::plan;
-use crate::rejection::Rejection;
-use crate::run::run;
-use crate::simulate::simulate;
-use crate::succ::succ;
-use crate::words::Job;
+use fond_commands::answer::Answer;
+use fond_commands::check::check_cert;
+use fond_commands::fetch::Content;
+use fond_commands::migrate::migrate;
+use fond_commands::rejection::Rejection;
+use fond_commands::run::run;
+use fond_commands::simulate::simulate;
+use fond_commands::succ::succ;
+use fond_commands::words::Job;
 use fond_front::texts::TaskTexts;
 use std::alloc::Global;
 

@@ -3,21 +3,7 @@
 //! replies mean is left to the layers below.
 #![tactic(auto)]
 
-mod answer;
-mod body;
-mod check;
 mod demo;
-mod fetch;
 mod jobs;
-pub mod laws;
-mod migrate;
 mod plan;
-mod rejection;
-mod run;
-mod simulate;
-pub mod status;
-mod succ;
-mod task_files;
 pub mod tool;
-mod traced;
-mod words;

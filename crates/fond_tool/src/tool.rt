@@ -2,15 +2,15 @@
 
 ghost use Rattle.fond_tool.specs.Jobs.{JobReply};
 ghost use Rattle.fond_tool.specs.Ends.{ToolReply, Ends};
-ghost use Rattle.fond_tool.specs.Words.{AskForNone, Say, command_of, file_count};
+ghost use Rattle.fond_commands.specs.Words.{AskForNone, Say, command_of, file_count};
 ghost use Rattle.std.specs.Prelude.{◌≡◌, ◌≤◌, ℕ, List, length, IfOk};
 
-use crate::answer::{Answer, line};
-use crate::fetch::{Content, fetch_all};
 use crate::jobs::do_job;
-use crate::rejection::answer_to;
-use crate::status::{Ending, Status};
-use crate::words::{Job, read_words};
+use fond_commands::answer::{Answer, line};
+use fond_commands::fetch::{Content, fetch_all};
+use fond_commands::rejection::answer_to;
+use fond_commands::status::{Ending, Status};
+use fond_commands::words::{Job, read_words};
 use fond_edge::shelf::{FetchFault, Shelf};
 use fond_edge::sink::Sink;
 use fond_text::fault::NoMemory;

@@ -1,7 +1,7 @@
 use Rattle.std.proofs.Common.{◌∙◌, sym}
 use Rattle.std.proofs.lemmas.Result.{IfOk-weaker}
 use Rattle.fond_tool.specs.Demos.{AnswersDemo}
-use Rattle.fond_tool.specs.Replies.{Reply}
+use Rattle.fond_commands.specs.Replies.{Reply}
 use Rattle.fond_tool.proofs.Shown.{shown_between}
 use Rattle.fond_tool.proofs.demo.demonstrated.Goals as goal
 

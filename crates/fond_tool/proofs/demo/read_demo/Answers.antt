@@ -1,9 +1,9 @@
 use Rattle.std.proofs.Common.{◌≡◌, IfOk, IfErr, subst}
 use Rattle.fond_front.specs.Texts.{Texts}
 use Rattle.fond_text.specs.Faults.{Refuses}
-use Rattle.fond_tool.specs.Certified.{DescribeGround}
+use Rattle.fond_commands.specs.Certified.{DescribeGround}
 use Rattle.fond_tool.specs.Demos.{demo_texts}
-use Rattle.fond_tool.specs.Tasks.{IsRefusal}
+use Rattle.fond_commands.specs.Tasks.{IsRefusal}
 use Rattle.fond_tool.proofs.demo.read_demo.Goals as goal
 
 pub returns-clause-read : goal.returns-clause-read

@@ -1,6 +1,6 @@
-use Rattle.fond_tool.specs.Certified.{TaskReply}
+use Rattle.fond_commands.specs.Certified.{TaskReply}
 use Rattle.fond_tool.specs.Plans.{AnswersPlan}
-use Rattle.fond_tool.proofs.Rejections.{refused_files}
+use Rattle.fond_commands.proofs.Rejections.{refused_files}
 use Rattle.fond_tool.proofs.plan.plan.Goals as goal
 
 pub returns-in_err-files-clause-rejected : goal.returns-in_err-files-clause-rejected

@@ -1,5 +1,5 @@
 use Rattle.std.proofs.lemmas.Result.{IfOk-weaker}
-use Rattle.fond_tool.specs.Replies.{Reply}
+use Rattle.fond_commands.specs.Replies.{Reply}
 use Rattle.fond_tool.proofs.Planned.{decided}
 use Rattle.fond_tool.proofs.plan.planned.Goals as goal
 

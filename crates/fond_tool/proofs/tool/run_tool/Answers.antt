@@ -1,6 +1,6 @@
 use Rattle.std.proofs.Common.{◌∙◌, sym}
 use Rattle.fond_tool.specs.Ends.{Writes}
-use Rattle.fond_tool.specs.Fetches.{Reads}
+use Rattle.fond_commands.specs.Fetches.{Reads}
 use Rattle.fond_tool.proofs.Ends.{ends_written, has_memory}
 use Rattle.fond_tool.proofs.tool.run_tool.Goals as goal
 

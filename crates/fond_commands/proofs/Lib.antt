@@ -1,0 +1,7 @@
+pub mod Answered
+pub mod Certified
+pub mod Checks
+pub mod Lists
+pub mod Migrated
+pub mod Rejections
+pub mod Runs

@@ -1,0 +1,17 @@
+use Rattle.fond_commands.specs.Runs.{AnswersRun}
+use Rattle.fond_commands.proofs.Rejections.{refused_files, task_rejected, task_replied}
+use Rattle.fond_commands.proofs.run.run.Goals as goal
+
+pub returns-in_err-files-clause-rejected : goal.returns-in_err-files-clause-rejected
+returns-in_err-files-clause-rejected c = refused_files c.args.texts.now (λ task game. AnswersRun task game c.args.cert.now c.args.script.now) _ c.in_err-files.field-0.0 c.from_residual.ensures.1 c.in_err-files.ensures.refused
+
+pub certified_trace-requires : goal.certified_trace-requires
+certified_trace-requires c = c.in_ok-files.ensures.read.1
+
+pub returns-clause-replied : goal.returns-clause-replied
+returns-clause-replied c =
+    task_replied c.args.texts.now (λ task game. AnswersRun task game c.args.cert.now c.args.script.now) c.in_ok-files.files.task.value c.in_ok-files.files.game.value c.in_ok-files.ensures.read c.certified_trace.result c.certified_trace.ensures.replied
+
+pub returns-clause-rejected : goal.returns-clause-rejected
+returns-clause-rejected c =
+    task_rejected c.args.texts.now (λ task game. AnswersRun task game c.args.cert.now c.args.script.now) c.in_ok-files.files.task.value c.in_ok-files.files.game.value c.in_ok-files.ensures.read c.certified_trace.result c.certified_trace.ensures.rejected

@@ -1,0 +1,20 @@
+use Rattle.fond_succ.specs.Actions.{names_of}
+use Rattle.fond_commands.specs.Successors.{AnswersNames}
+use Rattle.fond_commands.proofs.Rejections.{refused_files, task_rejected, task_replied}
+use Rattle.fond_commands.proofs.succ.succ.Goals as goal
+
+pub returns-in_err-files-clause-rejected : goal.returns-in_err-files-clause-rejected
+returns-in_err-files-clause-rejected c = refused_files c.args.texts.now (λ task game. AnswersNames task (names_of c.args.action.now)) _ c.in_err-files.field-0.0 c.from_residual.ensures.1 c.in_err-files.ensures.refused
+
+pub named_successors-requires-clause-ground : goal.named_successors-requires-clause-ground
+named_successors-requires-clause-ground c = rw (c.deref-task.ensures, c.deref-game.ensures) c.in_ok-files.ensures.read.1
+
+pub returns-clause-replied : goal.returns-clause-replied
+returns-clause-replied c =
+    task_replied c.args.texts.now (λ task game. AnswersNames task (names_of c.args.action.now)) c.in_ok-files.files.task.value c.in_ok-files.files.game.value c.in_ok-files.ensures.read c.named_successors.result
+    (rw c.deref-task.ensures at c.named_successors.ensures.replied)
+
+pub returns-clause-rejected : goal.returns-clause-rejected
+returns-clause-rejected c =
+    task_rejected c.args.texts.now (λ task game. AnswersNames task (names_of c.args.action.now)) c.in_ok-files.files.task.value c.in_ok-files.files.game.value c.in_ok-files.ensures.read c.named_successors.result
+    (rw c.deref-task.ensures at c.named_successors.ensures.rejected)

@@ -1,0 +1,15 @@
+pub mod Bodies
+pub mod Budgets
+pub mod Certified
+pub mod Checks
+pub mod Fetches
+pub mod GroundRuns
+pub mod Migrations
+pub mod Numbers
+pub mod Rejections
+pub mod Replies
+pub mod Runs
+pub mod Simulations
+pub mod Successors
+pub mod Tasks
+pub mod Words

@@ -1,0 +1,44 @@
+-- No trace of a solution gets stuck.
+use Rattle.std.proofs.Common.{◌≡◌, ℕ, List, Some, length, slice_get, refl, sym, subst}
+use Rattle.fond_ast.specs.declared.task.LiftedTask.{LiftedTask}
+use Rattle.fond_play.specs.Games.{start, onward}
+use Rattle.fond_meaning.proofs.Come.{outcomes-come-next}
+use Rattle.fond_meaning.specs.Outcomes.{Literal, outcomes, state_after}
+use Rattle.fond_meaning.specs.Solutions.{IsNext, IsSolution, Reach}
+use Rattle.fond_meaning.specs.States.{State}
+use Rattle.fond_text.specs.declared.atom.GroundAction.{GroundAction}
+use Rattle.fond_task.specs.declared.task.Task.{Task}
+use Rattle.fond_game.proofs.Lists.{Contains-map, Contains_numbered}
+use Rattle.fond_game.specs.declared.rule.Rule.{Rule}
+use Rattle.fond_bridge.specs.Solutions.{rules_policy}
+use Rattle.fond_play.specs.Traces.{Pick, TraceOf}
+use Rattle.fond_bridge.specs.Traces.{Choose, Trace}
+use Rattle.fond_laws.specs.Replies.{SolutionsNeverStick}
+use Rattle.fond_laws.specs.Stuck.{EndsStuck}
+
+module _ (task : LiftedTask) (game : Task) (rules : List Rule) (solves : IsSolution task (rules_policy task game rules)) where
+  -- an outcome of the chosen action leads to a state that may come next
+  comes_next : (state : State) (action : GroundAction) (choices : List (List Literal)) (number : ℕ) (outcome : List Literal) → Choose task game rules state action choices → slice_get choices number ≡ Some outcome
+      → IsNext task state action (state_after state outcome)
+  comes_next state action choices number outcome choose at =
+      let all = outcomes action.objects choose.schema.effect in
+      let here : slice_get all number ≡ Some outcome = subst (λ (cs : List (List Literal)). slice_get cs number ≡ Some outcome) choose.choices_are at in
+      (outcomes-come-next task state action choose.schema choose.numbered choose.applicable (state_after state outcome)).1
+      (Contains-map (state_after state) all outcome (Contains_numbered all number outcome here))
+
+  never : (pick : Pick) (state : State) (words lines : List ℕ) (last : State) → Reach task (rules_policy task game rules) state → (trace : Trace pick task game rules state words lines last) → ¬ EndsStuck trace
+  never pick state words lines last reached (TraceOf.goal at left is) stuck = stuck
+  never pick state words lines last reached (TraceOf.ended at open_) stuck = stuck
+  never pick state words lines last reached (TraceOf.stuck at word left open_ none) stuck =
+      let choice = solves.acts at reached open_ in
+      let applies = choice.2 in
+      let outcomes_are = outcomes choice.0.objects applies.schema.effect in
+      none (choice.0, outcomes_are) (record { chosen = choice.1; applicable = applies; schema = applies.schema; numbered = applies.numbered; choices_are = refl })
+  never pick state words lines last reached (TraceOf.bad_outcome at word left choice open_ chosen over) stuck = stuck
+  never pick state words lines last reached (TraceOf.took at word left choice line next text end open_ choose leads later) stuck =
+      let outcome = leads.3.0 in
+      let comes : IsNext task at choice.0 next = subst (IsNext task at choice.0) (sym leads.3.2) (comes_next at choice.0 choice.1 (pick (length choice.1) word) outcome choose leads.3.1) in
+      never pick next left text end (onward at choice.0 next reached open_ choose.chosen comes) later stuck
+
+pub never_stuck : SolutionsNeverStick
+never_stuck pick task game rules words lines last solves trace = never task game rules solves pick _ words lines last start trace

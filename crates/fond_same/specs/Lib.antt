@@ -1,4 +1,0 @@
-pub mod Read
-pub mod Lifted
-pub mod Alike
-pub mod Laws
