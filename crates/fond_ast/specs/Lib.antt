@@ -1,3 +1,11 @@
 pub mod Ranges
 pub mod Read
 pub mod Within
+pub mod States
+pub mod Conditions
+pub mod Effects
+pub mod Truths
+pub mod Outcomes
+pub mod Patterns
+pub mod Solutions
+pub mod Laws

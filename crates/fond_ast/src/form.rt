@@ -5,7 +5,7 @@ use fond_text::list::List;
 use std::rc::Rc;
 
 /// An object, or a variable by its position among the variables around it, the outermost first.
-#[derive(Clone, Copy, Debug, PartialEq, Eq)]
+#[derive(Clone, Copy)]
 pub enum LTerm {
     Object(u32),
     Variable(u32),

@@ -1,18 +1,18 @@
-use fond_bridge::laws::{
-    ground_tasks_agree, ground_tasks_play, outcomes_lead_alike, stands_is_injective, texts_agree,
-    traces_stand,
-};
-use fond_cert::laws::{faults_are_one, spellings_are_clean, spellings_differ};
-use fond_check::laws::right_are_accepted;
-use fond_game::laws::{layers_force, ranks_exclude_traps, refusals_hold};
-use fond_meaning::laws::{
+use fond_ast::laws::{
     outcomes_come_next, states_are_their_atoms, successors_are_outcomes, truth_is_local,
     truth_is_tested, tuples_lie_in_ranges,
 };
+use fond_cert::laws::{faults_are_one, spellings_are_clean, spellings_differ};
+use fond_check::laws::right_are_accepted;
 use fond_policy::laws::covers_are_solutions;
 use fond_reader::laws::{clean_domains_are_read, clean_problems_are_read};
-use fond_relax::laws::stable_cubes_are_sure;
+use fond_regress::laws::stable_cubes_are_sure;
 use fond_rules::laws::{earlier_rules_decide, selected_rule_is_policy};
+use fond_succ::laws::{
+    ground_tasks_agree, ground_tasks_play, outcomes_lead_alike, stands_is_injective, texts_agree,
+    traces_stand,
+};
+use fond_task::game_laws::{layers_force, ranks_exclude_traps, refusals_hold};
 use fond_task::laws::{full_cubes_are_exact, images_are_sound, values_are_sound};
 use fond_tree::laws::{no_tree_has_a_fault, one_fault, one_tree, read_trees_are_short};
 

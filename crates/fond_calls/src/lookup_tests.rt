@@ -1,4 +1,4 @@
-use fond_lookup::index::{TextIndex, TupleIndex};
+use fond_store::index::{TextIndex, TupleIndex};
 use std::test::Fail;
 
 #[test]

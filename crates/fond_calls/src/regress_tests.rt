@@ -1,5 +1,4 @@
 use crate::coin::ground_coin;
-use fond_game::rule::{Pair, Rule, Target, Targets};
 use fond_layers::layers::{Layer, Layers};
 use fond_regress::condition::lean_condition;
 use fond_regress::pair::lean_pair;
@@ -9,6 +8,7 @@ use fond_rules::rules::Rules;
 use fond_rules::sure_pairs::sure_pair;
 use fond_rules::sure_rules::sure_rule;
 use fond_state::cube::Cube;
+use fond_task::rule::{Pair, Rule, Target, Targets};
 use fond_task::task::Task;
 use fond_text::fault::NoMemory;
 use std::alloc::Global;

@@ -1,5 +1,5 @@
 use crate::coin::{ground_coin, ground_idle};
-use fond_relax::estimate::{Guess, estimate};
+use fond_regress::estimate::{Guess, estimate};
 use std::test::Fail;
 
 #[test]

@@ -1,10 +1,10 @@
 use crate::coin::ground_coin;
-use fond_game::rule::{Pair, Rule, Target, Targets};
 use fond_rules::pad::Pad;
 use fond_rules::pairs::Pairs;
 use fond_rules::rules::Rules;
 use fond_state::cube::Cube;
 use fond_state::state::State;
+use fond_task::rule::{Pair, Rule, Target, Targets};
 use fond_text::fault::NoMemory;
 use std::alloc::Global;
 use std::test::Fail;

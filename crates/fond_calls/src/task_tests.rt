@@ -2,7 +2,6 @@ use crate::coin::ground_coin;
 use fond_state::state::State;
 use fond_task::step::apply_into;
 use fond_task::task::Task;
-use fond_task::task_index::TaskIndex;
 use fond_task::text::{put_action, put_atom, put_state};
 use fond_task::truth::{applicable, evaluate, is_goal};
 use fond_text::fault::NoMemory;
@@ -48,16 +47,5 @@ fn a_task_is_grounded_stepped_and_written(rt: HostRuntime) -> Result<(), Fail> {
         text.as_slice(),
         b"(heads)(flip)state\n(heads)\n".as_slice()
     );
-    Ok(())
-}
-
-#[test]
-fn actions_and_atoms_are_found_by_their_texts(rt: HostRuntime) -> Result<(), Fail> {
-    let coin = ground_coin(rt.alloc())?;
-    let index = TaskIndex::of(rt.alloc(), &coin)?;
-    assert_eq!(rt; index.act(b"(flip)"), Some(0));
-    assert_eq!(rt; index.atom(b"(heads)"), Some(0));
-    assert_eq!(rt; index.atom(b"(round)"), None);
-    assert_eq!(rt; index.task().acts.len(), 1);
     Ok(())
 }

@@ -12,8 +12,8 @@ use Rattle.std.proofs.lemmas.List.{length-map}
 use Rattle.std.proofs.lemmas.List.Elements.{All-head, All-tail, All-map}
 use Rattle.fond_task.specs.Numbers.{act_number}
 use Rattle.fond_task.specs.declared.task.Task.{Task}
-use Rattle.fond_game.specs.declared.rule.Target.{Target as RuleTarget}
-use Rattle.fond_game.specs.declared.rule.Target.TheVariants.{Goal, Rule as ToRule}
+use Rattle.fond_task.specs.declared.rule.Target.{Target as RuleTarget}
+use Rattle.fond_task.specs.declared.rule.Target.TheVariants.{Goal, Rule as ToRule}
 use Rattle.fond_policy.specs.Sizes.{IsSmallTarget}
 use Rattle.fond_form.specs.Lines.{group_text, is_number, is_target, AreWords}
 use Rattle.fond_form.specs.Forms.{Field, text_of, form, IsProperValue, value_text, AreProperValues, line_text, IsProper}

@@ -8,7 +8,7 @@ use Rattle.std.proofs.lemmas.List.Elements.{All-tail, All-cons, All-nil}
 use Rattle.fond_text.specs.declared.atom.Atom.{Atom}
 use Rattle.fond_task.specs.Numbers.{atom_number}
 use Rattle.fond_task.specs.declared.task.Task.{Task}
-use Rattle.fond_game.specs.Layers.{CubeView}
+use Rattle.fond_task.specs.Layers.{CubeView}
 use Rattle.fond_form.specs.Lines.{IsGroup, group_text, WrittenLiteral, AreProper, literal_text}
 use Rattle.fond_cert.specs.declared.code.TheConstants.{UNKNOWN_ATOM}
 use Rattle.fond_cert.specs.Checked.{rises}

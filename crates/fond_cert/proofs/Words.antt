@@ -8,7 +8,7 @@ use Rattle.std.proofs.lemmas.List.{append-nil}
 use Rattle.std.proofs.lemmas.List.Elements.{All-cons, All-nil, All-append}
 use Rattle.fond_task.specs.Numbers.{act_number}
 use Rattle.fond_task.specs.declared.task.Task.{Task}
-use Rattle.fond_game.specs.declared.rule.Target.{Target as RuleTarget}
+use Rattle.fond_task.specs.declared.rule.Target.{Target as RuleTarget}
 use Rattle.fond_policy.specs.Sizes.{IsSmallTarget}
 use Rattle.fond_form.specs.declared.table.Sort.TheVariants.{Action, Short, Long, Target, Shorts, Targets}
 use Rattle.fond_form.specs.Lines.{spaced, is_number, is_target, AreWords}

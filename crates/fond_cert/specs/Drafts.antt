@@ -2,7 +2,7 @@
 use Rattle.std.specs.Prelude.{◌≡◌, ℕ, ◌-◌, ◌<◌, ◌^◌, nat_eq, Bool, true, false, ◌||◌, ⊤, List, [], ◌∷◌, ◌++◌, All, Some, None, length, drop}
 use Rattle.std.specs.Option.{option_map}
 use Rattle.fond_task.specs.declared.task.Task.{Task}
-use Rattle.fond_game.specs.Layers.{CubeView}
+use Rattle.fond_task.specs.Layers.{CubeView}
 use Rattle.fond_cert.specs.declared.draft.Draft.{Draft}
 use Rattle.fond_form.specs.declared.table.LineKind.{LineKind}
 use Rattle.fond_form.specs.declared.table.LineKind.TheVariants as k

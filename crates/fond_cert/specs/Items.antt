@@ -1,8 +1,8 @@
 -- Pairs, rules and items, one by one, that belong to a task.
 use Rattle.std.specs.Prelude.{◌≡◌, ◌<◌, length}
 use Rattle.fond_task.specs.declared.task.Task.{Task}
-use Rattle.fond_game.specs.declared.rule.Pair.{Pair}
-use Rattle.fond_game.specs.declared.rule.Rule.{Rule}
+use Rattle.fond_task.specs.declared.rule.Pair.{Pair}
+use Rattle.fond_task.specs.declared.rule.Rule.{Rule}
 use Rattle.fond_rules.specs.Belongs.{HasTarget}
 use Rattle.fond_cover.specs.declared.item.Item.{Item}
 use Rattle.fond_policy.specs.Belongs.{HasNumber}

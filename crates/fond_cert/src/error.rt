@@ -26,7 +26,7 @@ impl From<NoMemory> for CertError {
 }
 
 /// Why a line is refused: the code, and the byte of the fault in the line.
-#[derive(Clone, Copy, Debug, PartialEq, Eq)]
+#[derive(Clone, Copy)]
 pub(crate) enum LineError {
     Refused { code: u8, at: usize },
     NoMemory,

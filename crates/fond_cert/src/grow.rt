@@ -9,23 +9,23 @@ ghost use Rattle.fond_cert.specs.Spellings.{Meanings, AreOfTask, all_layers, no_
 ghost use Rattle.fond_cert.specs.declared.due.Group.TheVariants as g;
 ghost use Rattle.fond_form.specs.Forms.{form, HasForm};
 ghost use Rattle.fond_task.specs.declared.task.Task.{Task};
-ghost use Rattle.fond_game.specs.Layers.{CubeView};
+ghost use Rattle.fond_task.specs.Layers.{CubeView};
 ghost use Rattle.std.specs.Prelude.{◌≡◌, ◌<◌, ◌-◌, ◌^◌, List, [], ◌∷◌, ◌++◌, length, None, Some, All, IfErr, OnOk};
 
 use crate::draft::Draft;
 use crate::error::LineError;
 use crate::item::{cube_of, fair_of, goal_item_of, pair_of, rule_item_of, unfair_of};
 use crate::reading::read_line;
+use crate::task_index::TaskIndex;
 use crate::values::LineValues;
 use fond_cover::item::Item;
 use fond_cover::items::Items;
 use fond_form::table::LineKind;
-use fond_game::rule::{Pair, Rule};
 use fond_layers::layers::{Layer, Layers};
 use fond_rules::pairs::Pairs;
 use fond_rules::rules::Rules;
 use fond_state::cube::Cube;
-use fond_task::task_index::TaskIndex;
+use fond_task::rule::{Pair, Rule};
 use fond_text::fault::NoMemory;
 use std::alloc::Global;
 

@@ -9,8 +9,8 @@ ghost use Rattle.std.specs.Prelude.{◌≡◌, ◌≢◌, None};
 
 use crate::values::LineValues;
 use fond_cover::item::{Item, Way};
-use fond_game::rule::{Pair, Rule, Targets};
 use fond_state::cube::Cube;
+use fond_task::rule::{Pair, Rule, Targets};
 use std::alloc::Global;
 
 /// The cube of the line.

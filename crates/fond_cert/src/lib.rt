@@ -20,6 +20,7 @@ mod put;
 pub mod read;
 mod reading;
 mod target;
+mod task_index;
 pub mod text;
 mod text_sink;
 mod values;

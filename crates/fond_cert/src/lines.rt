@@ -13,9 +13,9 @@ use crate::draft::Draft;
 use crate::due::Due;
 use crate::error::{CertError, LineError};
 use crate::place::next_due;
+use crate::task_index::TaskIndex;
 use fond_form::feed::line_of;
 use fond_form::form::kind_of;
-use fond_task::task_index::TaskIndex;
 use std::alloc::Global;
 
 /// The refusal of a line that has no form allowed at its place.

@@ -8,11 +8,11 @@ ghost use Rattle.std.specs.Prelude.{◌≡◌, ◌+◌, ◌<◌, ◌^◌, ◌&&�
 
 use crate::code::{OUT_OF_FORM, UNKNOWN_ATOM};
 use crate::error::LineError;
+use crate::task_index::TaskIndex;
 use fond_form::part::Part;
 use fond_form::scan::literal;
 use fond_state::cube::Cube;
 use fond_task::task::Task;
-use fond_task::task_index::TaskIndex;
 use fond_text::fault::NoMemory;
 use std::alloc::Global;
 

@@ -11,9 +11,9 @@ ghost use Rattle.std.specs.Prelude.{◌≡◌, IfOk, IfErr};
 use crate::draft::Draft;
 use crate::error::CertError;
 use crate::lines::read_lines;
+use crate::task_index::TaskIndex;
 use fond_policy::cert::Cert;
 use fond_task::task::Task;
-use fond_task::task_index::TaskIndex;
 use fond_text::fault::NoMemory;
 use std::alloc::Global;
 

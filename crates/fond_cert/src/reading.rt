@@ -13,11 +13,11 @@ use crate::literal::read_cube;
 use crate::target::{
     read_act, read_item_numbers, read_long, read_short, read_target, read_targets,
 };
+use crate::task_index::TaskIndex;
 use crate::values::LineValues;
 use fond_form::cut::cut_field;
 use fond_form::part::Part;
 use fond_form::table::{Field, LineKind, Sort, form};
-use fond_task::task_index::TaskIndex;
 use std::alloc::Global;
 
 /// Reads a value.

@@ -15,12 +15,12 @@ ghost use Rattle.std.specs.Str.Parse.{digits_value};
 
 use crate::code::{TOO_LARGE, UNKNOWN_ACTION};
 use crate::error::LineError;
+use crate::task_index::TaskIndex;
 use fond_cover::item::ItemNumbers;
 use fond_form::part::Part;
 use fond_form::scan::after;
 use fond_form::word::{number, word};
-use fond_game::rule::{Target, TargetList};
-use fond_task::task_index::TaskIndex;
+use fond_task::rule::{Target, TargetList};
 use std::alloc::Global;
 
 /// The number of an action.

@@ -1,12 +1,12 @@
 //! The values of a line, as they are read one after the other.
 
 ghost use Rattle.fond_cert.specs.Filled.{no_values};
-ghost use Rattle.fond_game.specs.declared.rule.Target.{Target};
+ghost use Rattle.fond_task.specs.declared.rule.Target.{Target};
 ghost use Rattle.std.specs.Prelude.{◌≡◌, ◌<◌, ◌^◌, ℕ, Some, slice_get};
 
 use fond_cover::item::ItemNumbers;
-use fond_game::rule::{Target, TargetList};
 use fond_state::cube::Cube;
+use fond_task::rule::{Target, TargetList};
 use fond_text::list::List;
 use std::alloc::Global;
 use std::mem;

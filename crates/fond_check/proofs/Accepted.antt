@@ -1,12 +1,12 @@
 -- Each verdict on a correct certificate is that it is accepted.
 use Rattle.std.proofs.Common.{◌≡◌, ℕ, suc, ◌<◌, List, Bool, true, false, take, drop, refl, sym, ◌∙◌, arith}
 use Rattle.fond_task.specs.declared.task.Task.{Task}
-use Rattle.fond_game.specs.declared.rule.Pair.{Pair}
-use Rattle.fond_game.specs.declared.rule.Rule.{Rule}
-use Rattle.fond_game.specs.Policies.{selected}
-use Rattle.fond_game.specs.Layers.{CubeView, AreSureLayers, IsSureCube}
-use Rattle.fond_game.specs.Certificates.{IsRightPolicy, IsRightRefusal}
-use Rattle.fond_game.proofs.Lists.{Contains_numbered, something}
+use Rattle.fond_task.specs.declared.rule.Pair.{Pair}
+use Rattle.fond_task.specs.declared.rule.Rule.{Rule}
+use Rattle.fond_task.specs.Policies.{selected}
+use Rattle.fond_task.specs.Layers.{CubeView, AreSureLayers, IsSureCube}
+use Rattle.fond_task.specs.Certificates.{IsRightPolicy, IsRightRefusal}
+use Rattle.fond_task.proofs.Lists.{Contains_numbered, something}
 use Rattle.std.proofs.lemmas.Option.{none-some}
 use Rattle.fond_layers.specs.Faults.{IsWrong, cube_number}
 use Rattle.fond_layers.specs.declared.fault.Spot.{Spot}

@@ -2,12 +2,12 @@
 -- rules. Then come the number of reached states and the rules of reached states, or the items and the start item.
 use Rattle.std.specs.Prelude.{◌≡◌, ℕ, ◌<◌, List, true, Some, take, slice_get, Decides}
 use Rattle.fond_task.specs.declared.task.Task.{Task}
-use Rattle.fond_game.specs.declared.rule.Pair.{Pair}
-use Rattle.fond_game.specs.declared.rule.Rule.{Rule}
-use Rattle.fond_game.specs.Policies.{selected}
-use Rattle.fond_game.specs.Layers.{CubeView, AreSureLayers, IsSurePair}
-use Rattle.fond_game.specs.Rules.{IsSureRule}
-use Rattle.fond_game.specs.Certificates.{ReachesCount, IsRightPolicy, LiesInLayers, IsRightRefusal}
+use Rattle.fond_task.specs.declared.rule.Pair.{Pair}
+use Rattle.fond_task.specs.declared.rule.Rule.{Rule}
+use Rattle.fond_task.specs.Policies.{selected}
+use Rattle.fond_task.specs.Layers.{CubeView, AreSureLayers, IsSurePair}
+use Rattle.fond_task.specs.Rules.{IsSureRule}
+use Rattle.fond_task.specs.Certificates.{ReachesCount, IsRightPolicy, LiesInLayers, IsRightRefusal}
 use Rattle.fond_layers.specs.Faults.{IsSpot}
 use Rattle.fond_layers.specs.declared.fault.Spot.{Spot}
 use Rattle.fond_layers.specs.declared.fault.Spot.TheVariants.{Goal, NotSure}

@@ -2,8 +2,8 @@
 
 ghost use Rattle.fond_policy.specs.Belongs.{Belongs, BelongAsItems, BelongAsLayers, BelongAsPairs, BelongAsRules};
 ghost use Rattle.fond_policy.specs.Parts.{ArePartsSure};
-ghost use Rattle.fond_game.specs.Layers.{CubeView};
-ghost use Rattle.fond_game.specs.declared.rule.Pair.{Pair};
+ghost use Rattle.fond_task.specs.Layers.{CubeView};
+ghost use Rattle.fond_task.specs.declared.rule.Pair.{Pair};
 ghost use Rattle.fond_cover.specs.Covers.{IsIn};
 ghost use Rattle.fond_cover.specs.Items.{firsts_of, AreSureItems};
 ghost use Rattle.fond_check.specs.Verdicts.{IsCoverVerdict, IsPartFault, IsPolicyVerdict, IsRefusalVerdict, IsVerdict, of_spot};

@@ -2,9 +2,9 @@
 
 ghost use Rattle.fond_policy.specs.Parts.{AreAllLean, AreLean};
 ghost use Rattle.fond_cover.specs.Items.{firsts_of, AreItemsOver, AreLeanItems};
-ghost use Rattle.fond_game.specs.Rules.{IsLeanPair, IsLeanRule};
-ghost use Rattle.fond_game.specs.declared.rule.Pair.{Pair};
-ghost use Rattle.fond_game.specs.declared.rule.Rule.{Rule};
+ghost use Rattle.fond_task.specs.Rules.{IsLeanPair, IsLeanRule};
+ghost use Rattle.fond_task.specs.declared.rule.Pair.{Pair};
+ghost use Rattle.fond_task.specs.declared.rule.Rule.{Rule};
 ghost use Rattle.fond_layers.specs.Over.{AreOver};
 ghost use Rattle.fond_rules.specs.Belongs.{ArePairsOver, BelongTo};
 ghost use Rattle.std.specs.Prelude.{◌≡◌, ℕ, length, slice_get, Some, Contains, Decides};

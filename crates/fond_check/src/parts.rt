@@ -2,13 +2,12 @@
 
 ghost use Rattle.fond_policy.specs.Parts.{AreSurePairs, AreSureRules};
 ghost use Rattle.fond_check.specs.Verdicts.{IsFirstBadLayer, IsFirstBadPair, IsFirstBadRule};
-ghost use Rattle.fond_game.specs.Layers.{CubeView, AreSureLayers, IsSurePair};
-ghost use Rattle.fond_game.specs.Rules.{IsLeanPair};
+ghost use Rattle.fond_task.specs.Layers.{CubeView, AreSureLayers, IsSurePair};
+ghost use Rattle.fond_task.specs.Rules.{IsLeanPair};
 ghost use Rattle.fond_layers.specs.Over.{AreOver};
 ghost use Rattle.fond_rules.specs.Belongs.{ArePairsOver, BelongTo};
 ghost use Rattle.std.specs.Prelude.{◌≡◌, List, length, slice_get, Some, Decides, IfOk, MatchOption};
 
-use fond_game::rule::Pair;
 use fond_layers::fault::Spot;
 use fond_layers::layers::Layers;
 use fond_rules::pad::Pad;
@@ -17,6 +16,7 @@ use fond_rules::rules::Rules;
 use fond_rules::sure_pairs::{lean_pair, sure_pair};
 use fond_rules::sure_rules::sure_rule;
 use fond_state::cube::Cube;
+use fond_task::rule::Pair;
 use fond_task::task::Task;
 use fond_text::fault::NoMemory;
 use std::alloc::Global;

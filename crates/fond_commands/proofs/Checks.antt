@@ -1,15 +1,15 @@
 -- What `check` replies where it does not end with a refusal of its files.
 use Rattle.std.proofs.Common.{◌≡◌, ℕ, Bool, List, sym, subst}
 use Rattle.fond_ast.specs.declared.task.LiftedTask.{LiftedTask}
-use Rattle.fond_bridge.proofs.Between.{ground-tasks-agree}
+use Rattle.fond_succ.proofs.Between.{ground-tasks-agree}
 use Rattle.fond_policy.specs.declared.cert.Cert.{Cert}
 use Rattle.fond_policy.specs.declared.cert.Cert.TheVariants.{Policy, Refusal, Covered}
 use Rattle.fond_check.specs.Verdicts.{IsVerdict}
 use Rattle.fond_check.specs.declared.verdict.Verdict.{Verdict}
 use Rattle.fond_check.specs.declared.verdict.Verdict.TheVariants.{Accepted, Rule, Pair, LayerGoal, LayerAct, NoRule, Count, Outside, Item, Start}
-use Rattle.fond_game.proofs.Forced.{refusals_exclude}
-use Rattle.fond_game.proofs.Ranks.{ranks_exclude}
-use Rattle.fond_game.specs.Policies.{selected}
+use Rattle.fond_task.proofs.Forced.{refusals_exclude}
+use Rattle.fond_task.proofs.Ranks.{ranks_exclude}
+use Rattle.fond_task.specs.Policies.{selected}
 use Rattle.fond_policy.proofs.Covered.{covers_solve}
 use Rattle.fond_ground.specs.Grounds.{IsGroundOf}
 use Rattle.fond_task.specs.declared.task.Task.{Task}

@@ -3,23 +3,23 @@ use Rattle.std.proofs.Common.{◌≡◌, ℕ, ◌<◌, ◌∙◌, ◌++◌, Bool
 use Rattle.std.proofs.lemmas.List.Elements.{All-nil}
 use Rattle.std.specs.Prelude.{if◌then◌else◌}
 use Rattle.fond_ast.specs.declared.task.LiftedTask.{LiftedTask}
-use Rattle.fond_bridge.specs.Games.{IsState}
-use Rattle.fond_bridge.specs.Stands.{stands}
-use Rattle.fond_bridge.proofs.Between.{ground-tasks-play, texts-agree, traces-stand}
-use Rattle.fond_bridge.proofs.Places.{same_tests}
+use Rattle.fond_succ.specs.Games.{IsState}
+use Rattle.fond_succ.specs.Stands.{stands}
+use Rattle.fond_succ.proofs.Between.{ground-tasks-play, texts-agree, traces-stand}
+use Rattle.fond_succ.proofs.Firsts.{same_tests}
 use Rattle.fond_policy.specs.Belongs.{Belongs}
 use Rattle.fond_policy.specs.declared.cert.Cert.{Cert}
 use Rattle.fond_policy.specs.declared.cert.Cert.TheVariants.{Policy, Refusal, Covered}
 use Rattle.fond_rules.specs.Belongs.{BelongTo}
-use Rattle.fond_bridge.specs.Traces.{Trace}
+use Rattle.fond_succ.specs.Traces.{Trace}
 use Rattle.fond_exec.specs.Traces as steps
-use Rattle.fond_play.specs.Traces.{Pick, TraceOf, as_recorded, by_remainder}
-use Rattle.fond_game.specs.declared.rule.Rule.{Rule}
+use Rattle.fond_state.specs.Traces.{Pick, TraceOf, as_recorded, by_remainder}
+use Rattle.fond_task.specs.declared.rule.Rule.{Rule}
 use Rattle.fond_ground.specs.Grounds.{IsGroundOf}
-use Rattle.fond_meaning.specs.Solutions.{initial}
-use Rattle.fond_meaning.specs.States.{State}
-use Rattle.fond_meaning.specs.Truths.{holds}
-use Rattle.fond_meaning.proofs.Tested.{truth-is-tested}
+use Rattle.fond_ast.specs.Solutions.{initial}
+use Rattle.fond_ast.specs.States.{State}
+use Rattle.fond_ast.specs.Truths.{holds}
+use Rattle.fond_ast.proofs.Tested.{truth-is-tested}
 use Rattle.fond_exec.specs.declared.script.ScriptError.{ScriptError}
 use Rattle.fond_exec.specs.declared.script.ScriptError.TheVariants as script_error
 use Rattle.fond_exec.specs.Scripts.{IsScript, IsScriptFault, ScriptRefuses}
@@ -27,7 +27,7 @@ use Rattle.fond_task.specs.declared.task.Task.{Task}
 use Rattle.fond_task.specs.Truth.{is_true}
 use Rattle.fond_task.proofs.Indices.{length-by_index}
 use Rattle.fond_commands.specs.declared.status.Ending.TheVariants.{Done, Stopped}
-use Rattle.fond_random.specs.Words.{drawn_words}
+use Rattle.fond_demo.specs.Words.{drawn_words}
 use Rattle.fond_commands.specs.GroundRuns.{IsTraceReply, ground_reply}
 use Rattle.fond_commands.specs.Simulations.{AnswersSimulate}
 use Rattle.fond_commands.specs.Rejections.{Rejects, of_script}

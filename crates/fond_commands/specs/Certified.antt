@@ -2,16 +2,16 @@
 use Rattle.std.specs.Prelude.{◌≡◌, ℕ, List, []}
 use Rattle.fond_text.specs.declared.fault.Fault.{Fault}
 use Rattle.fond_ast.specs.declared.task.LiftedTask.{LiftedTask}
-use Rattle.fond_meaning.specs.Solutions.{IsSolution, IsSolvable}
+use Rattle.fond_ast.specs.Solutions.{IsSolution, IsSolvable}
 use Rattle.fond_task.specs.declared.task.Task.{Task}
-use Rattle.fond_game.specs.declared.rule.Rule.{Rule}
+use Rattle.fond_task.specs.declared.rule.Rule.{Rule}
 use Rattle.fond_policy.specs.Belongs.{Belongs}
 use Rattle.fond_policy.specs.Sizes.{HasSmallNumbers}
 use Rattle.fond_cert.specs.Spellings.{spelling}
 use Rattle.fond_policy.specs.declared.cert.Cert.{Cert}
 use Rattle.fond_policy.specs.declared.cert.Cert.TheVariants.{Policy, Refusal, Covered}
 use Rattle.fond_ground.specs.Grounds.{IsGroundOf}
-use Rattle.fond_bridge.specs.Solutions.{rules_policy}
+use Rattle.fond_succ.specs.Solutions.{rules_policy}
 use Rattle.fond_front.specs.Texts.{Texts}
 use Rattle.fond_commands.specs.Tasks.{Describe, IsRefusal}
 use Rattle.fond_commands.specs.Replies.{Reply, fault_reply}

@@ -3,8 +3,8 @@ use Rattle.std.specs.Prelude.{◌≡◌, ℕ, List, ◌++◌, Bool, if◌then◌
 use Rattle.fond_task.specs.declared.task.Task.{Task}
 use Rattle.fond_task.specs.Texts.{state_text}
 use Rattle.fond_task.specs.Truth.{is_true}
-use Rattle.fond_game.specs.declared.rule.Rule.{Rule}
-use Rattle.fond_play.specs.Traces.{Pick}
+use Rattle.fond_task.specs.declared.rule.Rule.{Rule}
+use Rattle.fond_state.specs.Traces.{Pick}
 use Rattle.fond_exec.specs.Traces.{Trace}
 use Rattle.fond_commands.specs.declared.status.Ending.{Ending}
 use Rattle.fond_commands.specs.declared.status.Ending.TheVariants.{Done, Stopped}

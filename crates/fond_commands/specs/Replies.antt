@@ -5,8 +5,8 @@ use Rattle.fond_text.specs.declared.fault.Fault.{Fault}
 use Rattle.fond_text.specs.declared.place.FileKind.{FileKind}
 use Rattle.fond_text.specs.declared.place.FileKind.TheVariants.{Domain, Problem, Side}
 use Rattle.fond_ast.specs.declared.task.LiftedTask.{LiftedTask}
-use Rattle.fond_meaning.specs.States.{State}
-use Rattle.fond_meaning.specs.Truths.{holds}
+use Rattle.fond_ast.specs.States.{State}
+use Rattle.fond_ast.specs.Truths.{holds}
 use Rattle.fond_ground.specs.Texts.{state_text}
 use Rattle.fond_commands.specs.declared.status.Ending.{Ending}
 use Rattle.fond_commands.specs.declared.status.Ending.TheVariants.{Done, Refused, Rejected, Stopped}

@@ -1,14 +1,14 @@
 -- What `run` replies to the texts of its files.
 use Rattle.std.specs.Prelude.{ℕ, List}
 use Rattle.fond_ast.specs.declared.task.LiftedTask.{LiftedTask}
-use Rattle.fond_meaning.specs.States.{State}
-use Rattle.fond_meaning.specs.Solutions.{initial}
+use Rattle.fond_ast.specs.States.{State}
+use Rattle.fond_ast.specs.Solutions.{initial}
 use Rattle.fond_task.specs.declared.task.Task.{Task}
 use Rattle.fond_cert.specs.Faults.{IsCertFault}
 use Rattle.fond_policy.specs.declared.cert.Cert.{Cert}
-use Rattle.fond_play.specs.Traces.{as_recorded}
+use Rattle.fond_state.specs.Traces.{as_recorded}
 use Rattle.fond_exec.specs.Scripts.{IsScript, IsScriptFault}
-use Rattle.fond_bridge.specs.Traces.{Trace}
+use Rattle.fond_succ.specs.Traces.{Trace}
 use Rattle.fond_front.specs.Texts.{Texts}
 use Rattle.fond_commands.specs.Certified.{IsCertText, rules_of, TaskReply}
 use Rattle.fond_commands.specs.Replies.{Reply, cert_reply, script_reply, trace_reply}

@@ -1,15 +1,15 @@
 -- What `simulate` replies to the texts of its files, for a seed and a number of steps.
 use Rattle.std.specs.Prelude.{ℕ, List}
 use Rattle.fond_ast.specs.declared.task.LiftedTask.{LiftedTask}
-use Rattle.fond_meaning.specs.States.{State}
-use Rattle.fond_meaning.specs.Solutions.{initial}
+use Rattle.fond_ast.specs.States.{State}
+use Rattle.fond_ast.specs.Solutions.{initial}
 use Rattle.fond_task.specs.declared.task.Task.{Task}
 use Rattle.fond_cert.specs.Faults.{IsCertFault}
 use Rattle.fond_policy.specs.declared.cert.Cert.{Cert}
-use Rattle.fond_play.specs.Traces.{by_remainder}
-use Rattle.fond_bridge.specs.Traces.{Trace}
+use Rattle.fond_state.specs.Traces.{by_remainder}
+use Rattle.fond_succ.specs.Traces.{Trace}
 use Rattle.fond_front.specs.Texts.{Texts}
-use Rattle.fond_random.specs.Words.{drawn_words}
+use Rattle.fond_demo.specs.Words.{drawn_words}
 use Rattle.fond_commands.specs.Certified.{IsCertText, rules_of, TaskReply}
 use Rattle.fond_commands.specs.Replies.{Reply, cert_reply, trace_reply}
 

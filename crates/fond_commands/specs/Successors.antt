@@ -2,7 +2,7 @@
 use Rattle.std.specs.Prelude.{ℕ, List, ◌++◌, codes}
 use Rattle.fond_text.specs.declared.atom.GroundAction.{GroundAction}
 use Rattle.fond_ast.specs.declared.task.LiftedTask.{LiftedTask}
-use Rattle.fond_meaning.specs.Solutions.{IsApplicable, initial}
+use Rattle.fond_ast.specs.Solutions.{IsApplicable, initial}
 use Rattle.fond_front.specs.Texts.{Texts}
 use Rattle.fond_succ.specs.Actions.{AreNamesOf, NameNone}
 use Rattle.fond_succ.specs.Successors.{IsSuccessorsText}

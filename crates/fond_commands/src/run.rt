@@ -1,6 +1,6 @@
 //! The command `run`: the trace of a policy over recorded outcomes.
 
-ghost use Rattle.fond_play.specs.Traces.{as_recorded};
+ghost use Rattle.fond_state.specs.Traces.{as_recorded};
 ghost use Rattle.fond_rules.specs.Belongs.{BelongTo};
 ghost use Rattle.fond_commands.specs.Rejections.{Rejects};
 ghost use Rattle.fond_commands.specs.GroundRuns.{IsTraceReply};

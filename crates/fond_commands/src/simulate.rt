@@ -1,8 +1,8 @@
 //! The command `simulate`: the trace of a policy over drawn outcomes.
 
-ghost use Rattle.fond_play.specs.Traces.{by_remainder};
+ghost use Rattle.fond_state.specs.Traces.{by_remainder};
 ghost use Rattle.fond_ground.specs.Grounds.{IsGroundOf};
-ghost use Rattle.fond_random.specs.Words.{drawn_words};
+ghost use Rattle.fond_demo.specs.Words.{drawn_words};
 ghost use Rattle.fond_rules.specs.Belongs.{BelongTo};
 ghost use Rattle.fond_commands.specs.GroundRuns.{IsTraceReply};
 ghost use Rattle.fond_commands.specs.Rejections.{Rejects};
@@ -14,9 +14,9 @@ use crate::rejection::Rejection;
 use crate::task_files::{TaskFiles, read_files};
 use crate::traced::{rules_of, trace_answer};
 use fond_cert::read::read_cert;
+use fond_demo::words::draw_words;
 use fond_exec::simulate::simulate as put_simulation;
 use fond_front::texts::TaskTexts;
-use fond_random::words::draw_words;
 use fond_rules::rules::Rules;
 use fond_task::task::Task;
 use fond_text::fault::NoMemory;

@@ -7,8 +7,8 @@ use Rattle.std.proofs.lemmas.List.Quantifiers.{position-Some}
 use Rattle.std.proofs.lemmas.Option.{none-some, same_Some, slice_get_within, slice_get-get_or, get_or_from_slice_get}
 use Rattle.fond_state.specs.Cubes.{Contradicts, CubeLiesIn}
 use Rattle.fond_match.specs.Besides.{permits, is_beside, is_beside-Decides}
-use Rattle.fond_game.specs.declared.rule.Rule.{Rule}
-use Rattle.fond_game.specs.Layers.{CubeView}
+use Rattle.fond_task.specs.declared.rule.Rule.{Rule}
+use Rattle.fond_task.specs.Layers.{CubeView}
 use Rattle.fond_rules.specs.Select.{AreOver}
 use Rattle.fond_cover.specs.Items.{First, firsts_of, first_of, AreFirstsOver, IsApart}
 use Rattle.fond_cover.proofs.Ruled.{first_at, rule_of}

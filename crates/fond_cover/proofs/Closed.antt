@@ -9,12 +9,12 @@ use Rattle.fond_task.specs.declared.task.Act.{Act}
 use Rattle.fond_task.specs.declared.task.Task.{Task}
 use Rattle.fond_task.specs.Steps.{next_state}
 use Rattle.fond_task.specs.Images.{image}
-use Rattle.fond_game.specs.declared.rule.Rule.{Rule}
-use Rattle.fond_game.specs.Policies.{IsGoal, IsNext, Reach, start, onward, selected}
-use Rattle.fond_game.specs.Layers.{CubeView}
-use Rattle.fond_game.proofs.Lists.{number_of, same_numbered}
-use Rattle.fond_game.proofs.Ranks.{yes_true}
-use Rattle.fond_game.proofs.Reached.{reached_long, next_lies}
+use Rattle.fond_task.specs.declared.rule.Rule.{Rule}
+use Rattle.fond_task.specs.Policies.{IsGoal, IsNext, Reach, start, onward, selected}
+use Rattle.fond_task.specs.Layers.{CubeView}
+use Rattle.fond_task.proofs.Lists.{number_of, same_numbered}
+use Rattle.fond_task.proofs.Ranks.{yes_true}
+use Rattle.fond_task.proofs.Reached.{reached_long, next_lies}
 use Rattle.fond_cover.proofs.Ruled.{rule_of, first_at}
 use Rattle.fond_cover.specs.declared.item.Item.{Item}
 use Rattle.fond_cover.specs.declared.item.Way.{Way}

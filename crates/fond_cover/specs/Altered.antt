@@ -1,6 +1,6 @@
 -- Items of which one has another cube.
 use Rattle.std.specs.Prelude.{ℕ, zero, suc, List, [], ◌∷◌}
-use Rattle.fond_game.specs.Layers.{CubeView}
+use Rattle.fond_task.specs.Layers.{CubeView}
 use Rattle.fond_cover.specs.Items.{with_cube}
 use Rattle.fond_cover.specs.declared.item.Item.{Item}
 

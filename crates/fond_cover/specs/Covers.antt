@@ -2,8 +2,8 @@
 use Rattle.std.specs.Prelude.{◌≡◌, ℕ, List, Bool, Some, slice_get}
 use Rattle.fond_state.specs.Cubes.{LiesIn}
 use Rattle.fond_task.specs.declared.task.Task.{Task}
-use Rattle.fond_game.specs.declared.rule.Rule.{Rule}
-use Rattle.fond_game.specs.Policies.{Reach, selected}
+use Rattle.fond_task.specs.declared.rule.Rule.{Rule}
+use Rattle.fond_task.specs.Policies.{Reach, selected}
 use Rattle.fond_cover.specs.declared.item.Item.{Item}
 use Rattle.fond_cover.specs.Items.{firsts_of, AreSureItems}
 

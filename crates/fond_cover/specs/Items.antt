@@ -7,8 +7,8 @@ use Rattle.fond_task.specs.declared.task.Entry.{Entry}
 use Rattle.fond_task.specs.declared.task.Task.{Task}
 use Rattle.fond_task.specs.Values.{value}
 use Rattle.fond_task.specs.Images.{image}
-use Rattle.fond_game.specs.declared.rule.Rule.{Rule}
-use Rattle.fond_game.specs.Layers.{CubeView}
+use Rattle.fond_task.specs.declared.rule.Rule.{Rule}
+use Rattle.fond_task.specs.Layers.{CubeView}
 use Rattle.fond_cover.specs.declared.item.Item.{Item}
 use Rattle.fond_cover.specs.declared.item.Way.{Way}
 use Rattle.fond_cover.specs.declared.item.Way.TheVariants.{Goal, Rule as ByRule}

@@ -2,7 +2,7 @@
 use Rattle.std.specs.Prelude.{◌≡◌, ℕ, ◌+◌, ◌<◌, List, [], ◌∷◌, Bool, true, false, Option, Some, None, slice_get, length}
 use Rattle.fond_state.specs.Cubes.{CubeLiesIn}
 use Rattle.fond_task.specs.declared.task.Task.{Task}
-use Rattle.fond_game.specs.Layers.{CubeView}
+use Rattle.fond_task.specs.Layers.{CubeView}
 use Rattle.fond_cover.specs.Items.{First, AreItemsOver, AreSureItems}
 use Rattle.fond_cover.specs.declared.item.Item.{Item}
 

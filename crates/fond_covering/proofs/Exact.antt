@@ -15,8 +15,8 @@ use Rattle.fond_task.specs.Values.{value}
 use Rattle.fond_task.specs.Within.{is_act_within, is_entry_within, is_form_within}
 use Rattle.fond_task.proofs.Exact.{exact-value, exact-image}
 use Rattle.fond_task.proofs.Found.{all_at}
-use Rattle.fond_game.specs.declared.rule.Rule.{Rule}
-use Rattle.fond_game.specs.Layers.{CubeView}
+use Rattle.fond_task.specs.declared.rule.Rule.{Rule}
+use Rattle.fond_task.specs.Layers.{CubeView}
 use Rattle.fond_rules.specs.Select.{selected_rule}
 use Rattle.fond_cover.specs.declared.item.Item.{Item}
 use Rattle.fond_cover.specs.declared.item.Way.{Way}

@@ -2,7 +2,7 @@
 
 ghost use Rattle.fond_covering.specs.Coverings.{IsSureCovering};
 ghost use Rattle.fond_covering.specs.Full.{AreFullItems, AreNextNumbers, IsFullItem, IsFullWay};
-ghost use Rattle.fond_game.specs.Policies.{IsNext};
+ghost use Rattle.fond_task.specs.Policies.{IsNext};
 ghost use Rattle.fond_policy.specs.Parts.{AreSureRules};
 ghost use Rattle.fond_policy.specs.Walks.{HasAllRuled, HasUnruled, IsClosed, IsRuled, IsWalk};
 ghost use Rattle.fond_rules.specs.Belongs.{BelongTo};

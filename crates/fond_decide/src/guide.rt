@@ -1,13 +1,13 @@
 //! The searching engine as a source of hints: it is told what is new in a draft before it is asked.
 
 use fond_draft::draft::Draft;
-use fond_game::rule::{Target, Targets};
 use fond_guess::engine::Engine;
-use fond_hint::hint::{Hint, LayerHint};
 use fond_layers::layers::{Layer, Layers};
 use fond_planner::source::{Effort, Source};
 use fond_state::cube::Cube;
 use fond_state::state::State;
+use fond_task::hint::{Hint, LayerHint};
+use fond_task::rule::{Target, Targets};
 use fond_task::task::Task;
 use fond_text::fault::NoMemory;
 use std::alloc::Global;

@@ -1,7 +1,7 @@
 -- The texts of the task that the program shows itself on.
 use Rattle.std.specs.Prelude.{ℕ, zero, suc, ◌+◌, ◌%◌, ◌==◌, min, List, [], ◌++◌, codes, get_or, if◌then◌else◌}
 use Rattle.std.specs.Fmt.{decimal}
-use Rattle.fond_random.specs.Words.{drawn_words}
+use Rattle.fond_demo.specs.Words.{drawn_words}
 
 -- the texts of the numbers below a bound, one after the other
 abbrev pub for_each : ℕ → (ℕ → List ℕ) → List ℕ

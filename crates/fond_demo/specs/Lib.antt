@@ -1,1 +1,2 @@
 pub mod Demos
+pub mod Words

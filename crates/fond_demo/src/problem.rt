@@ -3,7 +3,7 @@
 ghost use Rattle.fond_demo.specs.Demos.{demo_objects, demo_problem, for_each, lamp_name, place_name, way};
 ghost use Rattle.std.specs.Prelude.{◌≡◌, ◌≤◌, ◌<◌, ◌+◌, ◌++◌, length, OnOk};
 
-use fond_random::words::draw_words;
+use crate::words::draw_words;
 use fond_text::fault::NoMemory;
 use fond_text::number::put_number;
 use std::alloc::Global;

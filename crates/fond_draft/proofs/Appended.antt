@@ -9,10 +9,10 @@ use Rattle.fond_task.specs.Images.{image}
 use Rattle.fond_task.specs.declared.task.Act.{Act}
 use Rattle.fond_task.specs.declared.task.Entry.{Entry}
 use Rattle.fond_task.specs.declared.task.Task.{Task}
-use Rattle.fond_game.proofs.Lists.{Contains-cases, Contains-here, Contains-later, Contains_numbered}
-use Rattle.fond_game.proofs.Stacked.{AreSureLayers-push}
-use Rattle.fond_game.specs.Certificates.{LiesInLayers}
-use Rattle.fond_game.specs.Layers.{CubeView, Forces, IsSureLayer, Leads, SomeLeads}
+use Rattle.fond_task.proofs.Lists.{Contains-cases, Contains-here, Contains-later, Contains_numbered}
+use Rattle.fond_task.proofs.Stacked.{AreSureLayers-push}
+use Rattle.fond_task.specs.Certificates.{LiesInLayers}
+use Rattle.fond_task.specs.Layers.{CubeView, Forces, IsSureLayer, Leads, SomeLeads}
 use Rattle.fond_layers.specs.Leads.{LiesInSome}
 use Rattle.fond_layers.specs.Over.{AreOver, IsOver}
 use Rattle.fond_explicit.specs.Answers.{AreStuck}

@@ -7,8 +7,8 @@ use Rattle.std.proofs.lemmas.Option.{none-some, slice_get_within}
 use Rattle.std.proofs.Math.Seq.{take-append_seam}
 use Rattle.fond_state.specs.Cubes.{LiesIn}
 use Rattle.fond_task.specs.declared.task.Task.{Task}
-use Rattle.fond_game.specs.Layers.{CubeView}
-use Rattle.fond_game.specs.declared.rule.Pair.{Pair}
+use Rattle.fond_task.specs.Layers.{CubeView}
+use Rattle.fond_task.specs.declared.rule.Pair.{Pair}
 use Rattle.fond_regress.specs.Barred.{IsBarred}
 use Rattle.fond_rules.specs.Targets.{AllContradict}
 use Rattle.fond_draft.specs.Barring.{BarsMore, EachBarsMore}

@@ -4,9 +4,9 @@ use Rattle.std.proofs.lemmas.Option.{slice_get_within}
 use Rattle.std.proofs.lemmas.List.Elements.{Contains-push_cases}
 use Rattle.fond_state.specs.Cubes.{without_literal}
 use Rattle.fond_task.specs.declared.task.Task.{Task}
-use Rattle.fond_game.proofs.Lists.{Contains_numbered}
-use Rattle.fond_game.specs.Layers.{CubeView, IsSurePair}
-use Rattle.fond_game.specs.declared.rule.Pair.{Pair}
+use Rattle.fond_task.proofs.Lists.{Contains_numbered}
+use Rattle.fond_task.specs.Layers.{CubeView, IsSurePair}
+use Rattle.fond_task.specs.declared.rule.Pair.{Pair}
 use Rattle.fond_rules.specs.Belongs.{ArePairsOver}
 use Rattle.fond_draft.specs.Drafts.{AreFitting, IsFitting}
 use Rattle.fond_draft.proofs.Lists.{all_numbered}

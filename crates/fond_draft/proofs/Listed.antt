@@ -4,7 +4,7 @@ use Rattle.std.specs.Prelude.{◌⊎◌, Contains}
 use Rattle.std.proofs.lemmas.List.{append_assoc}
 use Rattle.std.proofs.lemmas.List.Elements.{Contains-append_right}
 use Rattle.std.proofs.lemmas.Option.{none-some, same_Some}
-use Rattle.fond_game.proofs.Lists.{Contains-here, Contains-cases}
+use Rattle.fond_task.proofs.Lists.{Contains-here, Contains-cases}
 use Rattle.fond_text.specs.Lists.{AreDistinct}
 use Rattle.fond_store.specs.Stores.{Adds}
 

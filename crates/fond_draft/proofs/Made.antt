@@ -5,8 +5,8 @@ use Rattle.std.proofs.lemmas.Bool.{cases_lt}
 use Rattle.std.proofs.lemmas.Option.{same_Some}
 use Rattle.fond_state.specs.Cubes.{LiesIn, full_cube}
 use Rattle.fond_task.specs.declared.task.Task.{Task}
-use Rattle.fond_game.specs.Rules.{IsLeanRule}
-use Rattle.fond_game.specs.declared.rule.Rule.{Rule}
+use Rattle.fond_task.specs.Rules.{IsLeanRule}
+use Rattle.fond_task.specs.declared.rule.Rule.{Rule}
 use Rattle.fond_rules.specs.Targets.{AllContradict}
 use Rattle.fond_explicit.specs.Answers.{ChoiceView}
 use Rattle.fond_draft.specs.Drafts.{IsDraft, IsRuledIn}

@@ -5,8 +5,8 @@ use Rattle.std.proofs.lemmas.List.{length-map}
 use Rattle.std.proofs.lemmas.Option.{same_Some, slice_get-map, slice_get_within}
 use Rattle.fond_text.specs.Lists.{AreDistinct}
 use Rattle.fond_task.specs.declared.task.Task.{Task}
-use Rattle.fond_game.proofs.Lists.{Contains_numbered, number_of}
-use Rattle.fond_game.specs.Policies.{IsApplicable, IsGoal}
+use Rattle.fond_task.proofs.Lists.{Contains_numbered, number_of}
+use Rattle.fond_task.specs.Policies.{IsApplicable, IsGoal}
 use Rattle.fond_explicit.proofs.Distinct.{one_number}
 use Rattle.fond_explicit.specs.Answers.{ChoiceView, IsHeld}
 use Rattle.fond_draft.specs.Plans.{IsPlan}

@@ -3,8 +3,8 @@ use Rattle.std.proofs.Common.{inl, inr, ◌≡◌, ℕ, ◌≤◌, List, Bool, S
 use Rattle.std.specs.Prelude.{Contains}
 use Rattle.std.proofs.lemmas.Option.{same_Some}
 use Rattle.fond_task.specs.declared.task.Task.{Task}
-use Rattle.fond_game.proofs.Lists.{number_of}
-use Rattle.fond_game.specs.declared.rule.Rule.{Rule}
+use Rattle.fond_task.proofs.Lists.{number_of}
+use Rattle.fond_task.specs.declared.rule.Rule.{Rule}
 use Rattle.fond_policy.proofs.Walking.{grown_has}
 use Rattle.fond_policy.specs.Walks.{Grows}
 use Rattle.fond_explicit.specs.Answers.{ChoiceView, HasSmaller}

@@ -3,19 +3,19 @@ use Rattle.std.proofs.Common.{inl, inr, ◌≡◌, ℕ, ◌<◌, List, Bool, tru
 use Rattle.std.specs.Prelude.{◌⊎◌, Contains}
 use Rattle.std.proofs.lemmas.Bool.{cases_lt}
 use Rattle.std.proofs.lemmas.Option.{same_Some, slice_get_within, get_or_from_slice_get}
-use Rattle.fond_play.specs.Games.{start, onward}
+use Rattle.fond_state.specs.Games.{start, onward}
 use Rattle.fond_task.specs.Steps.{next_state}
 use Rattle.fond_task.specs.Truth.{is_true}
 use Rattle.fond_task.specs.declared.task.Act.{Act}
 use Rattle.fond_task.specs.declared.task.Task.{Task}
-use Rattle.fond_game.proofs.Lists.{number_of}
-use Rattle.fond_game.proofs.Reached.{length-next_state}
-use Rattle.fond_game.specs.Policies.{IsNext}
+use Rattle.fond_task.proofs.Lists.{number_of}
+use Rattle.fond_task.proofs.Reached.{length-next_state}
+use Rattle.fond_task.specs.Policies.{IsNext}
 use Rattle.fond_explicit.specs.Answers.{ChoiceView, HasSmaller, IsNearer, IsReachable, IsWinning}
 use Rattle.fond_draft.specs.Places.{AreInOrder, HavePlaced}
 use Rattle.fond_draft.specs.Plans.{AreBelow, IsPlan, IsReady}
 use Rattle.fond_draft.specs.declared.plan.Plan.{Plan}
-use Rattle.fond_game.specs.declared.rule.Rule.{Rule}
+use Rattle.fond_task.specs.declared.rule.Rule.{Rule}
 use Rattle.fond_draft.specs.Targets.{HasRule, IsCovered}
 use Rattle.fond_draft.specs.declared.order.Place.{Place}
 

@@ -6,8 +6,8 @@ use Rattle.std.specs.Option.{is_some}
 use Rattle.std.proofs.lemmas.Bool.{false≢true}
 use Rattle.std.proofs.lemmas.Bool.Decides.{nat_tests}
 use Rattle.std.proofs.lemmas.Option.{none-some, same_Some}
-use Rattle.fond_game.proofs.Lists.{found_at, found_by}
-use Rattle.fond_game.specs.declared.rule.Rule.{Rule}
+use Rattle.fond_task.proofs.Lists.{found_at, found_by}
+use Rattle.fond_task.specs.declared.rule.Rule.{Rule}
 use Rattle.fond_rules.proofs.First.{found_first}
 use Rattle.fond_rules.specs.Select.{selected_rule}
 use Rattle.fond_state.proofs.Tested.{lies_in-Decides}

@@ -2,13 +2,13 @@
 use Rattle.std.proofs.Common.{inl, inr, List, [], ◌∷◌, Bool, refl, arith}
 use Rattle.fond_task.specs.declared.task.Act.{Act}
 use Rattle.fond_task.specs.declared.task.Task.{Task}
-use Rattle.fond_game.proofs.Lists.{Contains_numbered}
-use Rattle.fond_game.specs.Layers.{CubeView, Forces, IsSureLayer}
+use Rattle.fond_task.proofs.Lists.{Contains_numbered}
+use Rattle.fond_task.specs.Layers.{CubeView, Forces, IsSureLayer}
 use Rattle.fond_layers.specs.Faults.{IsSpot}
 use Rattle.fond_layers.specs.declared.fault.Spot.{Spot}
 use Rattle.fond_layers.specs.declared.fault.Spot.TheVariants.{Goal, NotSure}
-use Rattle.fond_relax.specs.Stable.{IsHopelessBy}
-use Rattle.fond_relax.proofs.Hopeless.{stable_sure}
+use Rattle.fond_regress.specs.Stable.{IsHopelessBy}
+use Rattle.fond_regress.proofs.Hopeless.{stable_sure}
 use Rattle.fond_draft.specs.Learning.{IsDeadAround}
 
 -- a layer with a spot is not sure

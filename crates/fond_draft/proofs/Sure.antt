@@ -19,15 +19,15 @@ use Rattle.fond_task.specs.declared.form.Kleene.TheVariants.{No, Yes}
 use Rattle.fond_task.specs.declared.task.Act.{Act}
 use Rattle.fond_task.specs.declared.task.Entry.{Entry}
 use Rattle.fond_task.specs.declared.task.Task.{Task}
-use Rattle.fond_game.proofs.Reached.{length-next_state}
-use Rattle.fond_game.specs.Layers.{CubeView}
-use Rattle.fond_game.specs.Rules.{AreMet, IsEarlier, IsLeanRule, IsSureRule, Meets}
-use Rattle.fond_game.specs.declared.rule.Pair.{Pair}
-use Rattle.fond_game.specs.declared.rule.Rule.{Rule}
-use Rattle.fond_game.specs.declared.rule.Target.{Target}
-use Rattle.fond_game.specs.declared.rule.Target.TheVariants.{Goal, Rule as ToRule}
-use Rattle.fond_game.specs.declared.rule.Targets.{Targets}
-use Rattle.fond_game.specs.declared.rule.Targets.TheVariants.{One, All}
+use Rattle.fond_task.proofs.Reached.{length-next_state}
+use Rattle.fond_task.specs.Layers.{CubeView}
+use Rattle.fond_task.specs.Rules.{AreMet, IsEarlier, IsLeanRule, IsSureRule, Meets}
+use Rattle.fond_task.specs.declared.rule.Pair.{Pair}
+use Rattle.fond_task.specs.declared.rule.Rule.{Rule}
+use Rattle.fond_task.specs.declared.rule.Target.{Target}
+use Rattle.fond_task.specs.declared.rule.Target.TheVariants.{Goal, Rule as ToRule}
+use Rattle.fond_task.specs.declared.rule.Targets.{Targets}
+use Rattle.fond_task.specs.declared.rule.Targets.TheVariants.{One, All}
 use Rattle.fond_rules.proofs.Earlier.{sure_all, sure_front}
 use Rattle.fond_rules.specs.Belongs.{BelongTo}
 use Rattle.fond_rules.specs.Targets.{AllContradict}

@@ -3,18 +3,18 @@ use Rattle.std.proofs.Common.{◌≡◌, ℕ, ◌<◌, ◌≤◌, List, [], ◌�
 use Rattle.std.specs.Prelude.{Contains}
 use Rattle.std.proofs.lemmas.List.Elements.{Contains-append_left, Contains-append_right, Contains-push_cases}
 use Rattle.std.proofs.lemmas.Option.{same_Some, slice_get_within}
-use Rattle.fond_play.specs.Games.{onward}
+use Rattle.fond_state.specs.Games.{onward}
 use Rattle.fond_task.specs.Steps.{next_state}
 use Rattle.fond_task.specs.Truth.{is_true}
 use Rattle.fond_task.specs.declared.task.Act.{Act}
 use Rattle.fond_task.specs.declared.task.Entry.{Entry}
 use Rattle.fond_task.specs.declared.task.Task.{Task}
-use Rattle.fond_game.proofs.Lists.{Contains-here, Contains_numbered, number_of}
-use Rattle.fond_game.specs.Policies.{IsApplicable}
+use Rattle.fond_task.proofs.Lists.{Contains-here, Contains_numbered, number_of}
+use Rattle.fond_task.specs.Policies.{IsApplicable}
 use Rattle.fond_explicit.specs.Answers.{ChoiceView, IsReachable}
 use Rattle.fond_draft.specs.Turns.{AreReachable, IsTurn, LeadsFrom}
 use Rattle.fond_draft.proofs.Ready.{reachable_long}
-use Rattle.fond_hint.specs.declared.step.PlanStep.{PlanStep}
+use Rattle.fond_task.specs.declared.plan_step.PlanStep.{PlanStep}
 
 -- a reachable state has a truth value for each atom
 pub reached_long : (task : Task) (state : List Bool) → IsReachable task task.init state → length state ≡ length task.atoms

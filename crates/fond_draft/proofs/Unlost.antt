@@ -18,12 +18,12 @@ use Rattle.fond_task.specs.declared.task.Act.{Act}
 use Rattle.fond_task.specs.declared.task.Entry.{Entry}
 use Rattle.fond_task.specs.declared.task.Task.{Task}
 use Rattle.fond_task.proofs.Tells.{Tells, Tells-value}
-use Rattle.fond_game.proofs.Lists.{Contains_numbered, same_numbered}
-use Rattle.fond_game.proofs.Reached.{next_lies}
-use Rattle.fond_game.specs.Certificates.{LiesInLayers}
-use Rattle.fond_game.specs.Layers.{AreSureLayers, CubeView, Forces, IsSureLayer, IsSurePair, Leads}
-use Rattle.fond_game.specs.Policies.{IsApplicable, IsGoal, IsNext}
-use Rattle.fond_game.specs.declared.rule.Pair.{Pair}
+use Rattle.fond_task.proofs.Lists.{Contains_numbered, same_numbered}
+use Rattle.fond_task.proofs.Reached.{next_lies}
+use Rattle.fond_task.specs.Certificates.{LiesInLayers}
+use Rattle.fond_task.specs.Layers.{AreSureLayers, CubeView, Forces, IsSureLayer, IsSurePair, Leads}
+use Rattle.fond_task.specs.Policies.{IsApplicable, IsGoal, IsNext}
+use Rattle.fond_task.specs.declared.rule.Pair.{Pair}
 use Rattle.fond_explicit.specs.Answers.{AreWinning, ChoiceView, IsHeld, IsNearer, IsWinning}
 use Rattle.fond_draft.proofs.Ready.{reachable_long}
 

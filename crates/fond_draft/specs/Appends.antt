@@ -1,7 +1,7 @@
 -- Cubes of a layer that are appended to other layers.
 use Rattle.std.specs.Prelude.{◌≡◌, ◌⊎◌, ◌≤◌, ℕ, List, [], ◌∷◌, ◌++◌, Some, length, slice_get, Contains}
 use Rattle.fond_task.specs.declared.task.Task.{Task}
-use Rattle.fond_game.specs.Layers.{AreSureLayers, CubeView}
+use Rattle.fond_task.specs.Layers.{AreSureLayers, CubeView}
 use Rattle.fond_layers.specs.Leads.{LiesInSome}
 use Rattle.fond_layers.specs.Over.{AreOver}
 

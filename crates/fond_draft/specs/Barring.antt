@@ -2,7 +2,7 @@
 use Rattle.std.specs.Prelude.{◌≡◌, ℕ, List, Bool, Some, slice_get, take}
 use Rattle.fond_state.specs.Cubes.{LiesIn}
 use Rattle.fond_task.specs.declared.task.Task.{Task}
-use Rattle.fond_game.specs.declared.rule.Pair.{Pair}
+use Rattle.fond_task.specs.declared.rule.Pair.{Pair}
 use Rattle.fond_explicit.specs.Answers.{IsReachable}
 use Rattle.fond_regress.specs.Barred.{IsBarred}
 

@@ -1,10 +1,10 @@
 -- Policies in the making: layers, pairs that lead into them, and rules.
 use Rattle.std.specs.Prelude.{◌≡◌, ◌++◌, ℕ, List, Bool, Some, length, slice_get, Contains}
 use Rattle.fond_task.specs.declared.task.Task.{Task}
-use Rattle.fond_game.specs.Layers.{CubeView, AreSureLayers}
-use Rattle.fond_game.specs.Rules.{IsLeanPair, IsLeanRule}
-use Rattle.fond_game.specs.declared.rule.Pair.{Pair}
-use Rattle.fond_game.specs.declared.rule.Rule.{Rule}
+use Rattle.fond_task.specs.Layers.{CubeView, AreSureLayers}
+use Rattle.fond_task.specs.Rules.{IsLeanPair, IsLeanRule}
+use Rattle.fond_task.specs.declared.rule.Pair.{Pair}
+use Rattle.fond_task.specs.declared.rule.Rule.{Rule}
 use Rattle.fond_layers.specs.Over.{AreOver}
 use Rattle.fond_rules.specs.Belongs.{BelongTo}
 use Rattle.fond_policy.specs.Sizes.{IsSmallPair}

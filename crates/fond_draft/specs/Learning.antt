@@ -2,7 +2,7 @@
 use Rattle.std.specs.Prelude.{◌≡◌, ◌<◌, ◌^◌, [], ◌∷◌, List, Bool, length}
 use Rattle.fond_state.specs.Cubes.{LiesIn}
 use Rattle.fond_task.specs.declared.task.Task.{Task}
-use Rattle.fond_game.specs.Layers.{CubeView, IsSureLayer}
+use Rattle.fond_task.specs.Layers.{CubeView, IsSureLayer}
 use Rattle.fond_layers.specs.Over.{IsOver}
 
 -- a layer may come next: it has fewer than 2^32 cubes, which are over the atoms, and it is sure above the layers

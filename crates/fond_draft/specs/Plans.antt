@@ -2,8 +2,8 @@
 use Rattle.std.specs.Prelude.{◌≡◌, ◌⊎◌, ℕ, List, Bool, Some, length, map, slice_get, Contains}
 use Rattle.fond_task.specs.declared.task.Task.{Task}
 use Rattle.fond_task.specs.declared.task.Act.{Act}
-use Rattle.fond_game.specs.Policies.{IsApplicable, IsNext}
-use Rattle.fond_game.specs.declared.rule.Rule.{Rule}
+use Rattle.fond_task.specs.Policies.{IsApplicable, IsNext}
+use Rattle.fond_task.specs.declared.rule.Rule.{Rule}
 use Rattle.fond_explicit.specs.Answers.{AreWinning, ChoiceView, HasSmaller}
 use Rattle.fond_draft.specs.Targets.{HasTargets, IsCovered}
 use Rattle.fond_draft.specs.declared.plan.Plan.{Plan}

@@ -5,12 +5,12 @@ use Rattle.fond_task.specs.Steps.{next_state}
 use Rattle.fond_task.specs.declared.task.Act.{Act}
 use Rattle.fond_task.specs.declared.task.Entry.{Entry}
 use Rattle.fond_task.specs.declared.task.Task.{Task}
-use Rattle.fond_game.specs.Policies.{IsGoal}
-use Rattle.fond_game.specs.declared.rule.Rule.{Rule}
-use Rattle.fond_game.specs.declared.rule.Target.{Target}
-use Rattle.fond_game.specs.declared.rule.Target.TheVariants.{Goal, Rule as ToRule}
-use Rattle.fond_game.specs.declared.rule.Targets.{Targets}
-use Rattle.fond_game.specs.declared.rule.Targets.TheVariants.{One, All}
+use Rattle.fond_task.specs.Policies.{IsGoal}
+use Rattle.fond_task.specs.declared.rule.Rule.{Rule}
+use Rattle.fond_task.specs.declared.rule.Target.{Target}
+use Rattle.fond_task.specs.declared.rule.Target.TheVariants.{Goal, Rule as ToRule}
+use Rattle.fond_task.specs.declared.rule.Targets.{Targets}
+use Rattle.fond_task.specs.declared.rule.Targets.TheVariants.{One, All}
 
 -- the rule of this number holds in a state
 pub record HoldsIn (rules : List Rule) (number : ℕ) (state : List Bool) : Type 0 where

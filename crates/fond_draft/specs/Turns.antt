@@ -4,8 +4,8 @@ use Rattle.fond_task.specs.Truth.{is_true}
 use Rattle.fond_task.specs.declared.task.Act.{Act}
 use Rattle.fond_task.specs.declared.task.Entry.{Entry}
 use Rattle.fond_task.specs.declared.task.Task.{Task}
-use Rattle.fond_game.specs.Policies.{IsGoal}
-use Rattle.fond_hint.specs.declared.step.PlanStep.{PlanStep}
+use Rattle.fond_task.specs.Policies.{IsGoal}
+use Rattle.fond_task.specs.declared.plan_step.PlanStep.{PlanStep}
 use Rattle.fond_explicit.specs.Answers.{ChoiceView, IsReachable}
 
 -- states are reachable from the initial state, by any actions

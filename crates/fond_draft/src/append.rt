@@ -3,8 +3,8 @@
 
 ghost use Rattle.fond_draft.specs.Appends.{AreFresh, IsAppended};
 ghost use Rattle.fond_explicit.specs.Answers.{AreStuck};
-ghost use Rattle.fond_game.specs.Certificates.{LiesInLayers};
-ghost use Rattle.fond_game.specs.Layers.{AreSureLayers, CubeView};
+ghost use Rattle.fond_task.specs.Certificates.{LiesInLayers};
+ghost use Rattle.fond_task.specs.Layers.{AreSureLayers, CubeView};
 ghost use Rattle.fond_layers.specs.Over.{AreOver, IsOver};
 ghost use Rattle.std.specs.Prelude.{◌≡◌, ◌<◌, ◌^◌, ℕ, List, Bool, length, slice_get, Some, IfOk, OnOk};
 

@@ -3,7 +3,7 @@
 ghost use Rattle.fond_policy.specs.Walks.{Grows};
 ghost use Rattle.fond_draft.specs.Plans.{AreBelow, IsPlan, IsProvided};
 ghost use Rattle.fond_explicit.specs.Answers.{ChoiceView};
-ghost use Rattle.fond_game.specs.Policies.{IsNext};
+ghost use Rattle.fond_task.specs.Policies.{IsNext};
 ghost use Rattle.fond_rules.specs.Select.{AreOver};
 ghost use Rattle.std.specs.Prelude.{◌≡◌, ◌<◌, List, Bool, length, slice_get, Some, Contains, IfOk, OnOk};
 

@@ -2,15 +2,15 @@
 
 ghost use Rattle.fond_draft.specs.Drafts.{IsDraft};
 ghost use Rattle.fond_explicit.specs.Answers.{AreStuck};
-ghost use Rattle.fond_game.specs.Certificates.{LiesInLayers};
-ghost use Rattle.fond_game.specs.declared.rule.Pair.{Pair};
+ghost use Rattle.fond_task.specs.Certificates.{LiesInLayers};
+ghost use Rattle.fond_task.specs.declared.rule.Pair.{Pair};
 ghost use Rattle.std.specs.Prelude.{◌≡◌, ◌<◌, ◌-◌, ◌^◌, ◌∷◌, ◌++◌, [], List, Bool, length, IfOk, OnOk};
 
 use crate::append::append_layers;
-use fond_game::rule::{Pair, Rule};
 use fond_layers::layers::Layers;
 use fond_rules::pairs::Pairs;
 use fond_rules::rules::Rules;
+use fond_task::rule::{Pair, Rule};
 use fond_task::task::Task;
 use fond_text::fault::NoMemory;
 use std::alloc::Global;

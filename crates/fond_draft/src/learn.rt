@@ -2,18 +2,18 @@
 
 ghost use Rattle.fond_draft.specs.Drafts.{IsDraft};
 ghost use Rattle.fond_draft.specs.Learning.{IsDeadAround, MayComeNext};
-ghost use Rattle.fond_game.specs.Certificates.{LiesInLayers};
-ghost use Rattle.fond_game.specs.Layers.{CubeView, IsSureLayer};
+ghost use Rattle.fond_task.specs.Certificates.{LiesInLayers};
+ghost use Rattle.fond_task.specs.Layers.{CubeView, IsSureLayer};
 ghost use Rattle.fond_layers.specs.Faults.{IsLayerFault};
 ghost use Rattle.fond_layers.specs.Over.{IsOver};
-ghost use Rattle.fond_relax.specs.Stable.{IsHopeless};
+ghost use Rattle.fond_regress.specs.Stable.{IsHopeless};
 ghost use Rattle.fond_task.specs.declared.task.Task.{Task};
 ghost use Rattle.std.specs.Prelude.{◌≡◌, ◌<◌, ◌^◌, ◌∷◌, ◌++◌, [], List, true, length, Decides, IfOk, OnOk};
 
 use crate::draft::Draft;
 use fond_layers::fault::LayerFault;
 use fond_layers::layers::{Layer, is_over};
-use fond_relax::estimate::{Guess, estimate};
+use fond_regress::estimate::{Guess, estimate};
 use fond_state::cube::Cube;
 use fond_state::state::State;
 use fond_task::task::Task;

@@ -5,8 +5,8 @@ ghost use Rattle.fond_explicit.specs.Answers.{IsReachable};
 ghost use Rattle.std.specs.Prelude.{◌≡◌, List, Bool, length, Decides, IfOk, OnOk};
 
 use fond_explicit::answer::{Choices, Pick};
-use fond_hint::step::{PlanStep, PlanSteps};
 use fond_state::state::State;
+use fond_task::plan_step::{PlanStep, PlanSteps};
 use fond_task::step::apply_into;
 use fond_task::task::Task;
 use fond_task::truth::{applicable, is_goal};

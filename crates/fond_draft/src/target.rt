@@ -8,9 +8,9 @@ ghost use Rattle.fond_task.specs.declared.task.Act.{Act};
 ghost use Rattle.fond_task.specs.declared.task.Entry.{Entry};
 ghost use Rattle.std.specs.Prelude.{◌≡◌, ◌<◌, List, true, false, length, slice_get, Some, Contains, IfOk, MatchOption};
 
-use fond_game::rule::{Target, TargetList, Targets};
 use fond_rules::rules::Rules;
 use fond_state::state::State;
+use fond_task::rule::{Target, TargetList, Targets};
 use fond_task::step::apply_into;
 use fond_task::task::Task;
 use fond_task::truth::is_goal;

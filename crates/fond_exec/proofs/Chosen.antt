@@ -11,8 +11,8 @@ use Rattle.fond_task.specs.declared.task.Task.{Task}
 use Rattle.fond_task.proofs.Found.{all_at}
 use Rattle.fond_task.specs.Truth.{is_true}
 use Rattle.fond_task.specs.Within.{is_act_within, is_entry_within, is_form_within}
-use Rattle.fond_game.specs.declared.rule.Rule.{Rule}
-use Rattle.fond_game.specs.Policies.{IsApplicable, selected}
+use Rattle.fond_task.specs.declared.rule.Rule.{Rule}
+use Rattle.fond_task.specs.Policies.{IsApplicable, selected}
 use Rattle.fond_rules.specs.Select.{selected_rule}
 use Rattle.fond_rules.proofs.First.{found_first}
 use Rattle.fond_rules.specs.Belongs.{AreActsThere}

@@ -11,23 +11,23 @@ use Rattle.fond_task.specs.declared.task.Entry.{Entry}
 use Rattle.fond_task.specs.declared.task.Task.{Task}
 use Rattle.fond_task.specs.Images.{image}
 use Rattle.fond_task.specs.Steps.{next_state}
-use Rattle.fond_game.specs.declared.rule.Pair.{Pair}
-use Rattle.fond_game.specs.declared.rule.Rule.{Rule}
-use Rattle.fond_game.specs.declared.rule.Target.{Target}
-use Rattle.fond_game.specs.declared.rule.Target.TheVariants.{Goal, Rule as ToRule}
-use Rattle.fond_game.specs.declared.rule.Targets.{Targets}
-use Rattle.fond_game.specs.declared.rule.Targets.TheVariants.{One, All}
-use Rattle.fond_game.specs.Layers.{CubeView}
-use Rattle.fond_game.specs.Policies.{IsGoal}
-use Rattle.fond_game.specs.Rules.{AreMet, IsEarlier, Meets}
-use Rattle.fond_game.proofs.Lists.{Contains_numbered, found_by, same_numbered}
-use Rattle.fond_game.proofs.Ranks.{yes_true}
-use Rattle.fond_game.proofs.Reached.{length-next_state, next_lies}
+use Rattle.fond_task.specs.declared.rule.Pair.{Pair}
+use Rattle.fond_task.specs.declared.rule.Rule.{Rule}
+use Rattle.fond_task.specs.declared.rule.Target.{Target}
+use Rattle.fond_task.specs.declared.rule.Target.TheVariants.{Goal, Rule as ToRule}
+use Rattle.fond_task.specs.declared.rule.Targets.{Targets}
+use Rattle.fond_task.specs.declared.rule.Targets.TheVariants.{One, All}
+use Rattle.fond_task.specs.Layers.{CubeView}
+use Rattle.fond_task.specs.Policies.{IsGoal}
+use Rattle.fond_task.specs.Rules.{AreMet, IsEarlier, Meets}
+use Rattle.fond_task.proofs.Lists.{Contains_numbered, found_by, same_numbered}
+use Rattle.fond_task.proofs.Ranks.{yes_true}
+use Rattle.fond_task.proofs.Reached.{length-next_state, next_lies}
 use Rattle.fond_rules.specs.Select.{selected_rule}
 use Rattle.fond_rules.proofs.First.{found_first}
 use Rattle.fond_exec.specs.Lucky.{AreSure, BeginsLucky, IsLucky, LuckyStepsDescend, LuckyStepsEnd}
 use Rattle.fond_exec.specs.Steps.{IsTaken}
-use Rattle.fond_play.specs.Traces.{Pick, TraceOf}
+use Rattle.fond_state.specs.Traces.{Pick, TraceOf}
 use Rattle.fond_exec.specs.Traces.{Trace}
 use Rattle.fond_exec.proofs.Chosen.{chooses}
 

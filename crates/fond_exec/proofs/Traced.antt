@@ -6,12 +6,12 @@ use Rattle.fond_task.specs.declared.task.Act.{Act}
 use Rattle.fond_task.specs.declared.task.Task.{Task}
 use Rattle.fond_task.specs.Texts.{state_text}
 use Rattle.fond_task.specs.Truth.{is_true}
-use Rattle.fond_game.specs.declared.rule.Rule.{Rule}
-use Rattle.fond_game.specs.Policies.{IsGoal}
+use Rattle.fond_task.specs.declared.rule.Rule.{Rule}
+use Rattle.fond_task.specs.Policies.{IsGoal}
 use Rattle.fond_exec.specs.declared.step.Step.{Step}
 use Rattle.fond_exec.specs.Runs.{Run}
 use Rattle.fond_exec.specs.Steps.{IsChosen, IsStuck, IsTaken, IsStep}
-use Rattle.fond_play.specs.Traces.{goal_line, outcome_line, Pick, goal, ended, stuck, bad_outcome, took}
+use Rattle.fond_state.specs.Traces.{goal_line, outcome_line, Pick, goal, ended, stuck, bad_outcome, took}
 use Rattle.fond_exec.specs.Traces.{step_line, AppendsTrace, Trace}
 use Rattle.fond_exec.proofs.Chosen.{differs}
 

@@ -2,8 +2,8 @@
 use Rattle.std.specs.Prelude.{◌≡◌, List, Bool, Some, length}
 use Rattle.fond_task.specs.declared.task.Act.{Act}
 use Rattle.fond_task.specs.declared.task.Task.{Task}
-use Rattle.fond_game.specs.declared.rule.Rule.{Rule}
-use Rattle.fond_game.specs.Policies.{IsGoal}
+use Rattle.fond_task.specs.declared.rule.Rule.{Rule}
+use Rattle.fond_task.specs.Policies.{IsGoal}
 use Rattle.fond_rules.specs.Select.{selected_rule}
 use Rattle.fond_exec.specs.Steps.{IsChosen, IsStuck}
 use Rattle.fond_exec.specs.declared.choice.Choice.{Choice}

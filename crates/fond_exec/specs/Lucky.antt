@@ -1,15 +1,15 @@
 -- Lucky steps, and how many of them come one after the other.
 use Rattle.std.specs.Prelude.{◌≡◌, ◌⊎◌, ℕ, zero, suc, ◌<◌, ◌≤◌, List, Bool, Some, slice_get, length, ⊤}
 use Rattle.fond_task.specs.declared.task.Task.{Task}
-use Rattle.fond_game.specs.declared.rule.Pair.{Pair}
-use Rattle.fond_game.specs.declared.rule.Rule.{Rule}
-use Rattle.fond_game.specs.declared.rule.Target.{Target}
-use Rattle.fond_game.specs.declared.rule.Targets.TheVariants.{One}
-use Rattle.fond_game.specs.Policies.{IsGoal, IsUnfair}
-use Rattle.fond_game.specs.Rules.{IsSureRule}
+use Rattle.fond_task.specs.declared.rule.Pair.{Pair}
+use Rattle.fond_task.specs.declared.rule.Rule.{Rule}
+use Rattle.fond_task.specs.declared.rule.Target.{Target}
+use Rattle.fond_task.specs.declared.rule.Targets.TheVariants.{One}
+use Rattle.fond_task.specs.Policies.{IsGoal, IsUnfair}
+use Rattle.fond_task.specs.Rules.{IsSureRule}
 use Rattle.fond_rules.specs.Select.{selected_rule}
 use Rattle.fond_exec.specs.Steps.{IsTaken}
-use Rattle.fond_play.specs.Traces.{Pick, TraceOf}
+use Rattle.fond_state.specs.Traces.{Pick, TraceOf}
 use Rattle.fond_exec.specs.Traces.{Trace}
 
 -- a rule names an outcome: it is that of its one target

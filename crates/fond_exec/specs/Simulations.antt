@@ -1,9 +1,9 @@
 -- Simulations: runs whose outcomes somebody picks.
 use Rattle.std.specs.Prelude.{◌≡◌, ℕ, ◌+◌, ◌<◌, ◌^◌, List, Bool, length, get_or}
-use Rattle.fond_game.specs.Policies.{IsGoal}
+use Rattle.fond_task.specs.Policies.{IsGoal}
 use Rattle.fond_exec.specs.Runs.{Run}
 use Rattle.fond_exec.specs.Steps.{IsStuck, IsTaken}
-use Rattle.fond_play.specs.Traces.{by_remainder}
+use Rattle.fond_state.specs.Traces.{by_remainder}
 use Rattle.fond_exec.specs.declared.step.SimStep.{SimStep}
 use Rattle.fond_exec.specs.declared.step.SimStep.TheVariants.{Took, Done, Stuck}
 

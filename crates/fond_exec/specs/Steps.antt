@@ -5,8 +5,8 @@ use Rattle.fond_task.specs.declared.task.Entry.{Entry}
 use Rattle.fond_task.specs.declared.task.Task.{Task}
 use Rattle.fond_task.specs.Steps.{next_state}
 use Rattle.fond_task.specs.Truth.{is_true}
-use Rattle.fond_game.specs.declared.rule.Rule.{Rule}
-use Rattle.fond_game.specs.Policies.{IsGoal, IsApplicable, selected}
+use Rattle.fond_task.specs.declared.rule.Rule.{Rule}
+use Rattle.fond_task.specs.Policies.{IsGoal, IsApplicable, selected}
 use Rattle.fond_rules.specs.Select.{selected_rule}
 use Rattle.fond_exec.specs.declared.step.Step.{Step}
 use Rattle.fond_exec.specs.declared.step.Step.TheVariants.{Took, Done, Stuck, BadOutcome}

@@ -2,7 +2,7 @@
 use Rattle.std.specs.Prelude.{◌≡◌, ℕ, List, ◌++◌, Bool, Some, length, codes, slice_get}
 use Rattle.std.specs.Fmt.{decimal}
 use Rattle.fond_text.specs.declared.atom.GroundAction.{GroundAction}
-use Rattle.fond_play.specs.Traces.{Pick, Stepping, TraceOf}
+use Rattle.fond_state.specs.Traces.{Pick, Stepping, TraceOf}
 use Rattle.fond_task.specs.declared.task.Act.{Act}
 use Rattle.fond_task.specs.declared.task.Entry.{Entry}
 use Rattle.fond_task.specs.declared.task.Labels.{Labels}
@@ -10,8 +10,8 @@ use Rattle.fond_task.specs.declared.task.Task.{Task}
 use Rattle.fond_task.specs.Steps.{next_state}
 use Rattle.fond_task.specs.Texts.{action_text, state_text}
 use Rattle.fond_task.specs.Truth.{is_true}
-use Rattle.fond_game.specs.declared.rule.Rule.{Rule}
-use Rattle.fond_game.specs.Policies.{IsGoal}
+use Rattle.fond_task.specs.declared.rule.Rule.{Rule}
+use Rattle.fond_task.specs.Policies.{IsGoal}
 use Rattle.fond_rules.specs.Select.{selected_rule}
 use Rattle.fond_exec.specs.Steps.{IsChosen}
 

@@ -1,7 +1,7 @@
 //! The lines of traces.
 
 ghost use Rattle.std.specs.Prelude.{◌≡◌, ◌++◌, ℕ, List, codes, if◌then◌else◌, OnOk};
-ghost use Rattle.fond_play.specs.Traces.{goal_line, outcome_line};
+ghost use Rattle.fond_state.specs.Traces.{goal_line, outcome_line};
 ghost use Rattle.fond_exec.specs.Traces.{step_line};
 
 use fond_task::task::Labels;

@@ -1,10 +1,10 @@
 //! The trace of a rule list over drawn words.
 
 ghost use Rattle.std.specs.Prelude.{◌≡◌, ◌++◌, ℕ, ◌<◌, List, get_or, IfOk, OnOk, OnErr};
-ghost use Rattle.fond_game.specs.declared.rule.Rule.{Rule};
+ghost use Rattle.fond_task.specs.declared.rule.Rule.{Rule};
 ghost use Rattle.fond_rules.specs.Belongs.{BelongTo};
 ghost use Rattle.fond_exec.specs.Simulations.{IsChooser, PicksBy};
-ghost use Rattle.fond_play.specs.Traces.{by_remainder};
+ghost use Rattle.fond_state.specs.Traces.{by_remainder};
 ghost use Rattle.fond_exec.specs.Traces.{AppendsTrace, Trace};
 
 use crate::executor::Executor;

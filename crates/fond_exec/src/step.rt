@@ -14,7 +14,7 @@ pub enum Step {
 }
 
 /// What a step of a simulation did, or why it was not taken.
-#[derive(Clone, Copy, Debug, PartialEq, Eq)]
+#[derive(Clone, Copy)]
 pub enum SimStep {
     /// The first rule that holds has this number, and its action, of this number, was taken with this outcome.
     Took { rule: u32, act: u32, outcome: u32 },

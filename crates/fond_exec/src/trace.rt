@@ -1,9 +1,9 @@
 //! The trace of a rule list over a list of recorded outcomes.
 
 ghost use Rattle.std.specs.Prelude.{◌≡◌, ◌++◌, ℕ, List, IfOk, OnOk, OnErr};
-ghost use Rattle.fond_game.specs.declared.rule.Rule.{Rule};
+ghost use Rattle.fond_task.specs.declared.rule.Rule.{Rule};
 ghost use Rattle.fond_rules.specs.Belongs.{BelongTo};
-ghost use Rattle.fond_play.specs.Traces.{as_recorded};
+ghost use Rattle.fond_state.specs.Traces.{as_recorded};
 ghost use Rattle.fond_exec.specs.Traces.{AppendsTrace, Trace};
 
 use crate::executor::Executor;

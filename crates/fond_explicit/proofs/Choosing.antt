@@ -7,8 +7,8 @@ use Rattle.std.proofs.lemmas.List.Elements.{Contains-append_left, Contains-push,
 use Rattle.std.proofs.lemmas.Option.{same_Some}
 use Rattle.fond_text.specs.Lists.{AreDistinct}
 use Rattle.fond_state.specs.Cubes.{full_cube}
-use Rattle.fond_game.specs.Layers.{CubeView}
-use Rattle.fond_game.proofs.Lists.{Contains-here, Contains-later, Contains-cases}
+use Rattle.fond_task.specs.Layers.{CubeView}
+use Rattle.fond_task.proofs.Lists.{Contains-here, Contains-later, Contains-cases}
 use Rattle.fond_fixpoint.specs.declared.fate.Fate.{Fate}
 use Rattle.fond_fixpoint.specs.declared.fate.Fate.TheVariants.{Ranked, Fallen}
 use Rattle.fond_fixpoint.specs.Moves.{Move, move_at}

@@ -6,7 +6,7 @@ use Rattle.std.proofs.lemmas.List.Elements.{Contains-append_cases}
 use Rattle.std.proofs.lemmas.Option.{none-some, same_Some}
 use Rattle.fond_text.specs.Lists.{AreDistinct}
 use Rattle.fond_state.specs.Cubes.{full_cube}
-use Rattle.fond_game.proofs.Lists.{Contains_numbered, Contains-here, Contains-later, Contains-cases}
+use Rattle.fond_task.proofs.Lists.{Contains_numbered, Contains-here, Contains-later, Contains-cases}
 
 module _ {X : Type 0} where
   pub nothing_in : (x : X) → ¬ Contains [] x

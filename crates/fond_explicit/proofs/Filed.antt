@@ -24,7 +24,7 @@ use Rattle.fond_task.specs.declared.task.Act.{Act}
 use Rattle.fond_task.specs.declared.task.Task.{Task}
 use Rattle.fond_task.specs.Truth.{is_true, is_true_step}
 use Rattle.fond_task.proofs.Found.{all_at}
-use Rattle.fond_game.proofs.Lists.{number_of}
+use Rattle.fond_task.proofs.Lists.{number_of}
 use Rattle.fond_explicit.specs.declared.act_index.ActIndex.{ActIndex}
 use Rattle.fond_explicit.specs.Filings.{Needs, filed_under, FilesOne, AreFiled, IsIndexOf, AreCollected, AreCandidates}
 use Rattle.fond_explicit.proofs.Distinct.{nothing_in}

@@ -12,8 +12,8 @@ use Rattle.fond_task.specs.declared.task.Task.{Task}
 use Rattle.fond_task.specs.Steps.{next_state}
 use Rattle.fond_task.specs.Within.{is_act_within}
 use Rattle.fond_task.proofs.Found.{all_at}
-use Rattle.fond_game.specs.Policies.{IsNext}
-use Rattle.fond_game.proofs.Lists.{Contains-cases}
+use Rattle.fond_task.specs.Policies.{IsNext}
+use Rattle.fond_task.proofs.Lists.{Contains-cases}
 use Rattle.fond_explicit.specs.Spaces.{AreNexts}
 use Rattle.fond_explicit.specs.Openings.{IsKeptAs, IsGrown}
 use Rattle.fond_explicit.proofs.Distinct.{nothing_in}

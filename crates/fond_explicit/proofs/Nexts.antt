@@ -5,7 +5,7 @@ use Rattle.std.specs.List.{list_all, list_any}
 use Rattle.std.proofs.lemmas.Bool.{and_parts, or_cases, false≢true}
 use Rattle.fond_task.specs.declared.task.Entry.{Entry}
 use Rattle.fond_task.specs.Steps.{next_state}
-use Rattle.fond_game.proofs.Lists.{Contains-here, Contains-later, Contains-cases}
+use Rattle.fond_task.proofs.Lists.{Contains-here, Contains-later, Contains-cases}
 use Rattle.fond_explicit.specs.Spaces.{AreNexts}
 
 module _ (states : List (List Bool)) (state : List Bool) (test : ℕ → Bool) where

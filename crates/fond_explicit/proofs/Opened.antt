@@ -6,13 +6,13 @@ use Rattle.std.proofs.lemmas.List.Elements.{Contains-append_cases, Contains-push
 use Rattle.std.proofs.lemmas.Option.{same_Some, slice_get_within}
 use Rattle.std.proofs.Math.ListN.{get_or-append}
 use Rattle.std.proofs.Math.Seq.{get_or-append_seam}
-use Rattle.fond_play.specs.Games.{onward}
+use Rattle.fond_state.specs.Games.{onward}
 use Rattle.fond_task.specs.declared.task.Act.{Act}
 use Rattle.fond_task.specs.declared.task.Task.{Task}
 use Rattle.fond_task.specs.Truth.{is_true}
-use Rattle.fond_game.specs.Policies.{IsGoal, IsNext}
-use Rattle.fond_game.proofs.Lists.{Contains_numbered, number_of}
-use Rattle.fond_game.proofs.Reached.{length-next_state}
+use Rattle.fond_task.specs.Policies.{IsGoal, IsNext}
+use Rattle.fond_task.proofs.Lists.{Contains_numbered, number_of}
+use Rattle.fond_task.proofs.Reached.{length-next_state}
 use Rattle.fond_explicit.specs.declared.space.Space.{Space}
 use Rattle.fond_fixpoint.specs.Moves.{Move, move_at, no_move}
 use Rattle.fond_explicit.specs.Answers.{IsReachable, IsPast}

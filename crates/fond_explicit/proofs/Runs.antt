@@ -7,15 +7,15 @@ use Rattle.std.proofs.lemmas.List.Elements.{All-from_recursion}
 use Rattle.std.proofs.lemmas.Option.{slice_get_within, same_Some, none-some}
 use Rattle.std.proofs.Math.ListN.{get_or-append}
 use Rattle.std.proofs.Math.Seq.{get_or-append_seam}
-use Rattle.fond_play.specs.Games.{start}
+use Rattle.fond_state.specs.Games.{start}
 use Rattle.fond_text.specs.Lists.{AreDistinct}
 use Rattle.fond_store.specs.Stores.{Adds}
 use Rattle.fond_task.specs.declared.task.Task.{Task}
 use Rattle.fond_task.specs.declared.task.Entry.{Entry}
 use Rattle.fond_task.specs.Truth.{is_true}
-use Rattle.fond_game.specs.Layers.{CubeView}
-use Rattle.fond_game.specs.Certificates.{LiesInLayers}
-use Rattle.fond_game.proofs.Lists.{Contains-cases}
+use Rattle.fond_task.specs.Layers.{CubeView}
+use Rattle.fond_task.specs.Certificates.{LiesInLayers}
+use Rattle.fond_task.proofs.Lists.{Contains-cases}
 use Rattle.fond_fixpoint.specs.declared.fate.Fate.{Fate}
 use Rattle.fond_fixpoint.specs.declared.fate.Fate.TheVariants.{Open, Goal, Ranked, Fallen}
 use Rattle.fond_explicit.specs.declared.space.Space.{Space}

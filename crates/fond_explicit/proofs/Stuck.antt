@@ -19,10 +19,10 @@ use Rattle.fond_task.specs.Values.{value}
 use Rattle.fond_task.specs.Images.{image}
 use Rattle.fond_task.proofs.Exact.{exact-value, exact-image}
 use Rattle.fond_task.proofs.Found.{all_at}
-use Rattle.fond_game.specs.Policies.{IsGoal}
-use Rattle.fond_game.specs.Layers.{CubeView, Leads, Forces, IsSureCube, IsSureLayer}
-use Rattle.fond_game.specs.Certificates.{LiesInLayers}
-use Rattle.fond_game.proofs.Lists.{Contains_numbered, number_of, Contains-here, Contains-later}
+use Rattle.fond_task.specs.Policies.{IsGoal}
+use Rattle.fond_task.specs.Layers.{CubeView, Leads, Forces, IsSureCube, IsSureLayer}
+use Rattle.fond_task.specs.Certificates.{LiesInLayers}
+use Rattle.fond_task.proofs.Lists.{Contains_numbered, number_of, Contains-here, Contains-later}
 use Rattle.fond_fixpoint.specs.declared.fate.Fate.{Fate}
 use Rattle.fond_fixpoint.specs.declared.fate.Fate.TheVariants.{Open, Goal, Ranked, Fallen}
 use Rattle.fond_fixpoint.specs.Moves.{Move, move_at}

@@ -6,7 +6,7 @@ use Rattle.std.proofs.lemmas.List.Elements.{All-cons, All-nil}
 use Rattle.fond_text.specs.Bytes.{is_leaf_byte, lower}
 use Rattle.fond_text.specs.Name.{IsName}
 use Rattle.fond_text.specs.declared.atom.Atom.{Atom}
-use Rattle.fond_play.specs.Games.{start, onward}
+use Rattle.fond_state.specs.Games.{start, onward}
 use Rattle.fond_state.proofs.Tested.{lies_in-Decides}
 use Rattle.fond_task.specs.declared.form.Form.TheVariants.{Truth, Lit}
 use Rattle.fond_task.specs.declared.form.Kleene.TheVariants.{No}
@@ -17,10 +17,10 @@ use Rattle.fond_task.specs.declared.task.Task.{Task}
 use Rattle.fond_task.specs.Steps.{next_state}
 use Rattle.fond_task.specs.Values.{value}
 use Rattle.fond_task.proofs.Forms.{value-Lit, is_true-Truth, is_true-Lit, within-Truth, within-Lit}
-use Rattle.fond_game.specs.Policies.{IsGoal, IsNext}
-use Rattle.fond_game.specs.Layers.{CubeView, Leads, Forces, IsSureCube, IsSureLayer}
-use Rattle.fond_game.proofs.Lists.{Contains_numbered, Contains-cases}
-use Rattle.fond_game.proofs.Stacked.{AreSureLayers-none, AreSureLayers-push}
+use Rattle.fond_task.specs.Policies.{IsGoal, IsNext}
+use Rattle.fond_task.specs.Layers.{CubeView, Leads, Forces, IsSureCube, IsSureLayer}
+use Rattle.fond_task.proofs.Lists.{Contains_numbered, Contains-cases}
+use Rattle.fond_task.proofs.Stacked.{AreSureLayers-none, AreSureLayers-push}
 use Rattle.fond_explicit.specs.declared.answer.Pick.{Pick}
 use Rattle.fond_explicit.specs.declared.answer.Solved.TheVariants.{Won, Lost, Spent}
 use Rattle.fond_explicit.specs.Answers.{IsNearer, IsWinning, AreWinning, IsReachableCube, IsRight, IsReachable}

@@ -2,13 +2,13 @@
 use Rattle.std.specs.Prelude.{◌≡◌, ◌⊎◌, ℕ, ◌<◌, List, Bool, Contains, map, ⊤}
 use Rattle.std.specs.List.{flat_map}
 use Rattle.fond_text.specs.Lists.{AreDistinct}
-use Rattle.fond_play.specs.Games as games
-use Rattle.fond_play.specs.Games.{Game}
+use Rattle.fond_state.specs.Games as games
+use Rattle.fond_state.specs.Games.{Game}
 use Rattle.fond_state.specs.Cubes.{full_cube}
 use Rattle.fond_task.specs.declared.task.Task.{Task}
-use Rattle.fond_game.specs.Policies.{IsGoal, IsApplicable, IsNext, IsUnfair, game}
-use Rattle.fond_game.specs.Layers.{CubeView, AreSureLayers}
-use Rattle.fond_game.specs.Certificates.{LiesInLayers}
+use Rattle.fond_task.specs.Policies.{IsGoal, IsApplicable, IsNext, IsUnfair, game}
+use Rattle.fond_task.specs.Layers.{CubeView, AreSureLayers}
+use Rattle.fond_task.specs.Certificates.{LiesInLayers}
 use Rattle.fond_explicit.specs.declared.answer.Pick.{Pick}
 use Rattle.fond_explicit.specs.declared.answer.Solved.{Solved}
 use Rattle.fond_explicit.specs.declared.answer.Solved.TheVariants.{Won, Lost, Spent}

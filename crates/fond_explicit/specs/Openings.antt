@@ -2,7 +2,7 @@
 use Rattle.std.specs.Prelude.{◌≡◌, ◌⊎◌, ℕ, ◌≤◌, List, [], ◌∷◌, ◌++◌, Bool, Option, Some, None, Contains, length, slice_get}
 use Rattle.fond_text.specs.Lists.{AreDistinct}
 use Rattle.fond_task.specs.declared.task.Task.{Task}
-use Rattle.fond_game.specs.Policies.{IsNext}
+use Rattle.fond_task.specs.Policies.{IsNext}
 use Rattle.fond_explicit.specs.declared.space.Space.{Space}
 use Rattle.fond_explicit.specs.Answers.{IsReachable}
 use Rattle.fond_explicit.specs.Spaces.{HasMove, IsSpace}

@@ -7,8 +7,8 @@ use Rattle.fond_task.specs.declared.task.Entry.{Entry}
 use Rattle.fond_task.specs.declared.task.Task.{Task}
 use Rattle.fond_task.specs.Truth.{is_true}
 use Rattle.fond_task.specs.Steps.{next_state}
-use Rattle.fond_game.specs.Policies.{IsGoal}
-use Rattle.fond_game.specs.Layers.{CubeView}
+use Rattle.fond_task.specs.Policies.{IsGoal}
+use Rattle.fond_task.specs.Layers.{CubeView}
 use Rattle.fond_fixpoint.specs.declared.fate.Fate.{Fate}
 use Rattle.fond_fixpoint.specs.declared.fate.Fate.TheVariants.{Ranked, Fallen}
 use Rattle.fond_fixpoint.specs.Moves.{Move, move_at}

@@ -1,6 +1,6 @@
 -- Layers to which cubes are added.
 use Rattle.std.specs.Prelude.{◌≡◌, ◌≢◌, ℕ, ◌+◌, ◌<◌, ◌≤◌, List, [], ◌∷◌, ◌++◌, length, max}
-use Rattle.fond_game.specs.Layers.{CubeView}
+use Rattle.fond_task.specs.Layers.{CubeView}
 use Rattle.fond_explicit.specs.Spaces.{layer_at}
 
 -- layers have at least one of this number, and no other layers than before are not empty

@@ -4,7 +4,7 @@ ghost use Rattle.fond_explicit.specs.Answers.{IsPast};
 ghost use Rattle.fond_explicit.specs.Filings.{IsIndexOf, AreCandidates};
 ghost use Rattle.fond_explicit.specs.Openings.{IsSpaceFrom, IsReached, IsGrown, IsFull, IsOpening};
 ghost use Rattle.fond_explicit.specs.Spaces.{AreNexts, HasMove};
-ghost use Rattle.fond_game.specs.Policies.{IsGoal};
+ghost use Rattle.fond_task.specs.Policies.{IsGoal};
 ghost use Rattle.fond_task.specs.Truth.{is_true};
 ghost use Rattle.fond_task.specs.declared.task.Act.{Act};
 ghost use Rattle.std.specs.Prelude.{◌≡◌, ◌⊎◌, ◌<◌, ◌≤◌, ◌+◌, ◌-◌, ◌^◌, ℕ, List, Bool, true, false, Some, length, slice_get, IfOk, MatchBool};

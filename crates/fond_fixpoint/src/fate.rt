@@ -5,7 +5,7 @@ ghost use Rattle.std.specs.Prelude.{◌≡◌};
 
 /// What becomes of a node: it is not decided yet, or a goal, or won with a rank by the move of a number, or lost since a
 /// round.
-#[derive(Clone, Copy, Debug, PartialEq, Eq)]
+#[derive(Clone, Copy, PartialEq, Eq)]
 pub enum Fate {
     Open,
     Goal,

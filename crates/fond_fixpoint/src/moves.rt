@@ -11,7 +11,7 @@ use std::marker::Model;
 const MOST: usize = 4_294_967_295;
 
 /// A move without its targets, which are a range of the list of all targets.
-#[derive(Clone, Copy, Debug, PartialEq, Eq)]
+#[derive(Clone, Copy)]
 pub(crate) struct Head {
     pub(crate) source: u32,
     pub(crate) act: u32,

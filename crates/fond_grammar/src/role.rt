@@ -1,7 +1,7 @@
 //! What is expected of the trees of a domain and of a problem.
 
 /// A leaf that is required at its place.
-#[derive(Clone, Copy, Debug, PartialEq, Eq)]
+#[derive(Clone, Copy)]
 pub enum FixedWord {
     Define,
     Domain,
@@ -10,7 +10,7 @@ pub enum FixedWord {
 }
 
 /// What is expected of a tree at its place. `Head` is the head of a node, which decided what the node is.
-#[derive(Clone, Copy, Debug, PartialEq, Eq)]
+#[derive(Clone, Copy)]
 pub enum Role {
     DomainFile,
     ProblemFile,
@@ -34,7 +34,7 @@ pub enum Role {
 
 /// What is expected after the first members of a node: nothing; any number of trees of one role; a typed list of
 /// these leaves with these types; pairs of a key and a value; or trees that are not read.
-#[derive(Clone, Copy, Debug, PartialEq, Eq)]
+#[derive(Clone, Copy)]
 pub enum Rest {
     NoMore,
     Each(Role),

@@ -8,8 +8,8 @@ use Rattle.fond_text.specs.declared.fault.Fault.{Fault}
 use Rattle.fond_text.specs.declared.fault.FrontError.{FrontError}
 use Rattle.fond_text.specs.declared.fault.FrontError.TheVariants.{Refused, NoMemory}
 use Rattle.fond_ast.specs.declared.task.LiftedTask.{LiftedTask}
-use Rattle.fond_meaning.specs.Outcomes.{Literal}
-use Rattle.fond_meaning.proofs.Bools.{and-both, and-parts}
+use Rattle.fond_ast.specs.Outcomes.{Literal}
+use Rattle.fond_ast.proofs.Bools.{and-both, and-parts}
 use Rattle.fond_oneof.specs.Outcomes as ground
 use Rattle.fond_oneof.specs.declared.effect.GroundEffect.{GroundEffect}
 use Rattle.fond_task.specs.declared.task.Entry.{Entry}

@@ -14,9 +14,9 @@ use Rattle.fond_ast.specs.declared.task.LPredicate.{LPredicate}
 use Rattle.fond_ast.specs.declared.task.LSchema.{LSchema}
 use Rattle.fond_ast.specs.declared.task.LiftedTask.{LiftedTask}
 use Rattle.fond_join.specs.Kept.{is_kept, kept_args}
-use Rattle.fond_meaning.specs.Conditions.{tuples}
-use Rattle.fond_meaning.proofs.Bools.{and-both, and-parts, or-cases}
-use Rattle.fond_meaning.proofs.Members.{Member, Member-cases, Member-map, Member-from_map, Member-from_flat_map}
+use Rattle.fond_ast.specs.Conditions.{tuples}
+use Rattle.fond_ast.proofs.Bools.{and-both, and-parts, or-cases}
+use Rattle.fond_ast.proofs.Members.{Member, Member-cases, Member-map, Member-from_map, Member-from_flat_map}
 use Rattle.fond_task.specs.Distinct.{action_numbers, are_distinct_acts, are_distinct_atoms, atom_numbers}
 use Rattle.fond_task.specs.declared.task.Act.{Act}
 use Rattle.fond_ground.specs.Atoms.{atoms_over, fluent_atoms}

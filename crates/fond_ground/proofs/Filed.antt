@@ -16,10 +16,10 @@ use Rattle.std.proofs.lemmas.List.Sums.{fails_before_first}
 use Rattle.std.proofs.lemmas.Option.{same_Some, slice_get-get_or, slice_get_within, get_or_from_slice_get}
 use Rattle.fond_ast.specs.declared.form.LTerm.{LTerm}
 use Rattle.fond_ast.specs.declared.form.LTerm.TheVariants.{Object, Variable}
-use Rattle.fond_lookup.specs.Texts.{number_beside, with_text}
-use Rattle.fond_lookup.proofs.Firsts.{number_kept}
+use Rattle.fond_store.specs.Texts.{number_beside, with_text}
+use Rattle.fond_store.proofs.Firsts.{number_kept}
 use Rattle.fond_join.proofs.Rowed.{below_next}
-use Rattle.fond_meaning.specs.Patterns.{Fits}
+use Rattle.fond_ast.specs.Patterns.{Fits}
 use Rattle.fond_ground.proofs.Counts.{drop_item}
 use Rattle.fond_ground.specs.Patterns.{is_variable, leads, leader, Follows, Agrees, term_code, code, blank, shape, with_object, renamed, HasShape, HasShapeAt, AreKept, AreFiled, AreSeen, Fit}
 

@@ -14,9 +14,9 @@ use Rattle.fond_ast.specs.declared.form.LEffect.TheViews.{rolls-Add, rolls-Delet
 use Rattle.fond_ast.specs.declared.form.LEffect.TheFolds.{fold-LEffect, fold-roll-LEffect}
 use Rattle.fond_ast.specs.declared.task.LiftedTask.{LiftedTask}
 use Rattle.fond_join.specs.Values.{condition_value}
-use Rattle.fond_meaning.specs.Conditions.{ground_atom, tuples}
-use Rattle.fond_meaning.specs.Outcomes.{Guard, Literal, guarded, outcomes, outcomes_step}
-use Rattle.fond_meaning.proofs.Bools.{and-both}
+use Rattle.fond_ast.specs.Conditions.{ground_atom, tuples}
+use Rattle.fond_ast.specs.Outcomes.{Guard, Literal, guarded, outcomes, outcomes_step}
+use Rattle.fond_ast.proofs.Bools.{and-both}
 use Rattle.fond_oneof.specs.Outcomes as ground
 use Rattle.fond_oneof.specs.Within.{has_members, is_effect_over, members_step, over_step}
 use Rattle.fond_oneof.specs.declared.effect.GroundEffect.{GroundEffect}

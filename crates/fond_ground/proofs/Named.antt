@@ -12,8 +12,8 @@ use Rattle.fond_ast.specs.declared.task.LPredicate.{LPredicate}
 use Rattle.fond_ast.specs.declared.task.LSchema.{LSchema}
 use Rattle.fond_ast.specs.declared.task.LiftedTask.{LiftedTask}
 use Rattle.fond_join.specs.Kept.{is_kept, kept_args}
-use Rattle.fond_meaning.specs.Conditions.{tuples}
-use Rattle.fond_meaning.proofs.Bools.{and-both, and-parts}
+use Rattle.fond_ast.specs.Conditions.{tuples}
+use Rattle.fond_ast.proofs.Bools.{and-both, and-parts}
 use Rattle.fond_task.specs.Named.{are_named_objects, is_named_action, is_named_atom}
 use Rattle.fond_task.specs.declared.task.Act.{Act}
 use Rattle.fond_ground.specs.Atoms.{atoms_over, fluent_atoms}

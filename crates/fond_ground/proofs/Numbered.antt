@@ -21,10 +21,10 @@ use Rattle.fond_ast.specs.declared.task.LPredicate.{LPredicate}
 use Rattle.fond_ast.specs.declared.task.LSchema.{LSchema}
 use Rattle.fond_ast.specs.declared.task.LiftedTask.{LiftedTask}
 use Rattle.fond_join.specs.Kept.{is_kept, kept_args}
-use Rattle.fond_meaning.specs.Conditions.{ground_atom, object_of, tuples}
-use Rattle.fond_meaning.proofs.Bools.{and-both, and-parts, or-cases}
-use Rattle.fond_meaning.proofs.Members.{Member, Member-from_Contains, Contains-from_Member, Member-map, Member-flat_map}
-use Rattle.fond_meaning.proofs.Tuples.{tuples-lie-in-ranges}
+use Rattle.fond_ast.specs.Conditions.{ground_atom, object_of, tuples}
+use Rattle.fond_ast.proofs.Bools.{and-both, and-parts, or-cases}
+use Rattle.fond_ast.proofs.Members.{Member, Member-from_Contains, Contains-from_Member, Member-map, Member-flat_map}
+use Rattle.fond_ast.proofs.Tuples.{tuples-lie-in-ranges}
 use Rattle.fond_ground.specs.Atoms.{atom_number, atoms_over, fluent_atoms, is_same_atom}
 use Rattle.fond_ground.specs.Effects.{is_numbered, numbered_by, numbered_step}
 use Rattle.fond_ground.proofs.Indexed.{same-itself}

@@ -5,8 +5,8 @@ use Rattle.std.specs.declared.rc.Rc.{Rc}
 use Rattle.std.specs.List.{flat_map}
 use Rattle.std.proofs.lemmas.List.{at_drop_more, length-map, length-replicate}
 use Rattle.fond_ast.specs.Ranges.{RangeList, objects_of}
-use Rattle.fond_meaning.specs.Conditions.{tuples}
-use Rattle.fond_meaning.proofs.Bools.{and-parts}
+use Rattle.fond_ast.specs.Conditions.{tuples}
+use Rattle.fond_ast.proofs.Bools.{and-parts}
 use Rattle.fond_ground.specs.Places.{has_object, have_objects, tuples_after, tuples_from}
 
 -- the places before this one, and then the starts of the ranges

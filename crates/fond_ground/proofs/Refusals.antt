@@ -8,9 +8,9 @@ use Rattle.fond_text.specs.declared.fault.Fault.{Fault}
 use Rattle.fond_ast.specs.declared.task.LSchema.{LSchema}
 use Rattle.fond_ast.specs.declared.task.LiftedTask.{LiftedTask}
 use Rattle.fond_join.specs.Kept.{kept_args}
-use Rattle.fond_meaning.specs.Outcomes.{outcomes}
-use Rattle.fond_meaning.proofs.Bools.{and-parts}
-use Rattle.fond_meaning.proofs.Members.{Member, Member-from_Contains, Contains-from_Member, Member-right}
+use Rattle.fond_ast.specs.Outcomes.{outcomes}
+use Rattle.fond_ast.proofs.Bools.{and-parts}
+use Rattle.fond_ast.proofs.Members.{Member, Member-from_Contains, Contains-from_Member, Member-right}
 use Rattle.fond_ground.specs.Atoms.{fluent_atoms}
 use Rattle.fond_ground.specs.Faults.{at_domain, HasManyActions, HasManyAtoms, HasManyOutcomes, IsGroundFault, many_atoms, many_actions, many_outcomes}
 use Rattle.fond_ground.specs.Grounds.{kept_actions}

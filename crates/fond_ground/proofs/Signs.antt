@@ -20,7 +20,7 @@ use Rattle.fond_ast.specs.declared.form.LCond.TheViews.{rolls-Holds, rolls-Equal
 use Rattle.fond_ast.specs.declared.form.LCond.TheFolds.{fold-LCond, fold-roll-LCond}
 use Rattle.fond_join.specs.Values.{condition_value, condition_step}
 use Rattle.fond_join.proofs.Joined.{decided_stays, joined_first}
-use Rattle.fond_meaning.specs.Conditions.{ground_atom, object_of, tuples}
+use Rattle.fond_ast.specs.Conditions.{ground_atom, object_of, tuples}
 use Rattle.fond_ground.specs.Signs.{signed, signed_junction, junction_value}
 use Rattle.fond_ground.specs.declared.junction.JunctionForm.{JunctionForm}
 

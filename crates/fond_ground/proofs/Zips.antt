@@ -1,7 +1,7 @@
 -- Lists whose items are related place by place.
 use Rattle.std.proofs.Common.{◌≡◌, suc, Bool, true, List, [], ◌∷◌, ◌++◌, length, map, refl, sym, ap, subst, append_assoc, ◌∙◌}
 use Rattle.std.specs.List.{AllZip, flat_map, list_all}
-use Rattle.fond_meaning.proofs.Bools.{and-both}
+use Rattle.fond_ast.proofs.Bools.{and-both}
 use Rattle.fond_text.specs.Lists.{concatenations}
 
 pub zip-append : {A B : Type 0} (R : A → B → Type 0) (xs : List A) (ys : List B) (vs : List A) (ws : List B) → AllZip R xs ys → AllZip R vs ws → AllZip R (xs ++ vs) (ys ++ ws)

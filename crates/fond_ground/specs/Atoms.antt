@@ -5,7 +5,7 @@ use Rattle.std.specs.Str.{bytes_eq}
 use Rattle.fond_text.specs.declared.atom.Atom.{Atom}
 use Rattle.fond_ast.specs.Ranges.{RangeList, objects_of}
 use Rattle.fond_ast.specs.declared.task.LiftedTask.{LiftedTask}
-use Rattle.fond_meaning.specs.Conditions.{tuples}
+use Rattle.fond_ast.specs.Conditions.{tuples}
 
 -- the atoms of a predicate: one for each list of objects of its ranges, in order
 abbrev pub atoms_over : ℕ → RangeList → List Atom

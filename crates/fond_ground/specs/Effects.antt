@@ -7,8 +7,8 @@ use Rattle.fond_ast.specs.declared.form.LEffect.TheOpen.{LEffect-F, Nothing, Add
 use Rattle.fond_ast.specs.declared.form.LEffect.TheFolds.{fold-LEffect}
 use Rattle.fond_ast.specs.declared.task.LiftedTask.{LiftedTask}
 use Rattle.fond_join.specs.Values.{condition_value}
-use Rattle.fond_meaning.specs.Conditions.{ground_atom, tuples}
-use Rattle.fond_meaning.specs.Outcomes.{Literal}
+use Rattle.fond_ast.specs.Conditions.{ground_atom, tuples}
+use Rattle.fond_ast.specs.Outcomes.{Literal}
 use Rattle.fond_oneof.specs.Outcomes as ground
 use Rattle.fond_oneof.specs.Within.{has_members, is_effect_over}
 use Rattle.fond_oneof.specs.declared.effect.GroundEffect.{GroundEffect}

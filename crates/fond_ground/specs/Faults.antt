@@ -7,7 +7,7 @@ use Rattle.fond_text.specs.declared.place.Place.{Place}
 use Rattle.fond_text.specs.Lists.{Somewhere}
 use Rattle.fond_ast.specs.declared.task.LSchema.{LSchema}
 use Rattle.fond_ast.specs.declared.task.LiftedTask.{LiftedTask}
-use Rattle.fond_meaning.specs.Outcomes.{outcomes}
+use Rattle.fond_ast.specs.Outcomes.{outcomes}
 use Rattle.fond_join.specs.Kept.{kept_args}
 use Rattle.fond_ground.specs.Atoms.{fluent_atoms}
 use Rattle.fond_ground.specs.Grounds.{kept_actions}

@@ -6,9 +6,9 @@ use Rattle.std.specs.FinSet as set
 use Rattle.fond_text.specs.declared.atom.GroundAction.{GroundAction}
 use Rattle.fond_ast.specs.declared.task.LSchema.{LSchema}
 use Rattle.fond_ast.specs.declared.task.LiftedTask.{LiftedTask}
-use Rattle.fond_meaning.specs.Outcomes.{Literal, outcomes}
-use Rattle.fond_meaning.specs.Patterns.{IsUnfairWith}
-use Rattle.fond_meaning.specs.Solutions.{initial}
+use Rattle.fond_ast.specs.Outcomes.{Literal, outcomes}
+use Rattle.fond_ast.specs.Patterns.{IsUnfairWith}
+use Rattle.fond_ast.specs.Solutions.{initial}
 use Rattle.fond_join.specs.Kept.{kept_args}
 use Rattle.fond_join.specs.Values.{condition_value}
 use Rattle.fond_task.specs.declared.task.Act.{Act}

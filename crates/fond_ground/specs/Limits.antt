@@ -7,7 +7,7 @@ use Rattle.fond_ast.specs.declared.form.LEffect.{LEffect}
 use Rattle.fond_ast.specs.declared.task.LSchema.{LSchema}
 use Rattle.fond_ast.specs.declared.task.LiftedTask.{LiftedTask}
 use Rattle.fond_join.specs.Kept.{kept_args}
-use Rattle.fond_meaning.specs.Outcomes.{outcomes}
+use Rattle.fond_ast.specs.Outcomes.{outcomes}
 use Rattle.fond_ground.specs.Faults.{at_domain}
 
 -- whether an effect has at most 256 outcomes, where these are the objects of the variables around it

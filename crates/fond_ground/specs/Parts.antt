@@ -4,7 +4,7 @@ use Rattle.std.specs.List.{AllZip, list_all}
 use Rattle.std.specs.FinSet as set
 use Rattle.fond_text.specs.declared.code.TheConstants.{MOST_ACTIONS}
 use Rattle.fond_ast.specs.declared.task.LiftedTask.{LiftedTask}
-use Rattle.fond_meaning.specs.Solutions.{initial}
+use Rattle.fond_ast.specs.Solutions.{initial}
 use Rattle.fond_task.specs.declared.task.Act.{Act}
 use Rattle.fond_task.specs.Within.{is_act_within, is_form_within}
 use Rattle.fond_ground.specs.declared.ground.Parts.{Parts}

@@ -4,8 +4,8 @@ use Rattle.std.specs.List.{flat_map}
 use Rattle.std.specs.Option.{option_map_or}
 use Rattle.fond_ast.specs.declared.form.LTerm.{LTerm}
 use Rattle.fond_ast.specs.declared.form.LTerm.TheVariants.{Object, Variable}
-use Rattle.fond_lookup.specs.Texts.{number_beside}
-use Rattle.fond_meaning.specs.Patterns.{Fits}
+use Rattle.fond_store.specs.Texts.{number_beside}
+use Rattle.fond_ast.specs.Patterns.{Fits}
 
 -- whether a term is the variable of this number
 abbrev pub is_variable : ℕ → LTerm → Bool

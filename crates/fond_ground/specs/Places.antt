@@ -1,7 +1,7 @@
 -- Going through the lists of one object of each range by the places of the objects in their ranges.
 use Rattle.std.specs.Prelude.{◌≡◌, ℕ, ◌+◌, Bool, true, false, List, [], ◌∷◌, ◌++◌, map, drop, slice_index_or}
 use Rattle.std.specs.List.{flat_map, list_all}
-use Rattle.fond_meaning.specs.Conditions.{tuples}
+use Rattle.fond_ast.specs.Conditions.{tuples}
 
 -- whether a range has an object
 abbrev pub has_object : List ℕ → Bool

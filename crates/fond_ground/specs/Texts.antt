@@ -3,7 +3,7 @@ use Rattle.std.specs.Prelude.{ℕ, List, [], ◌++◌, codes, map, if◌then◌e
 use Rattle.std.specs.List.{flat_map}
 use Rattle.std.specs.FinSet as set
 use Rattle.fond_ast.specs.declared.task.LiftedTask.{LiftedTask}
-use Rattle.fond_meaning.specs.States.{State}
+use Rattle.fond_ast.specs.States.{State}
 use Rattle.fond_task.specs.declared.task.Labels.{Labels}
 use Rattle.fond_task.specs.Texts.{atom_text}
 use Rattle.fond_ground.specs.Atoms.{fluent_atoms}

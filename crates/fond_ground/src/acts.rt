@@ -8,7 +8,7 @@ ghost use Rattle.fond_ground.specs.Faults.{at_domain};
 ghost use Rattle.fond_ground.specs.Grounds.{kept_actions, IsActOf};
 ghost use Rattle.fond_ground.specs.Limits.{has_few, has_few_outcomes, IsFirstMany};
 ghost use Rattle.fond_join.specs.Kept.{kept_args};
-ghost use Rattle.fond_meaning.specs.Patterns.{IsUnfairWith};
+ghost use Rattle.fond_ast.specs.Patterns.{IsUnfairWith};
 ghost use Rattle.fond_oneof.specs.Outcomes.{outcome_lists, AreOutcomesOf};
 ghost use Rattle.fond_oneof.specs.Within.{has_members, is_effect_over};
 ghost use Rattle.fond_task.specs.Within.{is_act_within, is_entry_within};

@@ -2,7 +2,7 @@
 
 ghost use Rattle.fond_ast.specs.Ranges.{objects_of};
 ghost use Rattle.fond_ground.specs.Atoms.{atoms_over, fluent_atoms as all_atoms};
-ghost use Rattle.fond_meaning.specs.Conditions.{tuples};
+ghost use Rattle.fond_ast.specs.Conditions.{tuples};
 ghost use Rattle.std.specs.Prelude.{◌≡◌, ◌++◌, ◌-◌, ◌^◌, [], length, min, IfOk, OnOk, if◌then◌else◌};
 
 use crate::tuples::Tuples;

@@ -7,7 +7,7 @@ ghost use Rattle.fond_ground.specs.Atoms.{fluent_atoms};
 ghost use Rattle.fond_ground.specs.Signs.{signed, signed_junction};
 ghost use Rattle.fond_ground.specs.Values.{atom_value, StandsFor};
 ghost use Rattle.fond_join.specs.Values.{condition_value};
-ghost use Rattle.fond_meaning.specs.Conditions.{ground_atom, tuples};
+ghost use Rattle.fond_ast.specs.Conditions.{ground_atom, tuples};
 ghost use Rattle.fond_task.specs.Junctions.{joined_all};
 ghost use Rattle.fond_task.specs.Values.{value};
 ghost use Rattle.fond_task.specs.Within.{is_form_within};

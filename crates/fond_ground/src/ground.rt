@@ -8,7 +8,7 @@ ghost use Rattle.fond_ground.specs.Values.{StandsFor};
 ghost use Rattle.fond_task.specs.Within.{is_form_within};
 ghost use Rattle.fond_ground.specs.Texts.{labels_of as all_labels};
 ghost use Rattle.fond_join.specs.Kept.{kept_args};
-ghost use Rattle.fond_meaning.specs.Solutions.{initial};
+ghost use Rattle.fond_ast.specs.Solutions.{initial};
 ghost use Rattle.fond_text.specs.Faults.{Refuses};
 ghost use Rattle.fond_text.specs.Name.{IsName};
 ghost use Rattle.fond_text.specs.declared.code.TheConstants.{MOST_ACTIONS, MOST_ATOMS, TOO_MANY_ACTIONS, TOO_MANY_ATOMS};

@@ -2,14 +2,14 @@
 //! have, so that many of them cost an action no more than one.
 
 ghost use Rattle.fond_ground.specs.Patterns.{blank, code, is_variable, leads, leader, renamed, shape, term_code, with_object, Agrees, AreFiled, AreKept, AreSeen, Fit, Follows, HasShapeAt};
-ghost use Rattle.fond_lookup.specs.Texts.{number_beside};
-ghost use Rattle.fond_meaning.specs.Patterns.{IsUnfairWith};
+ghost use Rattle.fond_store.specs.Texts.{number_beside};
+ghost use Rattle.fond_ast.specs.Patterns.{IsUnfairWith};
 ghost use Rattle.std.specs.Bool.{Decides};
 ghost use Rattle.std.specs.Prelude.{◌≡◌, ◌<◌, ◌+◌, ◌++◌, [], IfOk, OnOk, is_some, length, map, position, true};
 
 use fond_ast::form::{LPatterns, LTerm};
 use fond_ast::task::LSchema;
-use fond_lookup::index::TupleIndex;
+use fond_store::index::TupleIndex;
 use fond_text::fault::NoMemory;
 use fond_text::list::List;
 use std::alloc::Global;

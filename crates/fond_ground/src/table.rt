@@ -3,8 +3,8 @@
 ghost use Rattle.fond_ast.specs.declared.form.LAtom.{LAtom};
 ghost use Rattle.fond_ground.specs.Atoms.{atom_number, fluent_atoms, is_same_atom};
 ghost use Rattle.fond_join.specs.Kept.{static_value};
-ghost use Rattle.fond_lookup.specs.Texts.{number_beside};
-ghost use Rattle.fond_meaning.specs.Conditions.{ground_atom, object_of};
+ghost use Rattle.fond_store.specs.Texts.{number_beside};
+ghost use Rattle.fond_ast.specs.Conditions.{ground_atom, object_of};
 ghost use Rattle.fond_task.specs.Distinct.{atom_numbers};
 ghost use Rattle.fond_text.specs.declared.atom.Atom.{Atom};
 ghost use Rattle.std.specs.Prelude.{◌≡◌, ◌<◌, ◌^◌, length, position, IfOk, IfSome};
@@ -12,7 +12,7 @@ ghost use Rattle.std.specs.Prelude.{◌≡◌, ◌<◌, ◌^◌, length, positio
 use fond_ast::form::{LAtom, LTerm};
 use fond_ast::task::LiftedTask;
 use fond_join::facts::Facts;
-use fond_lookup::index::TupleIndex;
+use fond_store::index::TupleIndex;
 use fond_text::atom::{Atom, Atoms};
 use fond_text::fault::NoMemory;
 use std::alloc::Global;
@@ -36,7 +36,7 @@ fn numbers_of(alloc: Global, atom: &Atom) -> Result<Vec<u32>, NoMemory>
 }
 
 /// The atoms by their numbers, each with its index.
-#[tactic(auto, using(fond_lookup::proofs::Firsts::has_more))]
+#[tactic(auto, using(fond_store::proofs::Firsts::has_more))]
 fn indexed(alloc: Global, atoms: &Atoms) -> Result<TupleIndex, NoMemory>
     requires { length atoms.now < 2 ^ 32 }
     ensures { IfOk result (λ numbers. (atom : Atom) → number_beside numbers (atom_numbers atom) ≡ position (is_same_atom atom) atoms.now) }

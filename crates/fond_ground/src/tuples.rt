@@ -2,7 +2,7 @@
 //! only, and no stack, however many ranges there are.
 
 ghost use Rattle.fond_ast.specs.Ranges.{objects_of};
-ghost use Rattle.fond_meaning.specs.Conditions.{tuples};
+ghost use Rattle.fond_ast.specs.Conditions.{tuples};
 ghost use Rattle.fond_ground.specs.Places.{have_objects, objects_at, tuples_after, tuples_from, TakesFirst};
 ghost use Rattle.std.specs.Prelude.{◌≡◌, ◌++◌, [], ◌≢◌, true, false, not, length, slice_index_or, IfOk, OnOk};
 

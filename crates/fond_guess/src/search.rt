@@ -9,9 +9,9 @@ use crate::queue::{Agenda, Open};
 use fond_deadends::states::StateSet;
 use fond_heuristic::cost::FAR;
 use fond_heuristic::relaxed::{Chosen, Estimate};
-use fond_hint::step::PlanStep;
 use fond_moves::boxes::boxed;
 use fond_moves::index::{NONE, copy_words, size};
+use fond_task::plan_step::PlanStep;
 use fond_text::fault::NoMemory;
 use std::alloc::Global;
 

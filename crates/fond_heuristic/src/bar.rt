@@ -3,13 +3,13 @@
 
 use crate::net::Net;
 use crate::together::Together;
-use fond_hint::step::PlanStep;
 use fond_moves::applicable::sure_masks;
 use fond_moves::boxes::boxed;
 use fond_moves::condition::Mask;
 use fond_moves::effect::Effect;
 use fond_moves::index::{Literal, bit_of, size};
 use fond_moves::moves::{Move, Moves};
+use fond_task::plan_step::PlanStep;
 use fond_task::task::Task;
 use fond_text::fault::NoMemory;
 use std::alloc::Global;

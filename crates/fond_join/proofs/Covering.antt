@@ -14,11 +14,11 @@ use Rattle.fond_ast.specs.declared.form.LAtom.{LAtom}
 use Rattle.fond_ast.specs.declared.form.LTerm.{LTerm}
 use Rattle.fond_ast.specs.declared.form.LTerm.TheVariants.{Variable}
 use Rattle.fond_ast.specs.declared.task.LiftedTask.{LiftedTask}
-use Rattle.fond_meaning.specs.Conditions.{object_of, ground_atom}
-use Rattle.fond_meaning.specs.Solutions.{initial}
-use Rattle.fond_meaning.specs.States.{atom_cmp}
-use Rattle.fond_meaning.proofs.Atoms.{atom_cmp_total}
-use Rattle.fond_meaning.proofs.Bools.{and-parts, or-cases}
+use Rattle.fond_ast.specs.Conditions.{object_of, ground_atom}
+use Rattle.fond_ast.specs.Solutions.{initial}
+use Rattle.fond_ast.specs.States.{atom_cmp}
+use Rattle.fond_ast.proofs.Atoms.{atom_cmp_total}
+use Rattle.fond_ast.proofs.Bools.{and-parts, or-cases}
 use Rattle.fond_ast.specs.declared.form.LCond.{LCond}
 use Rattle.fond_ast.specs.declared.form.LCond.TheVariants.{Holds, And, rolls-Holds, rolls-And}
 use Rattle.fond_ast.specs.declared.form.LCond.TheOpen as open_condition

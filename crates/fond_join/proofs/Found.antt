@@ -7,7 +7,7 @@ use Rattle.fond_ast.specs.Within.{is_schema_within}
 use Rattle.fond_ast.specs.declared.task.LSchema.{LSchema}
 use Rattle.fond_ast.specs.declared.task.LiftedTask.{LiftedTask}
 use Rattle.fond_task.proofs.Found.{all_at}
-use Rattle.fond_meaning.proofs.Bools.{and-both, and-parts}
+use Rattle.fond_ast.proofs.Bools.{and-both, and-parts}
 
 -- an index has one item
 pub same_found : {X : Type 0} (xs : List X) (i : ℕ) (x y : X) → slice_get xs i ≡ Some x → slice_get xs i ≡ Some y → x ≡ y

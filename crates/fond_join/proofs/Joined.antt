@@ -9,7 +9,7 @@ use Rattle.fond_ast.specs.declared.form.LCond.TheVariants.{Forall, Exists, rolls
 use Rattle.fond_ast.specs.declared.form.LCond.TheOpen as open_condition
 use Rattle.fond_ast.specs.declared.form.LCond.TheFolds.{fold-roll-LCond}
 use Rattle.fond_ast.specs.declared.task.LiftedTask.{LiftedTask}
-use Rattle.fond_meaning.specs.Conditions.{tuples}
+use Rattle.fond_ast.specs.Conditions.{tuples}
 use Rattle.fond_task.specs.declared.form.Junction.{Junction}
 use Rattle.fond_task.specs.declared.form.Junction.TheVariants.{All, Any}
 use Rattle.fond_task.specs.declared.form.Kleene.{Kleene}

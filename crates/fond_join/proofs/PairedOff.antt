@@ -7,8 +7,8 @@ use Rattle.std.proofs.lemmas.List.{get_or_default, length-map}
 use Rattle.fond_ast.specs.Ranges.{objects_of}
 use Rattle.fond_ast.specs.declared.task.LSchema.{LSchema}
 use Rattle.fond_ast.specs.declared.task.LiftedTask.{LiftedTask}
-use Rattle.fond_meaning.specs.Conditions.{tuples}
-use Rattle.fond_meaning.proofs.Members.{Member, Contains-from_Member, Member-from_flat_map, Member-from_map}
+use Rattle.fond_ast.specs.Conditions.{tuples}
+use Rattle.fond_ast.proofs.Members.{Member, Contains-from_Member, Member-from_flat_map, Member-from_map}
 use Rattle.fond_join.specs.Barren.{IsBarrenPair}
 use Rattle.fond_join.specs.Kept.{is_kept, is_no, kept_args, open_value}
 use Rattle.fond_join.specs.Partial.{partial_value}

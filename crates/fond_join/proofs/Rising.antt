@@ -9,9 +9,9 @@ use Rattle.std.specs.Ordering.{nat_cmp}
 use Rattle.std.specs.Result.{MatchResult, is_ok}
 use Rattle.std.proofs.lemmas.List.Sorted.{Contains-permutation, IsPermutation-sym, searched}
 use Rattle.fond_ast.specs.Ranges.{is_among, is_rising}
-use Rattle.fond_meaning.proofs.Bools.{and-parts, or-left, or-right, or-cases}
+use Rattle.fond_ast.proofs.Bools.{and-parts, or-left, or-right, or-cases}
 use Rattle.fond_join.proofs.Items.{drop_item}
-use Rattle.fond_meaning.proofs.Members.{Member, Member-from_Contains, Contains-from_Member}
+use Rattle.fond_ast.proofs.Members.{Member, Member-from_Contains, Contains-from_Member}
 
 pub among : (range : List ℕ) (object : ℕ) → Member range object → is_among range object ≡ true
 among [] object m = absurd m

@@ -10,9 +10,9 @@ use Rattle.std.proofs.lemmas.Grind.{common_steps}
 use Rattle.std.proofs.lemmas.List.{get_or-set_same, get_or-set_other, length-append}
 use Rattle.std.proofs.lemmas.List.Folds.{list_any-append}
 use Rattle.fond_ast.specs.Ranges.{is_among}
-use Rattle.fond_lookup.specs.Texts.{number_beside, with_text}
-use Rattle.fond_lookup.proofs.Firsts.{number_kept}
-use Rattle.fond_meaning.proofs.Bools.{or-left, or-right}
+use Rattle.fond_store.specs.Texts.{number_beside, with_text}
+use Rattle.fond_store.proofs.Firsts.{number_kept}
+use Rattle.fond_ast.proofs.Bools.{or-left, or-right}
 use Rattle.fond_text.specs.declared.atom.Atom.{Atom}
 use Rattle.std.proofs.lemmas.Option.{get_or_from_slice_get}
 use Rattle.fond_join.specs.Rows.{AreNumbered, IsGrown, IsRowedAt, key_of, list_at, row_at}

@@ -10,7 +10,7 @@ use Rattle.fond_ast.specs.declared.form.LCond.{LCond}
 use Rattle.fond_ast.specs.declared.form.LCond.TheOpen.{LCond-F, Truth, Holds, Equal, And, Or, Not, Imply, Forall, Exists}
 use Rattle.fond_ast.specs.declared.form.LCond.TheFolds.{fold-LCond, fold-roll-LCond, ind-LCond, map-LCond}
 use Rattle.fond_ast.specs.declared.task.LiftedTask.{LiftedTask}
-use Rattle.fond_meaning.specs.Conditions.{object_of, ground_atom, tuples}
+use Rattle.fond_ast.specs.Conditions.{object_of, ground_atom, tuples}
 use Rattle.fond_task.specs.declared.form.Junction.{Junction}
 use Rattle.fond_task.specs.declared.form.Junction.TheVariants.{All, Any}
 use Rattle.fond_task.specs.declared.form.Kleene.{Kleene}

@@ -16,11 +16,11 @@ use Rattle.fond_text.specs.declared.atom.Atom.{Atom}
 use Rattle.fond_ast.specs.Ranges.{objects_of, is_among}
 use Rattle.fond_ast.specs.Within.{is_initial_within}
 use Rattle.fond_ast.specs.declared.task.LPredicate.{LPredicate}
-use Rattle.fond_lookup.specs.Texts.{number_beside, with_text}
-use Rattle.fond_lookup.proofs.Firsts.{number_kept}
+use Rattle.fond_store.specs.Texts.{number_beside, with_text}
+use Rattle.fond_store.proofs.Firsts.{number_kept}
 use Rattle.fond_task.proofs.Found.{all_at}
-use Rattle.fond_meaning.specs.States.{atom_cmp, atoms_of}
-use Rattle.fond_meaning.proofs.Atoms.{atom_cmp_total}
+use Rattle.fond_ast.specs.States.{atom_cmp, atoms_of}
+use Rattle.fond_ast.proofs.Atoms.{atom_cmp_total}
 use Rattle.fond_join.specs.Tables.{is_entered, IsEnteredBeside}
 
 -- tables without entries have no atom

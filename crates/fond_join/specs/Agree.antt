@@ -5,8 +5,8 @@ use Rattle.fond_ast.specs.Ranges.{is_among}
 use Rattle.fond_ast.specs.declared.form.LAtom.{LAtom}
 use Rattle.fond_ast.specs.declared.form.LCond.{LCond}
 use Rattle.fond_ast.specs.declared.task.LiftedTask.{LiftedTask}
-use Rattle.fond_meaning.specs.Conditions.{ground_atom}
-use Rattle.fond_meaning.specs.Solutions.{initial}
+use Rattle.fond_ast.specs.Conditions.{ground_atom}
+use Rattle.fond_ast.specs.Solutions.{initial}
 use Rattle.fond_join.specs.Kept.{is_no, open_value}
 use Rattle.fond_join.specs.Values.{condition_value}
 

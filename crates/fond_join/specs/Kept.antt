@@ -6,8 +6,8 @@ use Rattle.fond_ast.specs.Ranges.{objects_of}
 use Rattle.fond_ast.specs.Within.{is_fluent}
 use Rattle.fond_ast.specs.declared.task.LSchema.{LSchema}
 use Rattle.fond_ast.specs.declared.task.LiftedTask.{LiftedTask}
-use Rattle.fond_meaning.specs.Conditions.{tuples}
-use Rattle.fond_meaning.specs.Solutions.{initial}
+use Rattle.fond_ast.specs.Conditions.{tuples}
+use Rattle.fond_ast.specs.Solutions.{initial}
 use Rattle.fond_task.specs.declared.form.Kleene.{Kleene}
 use Rattle.fond_task.specs.declared.form.Kleene.TheVariants.{No, Unknown, Yes}
 use Rattle.fond_join.specs.Values.{condition_value}

@@ -2,8 +2,8 @@
 use Rattle.std.specs.Prelude.{◌≡◌, ℕ, Bool, List, [], ◌||◌, is_some, slice_index_or}
 use Rattle.std.specs.Ordering.{eq_by_cmp}
 use Rattle.fond_text.specs.declared.atom.Atom.{Atom}
-use Rattle.fond_lookup.specs.Texts.{number_beside}
-use Rattle.fond_meaning.specs.States.{atom_cmp}
+use Rattle.fond_store.specs.Texts.{number_beside}
+use Rattle.fond_ast.specs.States.{atom_cmp}
 
 -- whether a list of objects is in the table of a predicate
 abbrev pub is_entered : List (List (List ℕ × ℕ)) → ℕ → List ℕ → Bool

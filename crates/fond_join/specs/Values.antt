@@ -5,7 +5,7 @@ use Rattle.fond_ast.specs.Ranges.{objects_of}
 use Rattle.fond_ast.specs.declared.form.LCond.{LCond}
 use Rattle.fond_ast.specs.declared.form.LCond.TheOpen.{LCond-F, Truth, Holds, Equal, And, Or, Not, Imply, Forall, Exists}
 use Rattle.fond_ast.specs.declared.form.LCond.TheFolds.{fold-LCond}
-use Rattle.fond_meaning.specs.Conditions.{object_of, ground_atom, tuples}
+use Rattle.fond_ast.specs.Conditions.{object_of, ground_atom, tuples}
 use Rattle.fond_task.specs.declared.form.Kleene.{Kleene}
 use Rattle.fond_task.specs.declared.form.Kleene.TheVariants.{No, Yes}
 use Rattle.fond_task.specs.Values.{greater, greatest, least, opposite}

@@ -4,13 +4,13 @@ ghost use Rattle.fond_join.specs.Rows.{AreRowed};
 ghost use Rattle.fond_join.specs.Tables.{is_entered, IsEnteredBeside};
 ghost use Rattle.fond_ast.specs.Ranges.{is_among};
 ghost use Rattle.fond_text.specs.declared.atom.Atom.{Atom};
-ghost use Rattle.fond_meaning.specs.Solutions.{initial};
+ghost use Rattle.fond_ast.specs.Solutions.{initial};
 ghost use Rattle.std.specs.FinSet as set;
 ghost use Rattle.std.specs.Prelude.{◌≡◌, ◌<◌, ℕ, List, Some, true, false, vec_len, length, slice_get, slice_index_or, IfOk, IfSome, OnOk};
 
 use crate::rows::{MOST_ROWED, Rows, row_of, rows_of};
 use fond_ast::task::LiftedTask;
-use fond_lookup::index::TupleIndex;
+use fond_store::index::TupleIndex;
 use fond_text::atom::Atom;
 use fond_text::fault::NoMemory;
 use std::alloc::Global;

@@ -4,10 +4,10 @@
 ghost use Rattle.fond_ast.specs.Ranges.{is_among};
 ghost use Rattle.fond_join.specs.declared.rows.TheConstants.{MOST_ROWED};
 ghost use Rattle.fond_join.specs.Rows.{AreNumbered, AreRowed, IsGrown, IsRowed, IsRowedAt, row_at};
-ghost use Rattle.fond_lookup.specs.Texts.{number_beside};
+ghost use Rattle.fond_store.specs.Texts.{number_beside};
 ghost use Rattle.std.specs.Prelude.{◌≡◌, ◌<◌, ℕ, true, None, length, IfOk, IfSome, OnOk};
 
-use fond_lookup::index::TupleIndex;
+use fond_store::index::TupleIndex;
 use fond_text::atom::{Atom, Objects};
 use fond_text::fault::NoMemory;
 use fond_text::list::List;

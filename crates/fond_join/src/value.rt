@@ -4,7 +4,7 @@
 ghost use Rattle.fond_ast.specs.Ranges.{objects_of};
 ghost use Rattle.fond_ast.specs.Within.{is_fluent as is_fluent_predicate};
 ghost use Rattle.fond_join.specs.Partial.{all_known, known_object, partial_atom, partial_equal, partial_value};
-ghost use Rattle.fond_meaning.specs.Conditions.{tuples};
+ghost use Rattle.fond_ast.specs.Conditions.{tuples};
 ghost use Rattle.fond_task.specs.Junctions.{joined, joined_all};
 ghost use Rattle.fond_task.specs.declared.form.Kleene.{Kleene};
 ghost use Rattle.std.specs.Prelude.{◌≡◌, ◌++◌, List, Some, None, true, map, fold, if◌then◌else◌, IfOk, OnOk};

@@ -5,7 +5,7 @@ use Rattle.std.specs.Str.{bytes_eq}
 use Rattle.fond_text.specs.declared.code.TheConstants.{TYPE_CYCLE, REPEATED_NAME}
 use Rattle.fond_text.specs.declared.place.Place.{Place}
 use Rattle.fond_ast.specs.declared.names.TypedName.{TypedName}
-use Rattle.fond_lookup.specs.Texts.{number_beside}
+use Rattle.fond_store.specs.Texts.{number_beside}
 use Rattle.fond_kinds.specs.Kinds.{root, only_kind, is_passed_over, declares, type_of, IsAncestor}
 
 -- all names of types: `object`, and then each declared type and its parent, in order

@@ -3,7 +3,7 @@
 ghost use Rattle.fond_kinds.specs.Kinds.{declares, IsAncestor, is_passed_over, is_type, only_kind as only_kind_of, parent_of as parent_of_type, IsSubtype};
 ghost use Rattle.fond_kinds.specs.Parents.{are_within, parent_of};
 ghost use Rattle.fond_kinds.specs.Tables.{IsNumber, firsts_with, number_of, type_names};
-ghost use Rattle.fond_lookup.specs.Texts.{number_beside, with_text};
+ghost use Rattle.fond_store.specs.Texts.{number_beside, with_text};
 ghost use Rattle.fond_text.specs.declared.code.TheConstants.{LONGEST_TEXT};
 ghost use Rattle.std.specs.Bool.{Decides};
 ghost use Rattle.std.specs.List.{list_all};
@@ -13,7 +13,7 @@ ghost use Rattle.std.specs.Prelude.{◌≡◌, ◌<◌, ◌≤◌, ◌^◌, ℕ,
 use crate::ancestry::Ancestry;
 use crate::links::parent_at;
 use fond_ast::names::{TypedName, TypedNames};
-use fond_lookup::index::TextIndex;
+use fond_store::index::TextIndex;
 use fond_text::fault::NoMemory;
 use std::alloc::Global;
 

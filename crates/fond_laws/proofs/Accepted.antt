@@ -23,12 +23,12 @@ use Rattle.fond_laws.specs.Alike.{AreAlike}
 use Rattle.fond_commands.specs.Certified.{DescribeGround, IsCertText, TaskReply}
 use Rattle.fond_commands.specs.Checks.{AnswersCheck, CheckReply, IsFault, verdict_reply, verdict_ending}
 use Rattle.fond_laws.specs.Replies.{CorrectAreAccepted, DemosAreAccepted, HopelessTasksAreRefused, IsCertEnding, MigratedAreAccepted, PlannedAreAccepted, SmallTasksAreDecided, accepted_reply}
-use Rattle.fond_bridge.proofs.Between.{ground-tasks-agree}
+use Rattle.fond_succ.proofs.Between.{ground-tasks-agree}
 use Rattle.fond_ground.specs.Grounds.{IsGroundOf}
-use Rattle.fond_meaning.specs.Solutions.{IsSolvable, More}
-use Rattle.fond_game.specs.Solutions as games
-use Rattle.fond_game.proofs.Forced.{refusals_exclude}
-use Rattle.fond_relax.specs.Stable.{IsHopeless}
+use Rattle.fond_ast.specs.Solutions.{IsSolvable, More}
+use Rattle.fond_task.specs.Solutions as games
+use Rattle.fond_task.proofs.Forced.{refusals_exclude}
+use Rattle.fond_regress.specs.Stable.{IsHopeless}
 use Rattle.fond_planner.proofs.Right.{right_hopeless}
 use Rattle.fond_tool.specs.Jobs.{texts as files}
 use Rattle.fond_tool.specs.Demos.{AnswersDemo, demo_text, demo_texts}

@@ -9,9 +9,9 @@ use Rattle.fond_ast.specs.declared.form.LCond.{LCond}
 use Rattle.fond_ast.specs.declared.form.LTerm.{LTerm}
 use Rattle.fond_ast.specs.declared.task.LSchema.{LSchema}
 use Rattle.fond_ast.specs.declared.task.LiftedTask.{LiftedTask}
-use Rattle.fond_meaning.specs.Outcomes.{Literal, outcomes}
-use Rattle.fond_meaning.specs.Patterns.{Fits, IsUnfairWith}
-use Rattle.fond_meaning.specs.States.{atoms_of}
+use Rattle.fond_ast.specs.Outcomes.{Literal, outcomes}
+use Rattle.fond_ast.specs.Patterns.{Fits, IsUnfairWith}
+use Rattle.fond_ast.specs.States.{atoms_of}
 use Rattle.fond_task.specs.Values.{least}
 use Rattle.fond_task.specs.declared.form.Form.{Form}
 use Rattle.fond_task.specs.declared.task.Act.{Act}

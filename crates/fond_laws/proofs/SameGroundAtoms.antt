@@ -9,8 +9,8 @@ use Rattle.fond_ast.specs.Within.{is_fluent}
 use Rattle.fond_ast.specs.declared.task.LPredicate.{LPredicate}
 use Rattle.fond_ast.specs.declared.task.LSchema.{LSchema}
 use Rattle.fond_ast.specs.declared.task.LiftedTask.{LiftedTask}
-use Rattle.fond_meaning.specs.Conditions.{tuples}
-use Rattle.fond_meaning.specs.States.{atoms_of}
+use Rattle.fond_ast.specs.Conditions.{tuples}
+use Rattle.fond_ast.specs.States.{atoms_of}
 use Rattle.fond_task.specs.declared.form.Kleene.TheVariants.{No, Unknown, Yes}
 use Rattle.fond_join.specs.Kept.{is_kept, is_no, kept_args, open_value, static_value}
 use Rattle.fond_ground.specs.Atoms.{atom_number, fluent_atoms, is_same_atom}

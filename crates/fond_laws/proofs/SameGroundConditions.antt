@@ -7,7 +7,7 @@ use Rattle.fond_ast.specs.declared.form.LCond.TheBlock.{items-the_row-LCond, ite
 use Rattle.fond_ast.specs.declared.form.LCond.TheOpen.{LCond-F}
 use Rattle.fond_ast.specs.declared.form.LCond.TheViews.{out-LCond, outs-And', outs-Or', outs-Not', outs-Imply', outs-Forall', outs-Exists'}
 use Rattle.fond_ast.specs.declared.form.LCond.TheFolds.{fold-LCond, fold_out-LCond, map-LCond}
-use Rattle.fond_meaning.specs.Conditions.{tuples}
+use Rattle.fond_ast.specs.Conditions.{tuples}
 use Rattle.fond_task.specs.declared.form.Kleene.{Kleene}
 use Rattle.fond_task.specs.Values.{greater, greatest, least, opposite}
 use Rattle.fond_join.specs.Values.{condition_step, condition_value}

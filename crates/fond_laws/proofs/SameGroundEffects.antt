@@ -6,9 +6,9 @@ use Rattle.fond_text.specs.declared.atom.Atom.{Atom}
 use Rattle.fond_ast.specs.Ranges.{objects_of}
 use Rattle.fond_ast.specs.declared.form.LCond.{LCond}
 use Rattle.fond_ast.specs.declared.form.LEffect.{LEffect, Nothing, Add, Delete, And', Forall', When', OneOf', Row_of-LEffect, end_of-LEffect, more_of-LEffect}
-use Rattle.fond_meaning.specs.Conditions.{ground_atom, tuples}
-use Rattle.fond_meaning.specs.Outcomes.{Guard, Literal, alone, guarded, outcomes}
-use Rattle.fond_meaning.proofs.Choosing.{each_outcomes, outcomes-Nothing, outcomes-Add, outcomes-Delete, outcomes-And', outcomes-Forall', outcomes-When', outcomes-OneOf'}
+use Rattle.fond_ast.specs.Conditions.{ground_atom, tuples}
+use Rattle.fond_ast.specs.Outcomes.{Guard, Literal, alone, guarded, outcomes}
+use Rattle.fond_ast.proofs.Choosing.{each_outcomes, outcomes-Nothing, outcomes-Add, outcomes-Delete, outcomes-And', outcomes-Forall', outcomes-When', outcomes-OneOf'}
 use Rattle.fond_ground.proofs.Zips.{zip-concatenations, zip-flat, zip-map}
 use Rattle.fond_laws.specs.Lifted.{AreSameEffects, IsSameCondition, IsSameEffect}
 use Rattle.fond_laws.proofs.SameLists.{zip-same}

@@ -8,7 +8,7 @@ use Rattle.fond_text.specs.declared.fault.Fault.{Fault}
 use Rattle.fond_text.specs.declared.place.Place.{Place}
 use Rattle.fond_ast.specs.declared.task.LSchema.{LSchema}
 use Rattle.fond_ast.specs.declared.task.LiftedTask.{LiftedTask}
-use Rattle.fond_meaning.specs.Outcomes.{outcomes}
+use Rattle.fond_ast.specs.Outcomes.{outcomes}
 use Rattle.fond_ground.specs.Faults.{HasManyAtoms, HasManyActions, HasManyOutcomes, IsGroundFault, many_atoms, many_actions, many_outcomes, at_domain}
 use Rattle.fond_ground.proofs.Zips.{zip-length}
 use Rattle.fond_laws.specs.Lifted.{IsSameLifted, IsSameSchema}

@@ -4,8 +4,8 @@ use Rattle.std.specs.List.{AllZip}
 use Rattle.fond_state.specs.Cubes.{CubeLiesIn, without_literal}
 use Rattle.fond_task.specs.declared.task.Act.{Act}
 use Rattle.fond_task.specs.declared.task.Task.{Task}
-use Rattle.fond_game.specs.Layers.{CubeView}
-use Rattle.fond_relax.specs.Stable.{DoesStay, IsHopeless}
+use Rattle.fond_task.specs.Layers.{CubeView}
+use Rattle.fond_regress.specs.Stable.{DoesStay, IsHopeless}
 use Rattle.fond_cover.specs.declared.item.Item.{Item}
 use Rattle.fond_cover.specs.declared.item.Way.{Way}
 use Rattle.fond_cover.specs.declared.item.Way.TheVariants.{Goal, Rule as ByRule}

@@ -4,7 +4,7 @@ use Rattle.std.specs.Prelude.{Contains}
 use Rattle.std.specs.List.{AllZip, enumerate_from, flat_map}
 use Rattle.std.proofs.lemmas.Option.{none-some, same_Some}
 use Rattle.fond_text.specs.Lists.{Somewhere}
-use Rattle.fond_game.proofs.Lists.{Contains_numbered, number_of}
+use Rattle.fond_task.proofs.Lists.{Contains_numbered, number_of}
 
 -- related lists are related the other way round by the converse
 pub zip-swap : {A B : Type 0} (R : A → B → Type 0) (S : B → A → Type 0) → ((a : A) (b : B) → R a b → S b a) → (xs : List A) (ys : List B) → AllZip R xs ys → AllZip S ys xs

@@ -6,14 +6,14 @@ use Rattle.fond_task.specs.Images.{image}
 use Rattle.fond_task.specs.declared.task.Act.{Act}
 use Rattle.fond_task.specs.declared.task.Entry.{Entry}
 use Rattle.fond_task.specs.declared.task.Task.{Task}
-use Rattle.fond_game.specs.Layers.{AreSureLayers, CubeView, EachLeads, Forces, IsSureCube, IsSurePair, Leads, LiesInLayer, SomeLeads}
-use Rattle.fond_game.specs.Rules.{AreMet, IsLeanPair, IsLeanRule, IsSureRule, Meets}
-use Rattle.fond_game.specs.declared.rule.Pair.{Pair}
-use Rattle.fond_game.specs.declared.rule.Rule.{Rule}
-use Rattle.fond_game.specs.declared.rule.Target.{Target}
-use Rattle.fond_game.specs.declared.rule.Target.TheVariants.{Goal, Rule as ToRule}
-use Rattle.fond_game.specs.declared.rule.Targets.{Targets}
-use Rattle.fond_game.specs.declared.rule.Targets.TheVariants.{One, All}
+use Rattle.fond_task.specs.Layers.{AreSureLayers, CubeView, EachLeads, Forces, IsSureCube, IsSurePair, Leads, LiesInLayer, SomeLeads}
+use Rattle.fond_task.specs.Rules.{AreMet, IsLeanPair, IsLeanRule, IsSureRule, Meets}
+use Rattle.fond_task.specs.declared.rule.Pair.{Pair}
+use Rattle.fond_task.specs.declared.rule.Rule.{Rule}
+use Rattle.fond_task.specs.declared.rule.Target.{Target}
+use Rattle.fond_task.specs.declared.rule.Target.TheVariants.{Goal, Rule as ToRule}
+use Rattle.fond_task.specs.declared.rule.Targets.{Targets}
+use Rattle.fond_task.specs.declared.rule.Targets.TheVariants.{One, All}
 use Rattle.fond_ground.proofs.Zips.{zip-length}
 use Rattle.fond_laws.specs.Alike.{IsSameAct, IsSameEntry, IsSameTask}
 use Rattle.fond_laws.proofs.SameActs.{AreSameEntries, same_image, sym_task}

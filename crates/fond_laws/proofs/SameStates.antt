@@ -14,10 +14,10 @@ use Rattle.fond_task.specs.declared.form.Kleene.TheVariants.{No, Unknown, Yes}
 use Rattle.fond_task.specs.declared.task.Act.{Act}
 use Rattle.fond_task.specs.declared.task.Entry.{Entry}
 use Rattle.fond_task.specs.declared.task.Task.{Task}
-use Rattle.fond_game.proofs.Lists.{Contains_numbered, number_of}
-use Rattle.fond_game.proofs.Reached.{reached_long}
-use Rattle.fond_game.specs.Certificates.{ReachesCount}
-use Rattle.fond_game.specs.Policies.{IsGoal, IsNext, Policy, Reach, start, onward}
+use Rattle.fond_task.proofs.Lists.{Contains_numbered, number_of}
+use Rattle.fond_task.proofs.Reached.{reached_long}
+use Rattle.fond_task.specs.Certificates.{ReachesCount}
+use Rattle.fond_task.specs.Policies.{IsGoal, IsNext, Policy, Reach, start, onward}
 use Rattle.fond_laws.specs.Alike.{HaveSameValues, IsSameAct, IsSameEntry, IsSameTask}
 use Rattle.fond_laws.proofs.SameActs.{AreSameEntries, same_image, sym_task}
 use Rattle.fond_laws.proofs.SameLists.{zip-at}

@@ -7,18 +7,18 @@ use Rattle.std.proofs.lemmas.Option.{same_Some}
 use Rattle.fond_text.specs.declared.atom.GroundAction.{GroundAction}
 use Rattle.fond_ast.specs.declared.task.LSchema.{LSchema}
 use Rattle.fond_ast.specs.declared.task.LiftedTask.{LiftedTask}
-use Rattle.fond_meaning.specs.Outcomes.{Literal, outcomes}
+use Rattle.fond_ast.specs.Outcomes.{Literal, outcomes}
 use Rattle.fond_join.specs.Values.{condition_value}
 use Rattle.fond_ground.specs.Grounds.{AreOutcomesOf, IsActOf, IsEntryOf, IsGroundOf, kept_actions}
 use Rattle.fond_ground.specs.Values.{atom_value}
 use Rattle.fond_task.specs.declared.task.Act.{Act}
 use Rattle.fond_task.specs.declared.task.Entry.{Entry}
 use Rattle.fond_task.specs.declared.task.Task.{Task}
-use Rattle.fond_game.specs.Certificates.{LiesInLayers}
-use Rattle.fond_game.specs.Layers.{CubeView}
-use Rattle.fond_game.specs.Policies.{selected}
-use Rattle.fond_game.specs.declared.rule.Pair.{Pair}
-use Rattle.fond_game.specs.declared.rule.Rule.{Rule}
+use Rattle.fond_task.specs.Certificates.{LiesInLayers}
+use Rattle.fond_task.specs.Layers.{CubeView}
+use Rattle.fond_task.specs.Policies.{selected}
+use Rattle.fond_task.specs.declared.rule.Pair.{Pair}
+use Rattle.fond_task.specs.declared.rule.Rule.{Rule}
 use Rattle.fond_layers.specs.Over.{AreOver}
 use Rattle.fond_rules.specs.Belongs.{ArePairsOver}
 use Rattle.fond_rules.specs.Select.{AreOver as AreRulesOver}
@@ -29,8 +29,8 @@ use Rattle.fond_policy.specs.Parts.{AreAllLean, AreLean, ArePartsSure, IsRight}
 use Rattle.fond_cover.specs.declared.item.Item.{Item}
 use Rattle.fond_cover.specs.Covers.{IsIn}
 use Rattle.fond_cover.specs.Items.{AreItemsOver, firsts_of}
-use Rattle.fond_meaning.specs.Patterns.{IsUnfairWith}
-use Rattle.fond_relax.specs.Stable.{IsHopeless}
+use Rattle.fond_ast.specs.Patterns.{IsUnfairWith}
+use Rattle.fond_regress.specs.Stable.{IsHopeless}
 use Rattle.fond_ground.proofs.Zips.{zip-length}
 use Rattle.fond_laws.specs.Alike.{AreAlike, IsSameAct, IsSameEntry, IsSameTask}
 use Rattle.fond_laws.proofs.SameActs.{sym_task}

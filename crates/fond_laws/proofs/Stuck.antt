@@ -1,18 +1,18 @@
 -- No trace of a solution gets stuck.
 use Rattle.std.proofs.Common.{◌≡◌, ℕ, List, Some, length, slice_get, refl, sym, subst}
 use Rattle.fond_ast.specs.declared.task.LiftedTask.{LiftedTask}
-use Rattle.fond_play.specs.Games.{start, onward}
-use Rattle.fond_meaning.proofs.Come.{outcomes-come-next}
-use Rattle.fond_meaning.specs.Outcomes.{Literal, outcomes, state_after}
-use Rattle.fond_meaning.specs.Solutions.{IsNext, IsSolution, Reach}
-use Rattle.fond_meaning.specs.States.{State}
+use Rattle.fond_state.specs.Games.{start, onward}
+use Rattle.fond_ast.proofs.Come.{outcomes-come-next}
+use Rattle.fond_ast.specs.Outcomes.{Literal, outcomes, state_after}
+use Rattle.fond_ast.specs.Solutions.{IsNext, IsSolution, Reach}
+use Rattle.fond_ast.specs.States.{State}
 use Rattle.fond_text.specs.declared.atom.GroundAction.{GroundAction}
 use Rattle.fond_task.specs.declared.task.Task.{Task}
-use Rattle.fond_game.proofs.Lists.{Contains-map, Contains_numbered}
-use Rattle.fond_game.specs.declared.rule.Rule.{Rule}
-use Rattle.fond_bridge.specs.Solutions.{rules_policy}
-use Rattle.fond_play.specs.Traces.{Pick, TraceOf}
-use Rattle.fond_bridge.specs.Traces.{Choose, Trace}
+use Rattle.fond_task.proofs.Lists.{Contains-map, Contains_numbered}
+use Rattle.fond_task.specs.declared.rule.Rule.{Rule}
+use Rattle.fond_succ.specs.Solutions.{rules_policy}
+use Rattle.fond_state.specs.Traces.{Pick, TraceOf}
+use Rattle.fond_succ.specs.Traces.{Choose, Trace}
 use Rattle.fond_laws.specs.Replies.{SolutionsNeverStick}
 use Rattle.fond_laws.specs.Stuck.{EndsStuck}
 

@@ -6,15 +6,15 @@ use Rattle.fond_task.specs.declared.task.Act.{Act}
 use Rattle.fond_task.specs.declared.task.Entry.{Entry}
 use Rattle.fond_task.specs.declared.task.Task.{Task}
 use Rattle.fond_task.specs.Values.{value}
-use Rattle.fond_game.specs.declared.rule.Pair.{Pair}
-use Rattle.fond_game.specs.declared.rule.Rule.{Rule}
-use Rattle.fond_game.specs.Layers.{CubeView}
+use Rattle.fond_task.specs.declared.rule.Pair.{Pair}
+use Rattle.fond_task.specs.declared.rule.Rule.{Rule}
+use Rattle.fond_task.specs.Layers.{CubeView}
 use Rattle.fond_policy.specs.Belongs.{Belongs}
 use Rattle.fond_cert.specs.Spellings.{spelling}
 use Rattle.fond_policy.specs.declared.cert.Cert.{Cert}
 use Rattle.fond_policy.specs.Parts.{AreAllLean, AreLean, IsRight}
 use Rattle.fond_cover.specs.declared.item.Item.{Item}
-use Rattle.fond_relax.specs.Stable.{IsHopeless}
+use Rattle.fond_regress.specs.Stable.{IsHopeless}
 
 -- two forms have the same value on every cube
 abbrev pub HaveSameValues : Form → Form → Type 0

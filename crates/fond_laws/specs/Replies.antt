@@ -4,13 +4,13 @@ use Rattle.fond_ast.specs.declared.task.LiftedTask.{LiftedTask}
 use Rattle.fond_task.specs.declared.task.Task.{Task}
 use Rattle.fond_policy.specs.declared.cert.Cert.{Cert}
 use Rattle.fond_policy.specs.Parts.{IsRight}
-use Rattle.fond_relax.specs.Stable.{IsHopeless}
-use Rattle.fond_meaning.specs.Solutions.{IsSolution, IsSolvable, More, initial}
-use Rattle.fond_meaning.specs.States.{State}
-use Rattle.fond_game.specs.declared.rule.Rule.{Rule}
-use Rattle.fond_bridge.specs.Solutions.{rules_policy}
-use Rattle.fond_bridge.specs.Traces.{Trace}
-use Rattle.fond_play.specs.Traces.{Pick}
+use Rattle.fond_regress.specs.Stable.{IsHopeless}
+use Rattle.fond_ast.specs.Solutions.{IsSolution, IsSolvable, More, initial}
+use Rattle.fond_ast.specs.States.{State}
+use Rattle.fond_task.specs.declared.rule.Rule.{Rule}
+use Rattle.fond_succ.specs.Solutions.{rules_policy}
+use Rattle.fond_succ.specs.Traces.{Trace}
+use Rattle.fond_state.specs.Traces.{Pick}
 use Rattle.fond_commands.specs.Certified.{DescribeGround, IsCertText}
 use Rattle.fond_demo.specs.Demos.{demo_domain, demo_problem, demo_side}
 use Rattle.fond_tool.specs.Demos.{demo_text, demo_texts}

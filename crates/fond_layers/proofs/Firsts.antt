@@ -9,7 +9,7 @@ use Rattle.fond_state.specs.Cubes.{LiesIn, lies_in}
 use Rattle.fond_state.proofs.Tested.{lies_in-Decides}
 use Rattle.fond_match.specs.Lies.{cube_lies_in}
 use Rattle.fond_match.specs.Lying.{cube_lies_in-Decides}
-use Rattle.fond_game.specs.Layers.{CubeView, LiesInLayer}
+use Rattle.fond_task.specs.Layers.{CubeView, LiesInLayer}
 use Rattle.fond_layers.specs.Deads.{IsFirstCube}
 use Rattle.fond_layers.proofs.Tried.{all_front, all_of}
 

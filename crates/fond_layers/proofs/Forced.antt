@@ -6,7 +6,7 @@ use Rattle.std.proofs.lemmas.List.Elements.{Contains-get_or}
 use Rattle.fond_task.specs.declared.task.Act.{Act}
 use Rattle.fond_task.specs.declared.task.Entry.{Entry}
 use Rattle.fond_task.specs.Images.{image}
-use Rattle.fond_game.specs.Layers.{CubeView, Leads, EachLeads, SomeLeads, Forces}
+use Rattle.fond_task.specs.Layers.{CubeView, Leads, EachLeads, SomeLeads, Forces}
 use Rattle.fond_layers.specs.Leads.{LiesInSome}
 use Rattle.fond_layers.proofs.Tried.{AllBefore, SomeBefore, all_of, some_of, some_before}
 

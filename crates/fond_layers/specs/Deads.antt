@@ -1,8 +1,8 @@
 -- The first cube of some layers that has a state.
 use Rattle.std.specs.Prelude.{◌≡◌, ℕ, List, Bool, Some, take, slice_get, Contains}
 use Rattle.fond_state.specs.Cubes.{LiesIn}
-use Rattle.fond_game.specs.Layers.{CubeView}
-use Rattle.fond_game.specs.Certificates.{LiesInLayers}
+use Rattle.fond_task.specs.Layers.{CubeView}
+use Rattle.fond_task.specs.Certificates.{LiesInLayers}
 
 -- the cube of this number is the first of a layer in which the state lies
 pub record IsFirstCube (state : List Bool) (layer : List CubeView) (number : ℕ) : Type 0 where

@@ -4,7 +4,7 @@ use Rattle.fond_task.specs.declared.form.Kleene.TheVariants.{No}
 use Rattle.fond_task.specs.declared.task.Act.{Act}
 use Rattle.fond_task.specs.declared.task.Task.{Task}
 use Rattle.fond_task.specs.Values.{value}
-use Rattle.fond_game.specs.Layers.{CubeView, Forces, IsSureCube, IsSureLayer}
+use Rattle.fond_task.specs.Layers.{CubeView, Forces, IsSureCube, IsSureLayer}
 use Rattle.fond_layers.specs.declared.fault.Spot.{Spot}
 use Rattle.fond_layers.specs.declared.fault.Spot.TheVariants.{Goal, NotSure}
 use Rattle.fond_layers.specs.declared.fault.LayerFault.{LayerFault}

@@ -1,6 +1,6 @@
 -- Cubes that lie in one of some layers.
 use Rattle.std.specs.Prelude.{List, Contains}
-use Rattle.fond_game.specs.Layers.{CubeView, LiesInLayer}
+use Rattle.fond_task.specs.Layers.{CubeView, LiesInLayer}
 
 -- a cube lies in one cube of one of the layers
 abbrev pub LiesInSome : CubeView → List (List CubeView) → Type 0

@@ -1,6 +1,6 @@
 -- Layers over the atoms of a task.
 use Rattle.std.specs.Prelude.{◌≡◌, ℕ, List, All, length}
-use Rattle.fond_game.specs.Layers.{CubeView}
+use Rattle.fond_task.specs.Layers.{CubeView}
 
 -- the cubes of a layer are over this many atoms
 abbrev pub IsOver : ℕ → List CubeView → Type 0

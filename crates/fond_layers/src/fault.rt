@@ -7,7 +7,7 @@ use fond_text::fault::NoMemory;
 use thiserror::Error;
 
 /// The first cube of a layer that is not sure, by its number, and what is wrong with it.
-#[derive(Clone, Copy, Debug, PartialEq, Eq)]
+#[derive(Clone, Copy)]
 pub enum Spot {
     /// The goal may be true in the cube.
     Goal { cube: u32 },

@@ -1,6 +1,6 @@
 //! Whether an action leads from a cube into a layer or an earlier one.
 
-ghost use Rattle.fond_game.specs.Layers.{LiesInLayer, Forces};
+ghost use Rattle.fond_task.specs.Layers.{LiesInLayer, Forces};
 ghost use Rattle.fond_layers.specs.Over.{IsOver, AreOver};
 ghost use Rattle.fond_layers.specs.Leads.{LiesInSome};
 ghost use Rattle.fond_task.specs.Within.{is_act_within};

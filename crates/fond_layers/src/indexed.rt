@@ -1,11 +1,11 @@
 //! Layers with an index of their cubes.
 
-ghost use Rattle.fond_game.specs.Layers.{LiesInLayer};
+ghost use Rattle.fond_task.specs.Layers.{LiesInLayer};
 ghost use Rattle.fond_layers.specs.Deads.{IsFirstCube};
 ghost use Rattle.fond_layers.specs.Over.{IsOver};
 ghost use Rattle.fond_state.specs.Cubes.{LiesIn};
 ghost use Rattle.std.specs.Prelude.{◌≡◌, ◌<◌, ◌^◌, length, Contains, Decides, MatchOption};
-ghost use Rattle.fond_game.specs.Layers.{CubeView};
+ghost use Rattle.fond_task.specs.Layers.{CubeView};
 
 use crate::layers::Layer;
 use fond_match::matcher::Matcher;
@@ -22,7 +22,7 @@ pub(crate) struct Indexed {
 }
 
 impl Model for Indexed {
-    ghost use Rattle.fond_game.specs.Layers.{CubeView};
+    ghost use Rattle.fond_task.specs.Layers.{CubeView};
     ghost use Rattle.fond_match.specs.Matchers.{IsMatcherOf};
     ghost use Rattle.std.specs.Prelude.{List, ◌<◌, ◌^◌, length, map};
 

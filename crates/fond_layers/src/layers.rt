@@ -1,7 +1,7 @@
 //! Lists of layers.
 
-ghost use Rattle.fond_game.specs.Certificates.{LiesInLayers};
-ghost use Rattle.fond_game.specs.Layers.{CubeView, IsSureLayer, AreSureLayers};
+ghost use Rattle.fond_task.specs.Certificates.{LiesInLayers};
+ghost use Rattle.fond_task.specs.Layers.{CubeView, IsSureLayer, AreSureLayers};
 ghost use Rattle.fond_layers.specs.Deads.{IsFirstDead};
 ghost use Rattle.fond_layers.specs.Faults.{IsSpot, IsLayerFault};
 ghost use Rattle.fond_layers.specs.Leads.{LiesInSome};
@@ -32,7 +32,7 @@ pub struct Layers {
 }
 
 impl Model for Layers {
-    ghost use Rattle.fond_game.specs.Layers.{CubeView};
+    ghost use Rattle.fond_task.specs.Layers.{CubeView};
     ghost use Rattle.std.specs.Prelude.{List, ◌<◌, ◌^◌, All, length};
 
     ghost Value = { List (List CubeView) };

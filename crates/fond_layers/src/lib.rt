@@ -1,5 +1,5 @@
 //! Layers of cubes from which no solution escapes, and what makes a layer sure above earlier ones. Layers that are sure
-//! hold states that no solution reaches (fond_game); finding them is left to the crates above.
+//! hold states that no solution reaches (fond_task); finding them is left to the crates above.
 #![tactic(auto)]
 
 pub mod fault;

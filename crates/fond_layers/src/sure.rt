@@ -1,6 +1,6 @@
 //! Whether a layer is sure above earlier ones.
 
-ghost use Rattle.fond_game.specs.Layers.{Forces, IsSureCube, IsSureLayer};
+ghost use Rattle.fond_task.specs.Layers.{Forces, IsSureCube, IsSureLayer};
 ghost use Rattle.fond_layers.specs.Faults.{Escapes, IsFirstEscape, IsWrong, IsSpot, cube_number};
 ghost use Rattle.fond_layers.specs.Over.{IsOver, AreOver};
 ghost use Rattle.fond_task.specs.Values.{value};

@@ -3,7 +3,7 @@
 use crate::condition::{Condition, condition_of};
 use crate::effect::{Effect, effect_of};
 use crate::index::size;
-use fond_hint::step::PlanStep;
+use fond_task::plan_step::PlanStep;
 use fond_task::task::{Act, Outcome, Task};
 use fond_text::fault::NoMemory;
 use std::alloc::Global;

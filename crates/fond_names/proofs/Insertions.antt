@@ -4,8 +4,8 @@ use Rattle.std.specs.Prelude.{if◌then◌else◌}
 use Rattle.std.specs.Option.{option_or}
 use Rattle.std.specs.Str.{bytes_eq}
 use Rattle.std.specs.Cmp.Lexicographic.{nat_list_eq_equiv}
-use Rattle.fond_lookup.specs.Texts.{number_beside, with_text}
-use Rattle.fond_lookup.proofs.Firsts.{number_kept}
+use Rattle.fond_store.specs.Texts.{number_beside, with_text}
+use Rattle.fond_store.proofs.Firsts.{number_kept}
 use Rattle.fond_names.specs.Names.{is_among}
 
 -- a name is there if it was there or is the one that was kept

@@ -1,7 +1,7 @@
 -- Indexes from names to positions.
 use Rattle.std.specs.Prelude.{◌≡◌, ◌||◌, ℕ, Bool, List, is_some, position}
 use Rattle.std.specs.Str.{bytes_eq}
-use Rattle.fond_lookup.specs.Texts.{number_beside}
+use Rattle.fond_store.specs.Texts.{number_beside}
 
 -- an index has the position of the first item of each name
 abbrev pub IsIndex : {A : Type 0} → (A → List ℕ) → List (List ℕ × ℕ) → List A → Type 0

@@ -6,7 +6,7 @@ ghost use Rattle.std.proofs.Props.{props};
 
 use fond_ast::files::{Domain, Problem, Side};
 use fond_kinds::table::TypeTable;
-use fond_lookup::index::TextIndex;
+use fond_store::index::TextIndex;
 
 /// The declarations of the three files. The indexes have the positions of first declarations, that of the objects among
 /// the constants and the objects of the problem, one after the other.

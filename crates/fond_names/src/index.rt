@@ -1,13 +1,13 @@
 //! Indexes from names to the positions of their first declarations.
 
-ghost use Rattle.fond_lookup.specs.Texts.{with_text};
+ghost use Rattle.fond_store.specs.Texts.{with_text};
 ghost use Rattle.fond_text.specs.declared.code.TheConstants.{LONGEST_TEXT};
 ghost use Rattle.fond_names.specs.Indexes.{IsIndex};
 ghost use Rattle.std.specs.Prelude.{◌≡◌, ◌≤◌, ◌<◌, ◌+◌, ◌++◌, IfOk, OnOk, Some, length, slice_get};
 
 use fond_ast::files::{DeclaredList, Schemas};
 use fond_ast::names::{TypedName, TypedNames};
-use fond_lookup::index::TextIndex;
+use fond_store::index::TextIndex;
 use fond_text::fault::NoMemory;
 use fond_text::name::Name;
 use std::alloc::Global;

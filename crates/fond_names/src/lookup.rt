@@ -11,7 +11,7 @@ use crate::index::{index_objects, index_predicates, index_schemas, joined_get};
 use fond_ast::files::{Declared, Domain, Problem, Schema, Side};
 use fond_ast::names::TypedName;
 use fond_kinds::table::TypeTable;
-use fond_lookup::index::TextIndex;
+use fond_store::index::TextIndex;
 use fond_text::fault::NoMemory;
 use fond_text::name::Name;
 use std::alloc::Global;

@@ -1,6 +1,6 @@
 //! The first predicate that is declared again with other parameters.
 
-ghost use Rattle.fond_lookup.specs.Texts.{number_beside};
+ghost use Rattle.fond_store.specs.Texts.{number_beside};
 ghost use Rattle.fond_text.specs.Firsts.{IsFirst};
 ghost use Rattle.fond_names.specs.Faults.{IsRepeatedPredicate};
 ghost use Rattle.fond_names.specs.Names.{is_among};
@@ -13,7 +13,7 @@ use crate::index::insert_name;
 use crate::lookup::find_predicate;
 use fond_ast::files::Declared;
 use fond_ast::names::{Kinds, TypedNames};
-use fond_lookup::index::TextIndex;
+use fond_store::index::TextIndex;
 use fond_text::code::REPEATED_NAME;
 use fond_text::fault::NoMemory;
 use fond_text::first::{Found, earlier, found_if};

@@ -7,7 +7,7 @@ ghost use Rattle.std.specs.Str.{bytes_eq};
 
 use crate::index::index_variables;
 use fond_ast::names::TypedNames;
-use fond_lookup::index::TextIndex;
+use fond_store::index::TextIndex;
 use fond_text::fault::NoMemory;
 use fond_text::name::Name;
 use std::alloc::Global;

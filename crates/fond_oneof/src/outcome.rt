@@ -19,7 +19,7 @@ use std::alloc::Global;
 
 /// Why the outcomes of an effect are not listed: there are too many of them, and this is their number, or 1,000,000 if
 /// there are more; or memory ran out.
-#[derive(Debug, Drop)]
+#[derive(Drop)]
 pub enum OneofFault {
     TooMany(u64),
     NoMemory,

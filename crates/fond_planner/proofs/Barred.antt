@@ -5,10 +5,10 @@ use Rattle.std.specs.Prelude.{MatchOption}
 use Rattle.std.proofs.lemmas.Bool.{false≢true}
 use Rattle.fond_state.specs.Cubes.{CubeLiesIn, full_cube}
 use Rattle.fond_task.specs.declared.task.Task.{Task}
-use Rattle.fond_game.proofs.Lists.{Contains_numbered}
-use Rattle.fond_game.proofs.Reached.{length-next_state}
-use Rattle.fond_game.specs.Certificates.{LiesInLayers}
-use Rattle.fond_game.specs.Layers.{CubeView, IsSurePair}
+use Rattle.fond_task.proofs.Lists.{Contains_numbered}
+use Rattle.fond_task.proofs.Reached.{length-next_state}
+use Rattle.fond_task.specs.Certificates.{LiesInLayers}
+use Rattle.fond_task.specs.Layers.{CubeView, IsSurePair}
 use Rattle.fond_layers.specs.Deads.{IsFirstDead}
 use Rattle.fond_layers.specs.Over.{AreOver}
 use Rattle.fond_planner.specs.Walks.{IsStep}

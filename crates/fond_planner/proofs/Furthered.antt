@@ -3,8 +3,8 @@ use Rattle.std.proofs.Common.{◌≡◌, List, [], ◌∷◌, ◌++◌, length, 
 use Rattle.std.specs.Prelude.{Contains}
 use Rattle.std.proofs.lemmas.List.Elements.{Contains-append_right}
 use Rattle.fond_task.specs.declared.task.Task.{Task}
-use Rattle.fond_game.proofs.Lists.{Contains-here}
-use Rattle.fond_game.specs.declared.rule.Pair.{Pair}
+use Rattle.fond_task.proofs.Lists.{Contains-here}
+use Rattle.fond_task.specs.declared.rule.Pair.{Pair}
 use Rattle.fond_draft.specs.Barring.{EachBarsMore}
 use Rattle.fond_draft.proofs.Barring.{more_first}
 use Rattle.fond_planner.specs.Planners.{BarsMoreThan}

@@ -4,16 +4,16 @@ use Rattle.std.specs.Prelude.{All as Each}
 use Rattle.std.proofs.lemmas.Option.{slice_get_within}
 use Rattle.fond_task.specs.declared.task.Act.{Act}
 use Rattle.fond_task.specs.declared.task.Task.{Task}
-use Rattle.fond_game.proofs.Lists.{Contains-here, Contains_numbered}
-use Rattle.fond_game.specs.Certificates.{LiesInLayers}
-use Rattle.fond_game.specs.Layers.{CubeView}
-use Rattle.fond_game.specs.Rules.{AreMet, IsEarlier}
-use Rattle.fond_game.specs.declared.rule.Pair.{Pair}
-use Rattle.fond_game.specs.declared.rule.Rule.{Rule}
-use Rattle.fond_game.specs.declared.rule.Target.{Target}
-use Rattle.fond_game.specs.declared.rule.Target.TheVariants.{Goal, Rule as ToRule}
-use Rattle.fond_game.specs.declared.rule.Targets.{Targets}
-use Rattle.fond_game.specs.declared.rule.Targets.TheVariants.{One, All}
+use Rattle.fond_task.proofs.Lists.{Contains-here, Contains_numbered}
+use Rattle.fond_task.specs.Certificates.{LiesInLayers}
+use Rattle.fond_task.specs.Layers.{CubeView}
+use Rattle.fond_task.specs.Rules.{AreMet, IsEarlier}
+use Rattle.fond_task.specs.declared.rule.Pair.{Pair}
+use Rattle.fond_task.specs.declared.rule.Rule.{Rule}
+use Rattle.fond_task.specs.declared.rule.Target.{Target}
+use Rattle.fond_task.specs.declared.rule.Target.TheVariants.{Goal, Rule as ToRule}
+use Rattle.fond_task.specs.declared.rule.Targets.{Targets}
+use Rattle.fond_task.specs.declared.rule.Targets.TheVariants.{One, All}
 use Rattle.fond_layers.specs.Over.{IsOver}
 use Rattle.fond_rules.specs.Belongs.{HasTarget}
 use Rattle.fond_policy.specs.Belongs.{BelongAsRules}
@@ -23,8 +23,8 @@ use Rattle.fond_cover.specs.declared.item.Item.{Item}
 use Rattle.fond_covering.specs.Coverings.{IsCovering}
 use Rattle.fond_policy.proofs.Walking.{few_outcomes}
 use Rattle.fond_policy.specs.Parts.{AreSureRules}
-use Rattle.fond_relax.specs.Stable.{IsHopelessBy}
-use Rattle.fond_relax.proofs.Hopeless.{stable_sure}
+use Rattle.fond_regress.specs.Stable.{IsHopelessBy}
+use Rattle.fond_regress.proofs.Hopeless.{stable_sure}
 use Rattle.fond_planner.specs.Decisions.{IsGoodCert}
 use Rattle.fond_draft.specs.Drafts.{IsDraft, IsFitting}
 use Rattle.fond_draft.specs.declared.draft.Draft.{Draft}

@@ -1,10 +1,10 @@
 -- What is reachable through reachable states.
 use Rattle.std.proofs.Common.{◌≡◌, ℕ, List, [], ◌∷◌, Bool, length, sym, ◌∙◌, subst, ⊎_elim}
 use Rattle.std.specs.Prelude.{Contains}
-use Rattle.fond_play.specs.Games.{start, onward}
+use Rattle.fond_state.specs.Games.{start, onward}
 use Rattle.fond_task.specs.declared.task.Task.{Task}
 use Rattle.fond_explicit.proofs.Distinct.{nothing_in}
-use Rattle.fond_game.proofs.Lists.{Contains-cases, Contains_numbered}
+use Rattle.fond_task.proofs.Lists.{Contains-cases, Contains_numbered}
 use Rattle.fond_explicit.specs.Answers.{IsPast as IsPastFrom, IsReachable}
 use Rattle.fond_planner.specs.Decisions.{IsPast}
 use Rattle.fond_policy.proofs.Walking.{added_grows, grown_cases}

@@ -1,14 +1,14 @@
 -- What is decided about a task.
 use Rattle.std.specs.Prelude.{ℕ, ⊤}
-use Rattle.fond_play.specs.Games as games
+use Rattle.fond_state.specs.Games as games
 use Rattle.fond_task.specs.declared.task.Task.{Task}
-use Rattle.fond_game.specs.Policies.{game}
+use Rattle.fond_task.specs.Policies.{game}
 use Rattle.fond_policy.specs.Belongs.{Belongs}
 use Rattle.fond_policy.specs.Sizes.{HasSmallNumbers}
 use Rattle.fond_policy.specs.declared.cert.Cert.{Cert}
 use Rattle.fond_policy.specs.declared.cert.Cert.TheVariants.{Policy, Refusal, Covered}
 use Rattle.fond_policy.specs.Parts.{AreAllLean, IsRight}
-use Rattle.fond_relax.specs.Stable.{IsHopeless}
+use Rattle.fond_regress.specs.Stable.{IsHopeless}
 use Rattle.fond_planner.specs.declared.decide.Decision.{Decision}
 use Rattle.fond_planner.specs.declared.decide.Decision.TheVariants.{Certified, Undecided}
 

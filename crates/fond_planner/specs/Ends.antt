@@ -1,7 +1,7 @@
 -- How the making of a policy ends.
 use Rattle.std.specs.Prelude.{ℕ}
 use Rattle.fond_task.specs.declared.task.Task.{Task}
-use Rattle.fond_game.specs.Certificates.{LiesInLayers}
+use Rattle.fond_task.specs.Certificates.{LiesInLayers}
 use Rattle.fond_covering.specs.Coverings.{IsCovering}
 use Rattle.fond_planner.specs.Decisions.{IsPast}
 use Rattle.fond_planner.specs.declared.decide.End.{End}

@@ -1,7 +1,7 @@
 -- What is found out about a state, and how a round ends, while a policy is made.
 use Rattle.std.specs.Prelude.{ℕ, List, Bool, ⊤}
 use Rattle.fond_task.specs.declared.task.Task.{Task}
-use Rattle.fond_game.specs.Certificates.{LiesInLayers}
+use Rattle.fond_task.specs.Certificates.{LiesInLayers}
 use Rattle.fond_planner.specs.Decisions.{IsPast}
 use Rattle.fond_draft.specs.Targets.{HasRule}
 use Rattle.fond_draft.specs.declared.draft.Draft.{Draft}

@@ -1,7 +1,7 @@
 -- Planners: the draft of a policy, and the plans that are kept for its rules; pairs of which one bars more than others.
 use Rattle.std.specs.Prelude.{List, Contains}
 use Rattle.fond_task.specs.declared.task.Task.{Task}
-use Rattle.fond_game.specs.declared.rule.Pair.{Pair}
+use Rattle.fond_task.specs.declared.rule.Pair.{Pair}
 use Rattle.fond_draft.specs.Barring.{BarsMore}
 use Rattle.fond_draft.specs.Drafts.{IsDraft}
 use Rattle.fond_draft.specs.Plans.{ArePlans}

@@ -8,8 +8,8 @@ ghost use Rattle.fond_planner.specs.Planners.{IsPlanner};
 ghost use Rattle.fond_draft.specs.Plans.{ArePlans, IsPlan};
 ghost use Rattle.fond_draft.specs.Targets.{HasRule};
 ghost use Rattle.fond_explicit.specs.Answers.{AreStuck, AreWinning, IsReachable};
-ghost use Rattle.fond_game.specs.Certificates.{LiesInLayers};
-ghost use Rattle.fond_game.specs.Policies.{IsGoal};
+ghost use Rattle.fond_task.specs.Certificates.{LiesInLayers};
+ghost use Rattle.fond_task.specs.Policies.{IsGoal};
 ghost use Rattle.std.specs.Prelude.{◌≡◌, ◌≤◌, None, true, length, IfOk, IfSome, OnOk};
 
 use crate::planner::Planner;

@@ -1,14 +1,14 @@
 //! Layers that the source proposes. Each is kept only if it is sure.
 
 ghost use Rattle.fond_planner.specs.Planners.{IsPlanner};
-ghost use Rattle.fond_game.specs.Certificates.{LiesInLayers};
+ghost use Rattle.fond_task.specs.Certificates.{LiesInLayers};
 ghost use Rattle.std.specs.Prelude.{◌≡◌, true, length, IfOk, OnOk};
 
 use crate::planner::Planner;
 use crate::source::{Effort, Source};
-use fond_hint::hint::LayerHint;
 use fond_layers::layers::{Layer, Layers};
 use fond_state::state::State;
+use fond_task::hint::LayerHint;
 use fond_task::task::Task;
 use fond_text::fault::NoMemory;
 use std::alloc::Global;

@@ -3,7 +3,7 @@
 ghost use Rattle.fond_draft.specs.Drafts.{IsDraft};
 ghost use Rattle.fond_planner.specs.Planners.{BarsMoreThan, IsPlanner};
 ghost use Rattle.fond_draft.specs.Plans.{ArePlans};
-ghost use Rattle.fond_game.specs.Certificates.{LiesInLayers};
+ghost use Rattle.fond_task.specs.Certificates.{LiesInLayers};
 ghost use Rattle.std.specs.Prelude.{◌≡◌, true, length, IfOk, OnOk};
 
 use crate::source::{Effort, Source};
@@ -11,9 +11,9 @@ use fond_draft::draft::Draft;
 use fond_draft::plan::Plan;
 use fond_explicit::act_index::ActIndex;
 use fond_explicit::filing::index_of;
-use fond_hint::hint::Hint;
 use fond_state::cube::Cube;
 use fond_state::state::State;
+use fond_task::hint::Hint;
 use fond_task::task::Task;
 use fond_text::fault::NoMemory;
 use std::alloc::Global;

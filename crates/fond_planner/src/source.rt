@@ -1,10 +1,10 @@
 //! Where a planner learns of plans and of layers.
 
 use fond_draft::draft::Draft;
-use fond_hint::hint::{Hint, LayerHint};
 use fond_layers::layers::Layers;
 use fond_state::cube::Cube;
 use fond_state::state::State;
+use fond_task::hint::{Hint, LayerHint};
 use fond_task::task::Task;
 use fond_text::fault::NoMemory;
 use std::alloc::Global;

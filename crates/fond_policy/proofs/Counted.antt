@@ -6,9 +6,9 @@ use Rattle.std.proofs.lemmas.List.Elements.{Contains-append_left, Contains-appen
 use Rattle.std.proofs.lemmas.Option.{none-some, same_Some}
 use Rattle.fond_text.specs.Lists.{AreDistinct}
 use Rattle.fond_task.specs.declared.task.Task.{Task}
-use Rattle.fond_game.specs.Policies.{Policy}
-use Rattle.fond_game.specs.Certificates.{ReachesCount}
-use Rattle.fond_game.proofs.Lists.{Contains-cases, Contains-here, Contains-later, number_of}
+use Rattle.fond_task.specs.Policies.{Policy}
+use Rattle.fond_task.specs.Certificates.{ReachesCount}
+use Rattle.fond_task.proofs.Lists.{Contains-cases, Contains-here, Contains-later, number_of}
 use Rattle.fond_policy.specs.Counts.{ReachesMore}
 
 module _ {X : Type 0} where

@@ -1,12 +1,12 @@
 -- The rules of a correct policy certificate with a cover are a solution.
 use Rattle.std.proofs.Common.{ℕ, List}
 use Rattle.fond_task.specs.declared.task.Task.{Task}
-use Rattle.fond_game.specs.declared.rule.Pair.{Pair}
-use Rattle.fond_game.specs.declared.rule.Rule.{Rule}
-use Rattle.fond_game.specs.Layers.{CubeView}
-use Rattle.fond_game.specs.Policies.{selected}
-use Rattle.fond_game.specs.Solutions.{IsSolution}
-use Rattle.fond_game.proofs.Ranks.{solution_by}
+use Rattle.fond_task.specs.declared.rule.Pair.{Pair}
+use Rattle.fond_task.specs.declared.rule.Rule.{Rule}
+use Rattle.fond_task.specs.Layers.{CubeView}
+use Rattle.fond_task.specs.Policies.{selected}
+use Rattle.fond_task.specs.Solutions.{IsSolution}
+use Rattle.fond_task.proofs.Ranks.{solution_by}
 use Rattle.fond_cover.specs.declared.item.Item.{Item}
 use Rattle.fond_cover.proofs.Closed.{items_ruled}
 use Rattle.fond_policy.specs.Parts.{IsRightCover}

@@ -5,7 +5,7 @@ use Rattle.std.proofs.lemmas.Bool.{cases_lt}
 use Rattle.std.proofs.lemmas.Grind.{common_steps}
 use Rattle.std.proofs.lemmas.List.{get_or-take}
 use Rattle.std.proofs.lemmas.Option.{none-some, slice_get-get_or, slice_get_within, same_Some}
-use Rattle.fond_game.proofs.Lists.{number_of}
+use Rattle.fond_task.proofs.Lists.{number_of}
 
 module _ {X : Type 0} (xs : List X) (P : ℕ → X → Type 0) where
   -- this holds of the elements before a number, each with its number

@@ -9,11 +9,11 @@ use Rattle.std.proofs.lemmas.List.{append_assoc, append-nil, get_or_append_left,
 use Rattle.std.proofs.lemmas.List.Elements.{Contains-append_left, Contains-append_cases}
 use Rattle.std.proofs.lemmas.Option.{slice_get-get_or, slice_get_within, get_or_from_slice_get, same_Some}
 use Rattle.fond_task.specs.declared.task.Task.{Task}
-use Rattle.fond_game.specs.declared.rule.Rule.{Rule}
-use Rattle.fond_game.specs.Policies.{Reach, selected, start, onward}
-use Rattle.fond_game.proofs.Lists.{Contains_numbered, Contains-cases, Contains-here, found_at, number_of}
-use Rattle.fond_game.specs.Rules.{IsSureRule}
-use Rattle.fond_game.specs.declared.rule.Pair.{Pair}
+use Rattle.fond_task.specs.declared.rule.Rule.{Rule}
+use Rattle.fond_task.specs.Policies.{Reach, selected, start, onward}
+use Rattle.fond_task.proofs.Lists.{Contains_numbered, Contains-cases, Contains-here, found_at, number_of}
+use Rattle.fond_task.specs.Rules.{IsSureRule}
+use Rattle.fond_task.specs.declared.rule.Pair.{Pair}
 use Rattle.fond_rules.proofs.First.{found_first}
 use Rattle.fond_rules.specs.Belongs.{AreActsThere}
 use Rattle.fond_rules.specs.Select.{selected_rule}

@@ -1,9 +1,9 @@
 -- Certificates that belong to a task.
 use Rattle.std.specs.Prelude.{◌<◌, ◌^◌, List, All, length, ⊤}
 use Rattle.fond_task.specs.declared.task.Task.{Task}
-use Rattle.fond_game.specs.declared.rule.Pair.{Pair}
-use Rattle.fond_game.specs.declared.rule.Rule.{Rule}
-use Rattle.fond_game.specs.Layers.{CubeView}
+use Rattle.fond_task.specs.declared.rule.Pair.{Pair}
+use Rattle.fond_task.specs.declared.rule.Rule.{Rule}
+use Rattle.fond_task.specs.Layers.{CubeView}
 use Rattle.fond_layers.specs.Over.{AreOver}
 use Rattle.fond_rules.specs.Belongs.{ArePairsOver, BelongTo, HaveTargets}
 use Rattle.fond_cover.specs.declared.item.Item.{Item}

@@ -2,9 +2,9 @@
 use Rattle.std.specs.Prelude.{◌≡◌, ◌<◌, ℕ, List, Bool, true, false, None, length, Contains}
 use Rattle.fond_text.specs.Lists.{AreDistinct}
 use Rattle.fond_task.specs.declared.task.Task.{Task}
-use Rattle.fond_game.specs.declared.rule.Rule.{Rule}
-use Rattle.fond_game.specs.Policies.{IsGoal, Policy, Reach, selected}
-use Rattle.fond_game.specs.Certificates.{ReachesCount}
+use Rattle.fond_task.specs.declared.rule.Rule.{Rule}
+use Rattle.fond_task.specs.Policies.{IsGoal, Policy, Reach, selected}
+use Rattle.fond_task.specs.Certificates.{ReachesCount}
 
 -- a policy reaches more than this many states: a list of distinct reached states is longer
 pub record ReachesMore (task : Task) (policy : Policy) (bound : ℕ) : Type 0 where

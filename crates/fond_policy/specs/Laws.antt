@@ -1,11 +1,11 @@
 -- The law of policies with covers.
 use Rattle.std.specs.Prelude.{ℕ, List}
 use Rattle.fond_task.specs.declared.task.Task.{Task}
-use Rattle.fond_game.specs.declared.rule.Pair.{Pair}
-use Rattle.fond_game.specs.declared.rule.Rule.{Rule}
-use Rattle.fond_game.specs.Layers.{CubeView}
-use Rattle.fond_game.specs.Policies.{selected}
-use Rattle.fond_game.specs.Solutions.{IsSolution}
+use Rattle.fond_task.specs.declared.rule.Pair.{Pair}
+use Rattle.fond_task.specs.declared.rule.Rule.{Rule}
+use Rattle.fond_task.specs.Layers.{CubeView}
+use Rattle.fond_task.specs.Policies.{selected}
+use Rattle.fond_task.specs.Solutions.{IsSolution}
 use Rattle.fond_cover.specs.declared.item.Item.{Item}
 use Rattle.fond_policy.specs.Parts.{IsRightCover}
 

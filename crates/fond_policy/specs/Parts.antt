@@ -1,11 +1,11 @@
 -- Which parts of a certificate are sure and lean, and when a certificate is correct.
 use Rattle.std.specs.Prelude.{◌≡◌, ◌<◌, ℕ, List, Some, slice_get, Contains}
 use Rattle.fond_task.specs.declared.task.Task.{Task}
-use Rattle.fond_game.specs.declared.rule.Pair.{Pair}
-use Rattle.fond_game.specs.declared.rule.Rule.{Rule}
-use Rattle.fond_game.specs.Layers.{CubeView, AreSureLayers, IsSurePair}
-use Rattle.fond_game.specs.Rules.{IsSureRule, IsLeanRule, IsLeanPair}
-use Rattle.fond_game.specs.Certificates.{IsRightPolicy, IsRightRefusal}
+use Rattle.fond_task.specs.declared.rule.Pair.{Pair}
+use Rattle.fond_task.specs.declared.rule.Rule.{Rule}
+use Rattle.fond_task.specs.Layers.{CubeView, AreSureLayers, IsSurePair}
+use Rattle.fond_task.specs.Rules.{IsSureRule, IsLeanRule, IsLeanPair}
+use Rattle.fond_task.specs.Certificates.{IsRightPolicy, IsRightRefusal}
 use Rattle.fond_cover.specs.declared.item.Item.{Item}
 use Rattle.fond_cover.specs.Covers.{IsIn}
 use Rattle.fond_cover.specs.Items.{firsts_of, AreSureItems, AreLeanItems}

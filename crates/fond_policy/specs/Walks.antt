@@ -1,9 +1,9 @@
 -- The breadth-first walk through the states that a policy reaches.
 use Rattle.std.specs.Prelude.{◌≡◌, ◌<◌, ◌≤◌, ℕ, List, ◌++◌, Bool, true, false, Option, Some, None, slice_get, length, Contains, IsSome, MatchBool, MatchOption}
 use Rattle.fond_task.specs.declared.task.Task.{Task}
-use Rattle.fond_game.specs.declared.rule.Rule.{Rule}
-use Rattle.fond_game.specs.Policies.{IsGoal, IsNext, Reach, selected}
-use Rattle.fond_game.specs.Certificates.{ReachesCount}
+use Rattle.fond_task.specs.declared.rule.Rule.{Rule}
+use Rattle.fond_task.specs.Policies.{IsGoal, IsNext, Reach, selected}
+use Rattle.fond_task.specs.Certificates.{ReachesCount}
 use Rattle.fond_policy.specs.declared.walk.Walked.{Walked}
 use Rattle.fond_policy.specs.declared.walk.Walked.TheVariants.{More, All}
 use Rattle.fond_policy.specs.Counts.{ReachesMore, IsUnruled}

@@ -2,7 +2,7 @@
 
 ghost use Rattle.fond_policy.specs.Parts.{AreSureRules};
 ghost use Rattle.fond_policy.specs.Walks.{Grows, Expands, IsWalk, IsWalked, IsNumbered, IsWholeWalk, HasAllRuled, HasUnruled, first_unruled};
-ghost use Rattle.fond_game.specs.Policies.{IsNext};
+ghost use Rattle.fond_task.specs.Policies.{IsNext};
 ghost use Rattle.fond_rules.specs.Belongs.{BelongTo};
 ghost use Rattle.fond_task.specs.Truth.{is_true};
 ghost use Rattle.fond_task.specs.declared.task.Act.{Act};

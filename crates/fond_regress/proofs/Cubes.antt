@@ -4,8 +4,8 @@ use Rattle.std.proofs.lemmas.Bool.{cases_eq}
 use Rattle.std.proofs.lemmas.List.{get_or-map, get_or-set_same, get_or-set_other, length-set, length-map}
 use Rattle.std.proofs.lemmas.Option.{none-some, same_Some}
 use Rattle.fond_state.specs.Cubes.{LiesIn, CubeLiesIn, full_cube, literal_at}
-use Rattle.fond_game.specs.Layers.{CubeView}
-use Rattle.fond_lean.proofs.Literals.{literal_within}
+use Rattle.fond_task.specs.Layers.{CubeView}
+use Rattle.fond_rules.proofs.Literals.{literal_within}
 use Rattle.fond_regress.specs.Taken.{TakesFrom}
 
 -- a cube without literals lies around each cube

@@ -1,7 +1,7 @@
 -- Pairs that bar actions in states.
 use Rattle.std.specs.Prelude.{◌≡◌, ℕ, List, Bool, Contains}
 use Rattle.fond_state.specs.Cubes.{LiesIn}
-use Rattle.fond_game.specs.declared.rule.Pair.{Pair}
+use Rattle.fond_task.specs.declared.rule.Pair.{Pair}
 
 -- a pair bars an action in a state: it is of the action, and its condition holds in the state
 abbrev pub Bars : Pair → ℕ → List Bool → Type 0

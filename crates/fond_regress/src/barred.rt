@@ -1,11 +1,11 @@
 //! Whether pairs bar an action in a state.
 
-ghost use Rattle.fond_game.specs.declared.rule.Pair.{Pair};
+ghost use Rattle.fond_task.specs.declared.rule.Pair.{Pair};
 ghost use Rattle.fond_regress.specs.Barred.{Bars, IsBarred};
 ghost use Rattle.std.specs.Prelude.{◌≡◌, length, Contains, Decides};
 
-use fond_game::rule::Pair;
 use fond_state::state::State;
+use fond_task::rule::Pair;
 
 /// Whether the pair bars the action in the state.
 fn bars(pair: &Pair, act: u32, state: &State) -> bool

@@ -1,19 +1,19 @@
 //! Short conditions of rules.
 
-ghost use Rattle.fond_game.specs.Rules.{IsLeanRule, IsSureRule};
+ghost use Rattle.fond_task.specs.Rules.{IsLeanRule, IsSureRule};
 ghost use Rattle.fond_rules.specs.Belongs.{ArePairsOver};
 ghost use Rattle.fond_rules.specs.Select.{AreOver};
 ghost use Rattle.fond_state.specs.Cubes.{LiesIn, full_cube};
 ghost use Rattle.std.specs.Prelude.{◌≡◌, ◌<◌, length, IfOk};
 
 use crate::start::Origin;
-use fond_game::rule::Targets;
-use fond_lean::shorten_from;
+use fond_rules::lean::shorten_from;
 use fond_rules::pairs::Pairs;
 use fond_rules::rule_test::RuleTest;
 use fond_rules::rules::Rules;
 use fond_state::cube::Cube;
 use fond_state::state::State;
+use fond_task::rule::Targets;
 use fond_task::task::Task;
 use fond_text::fault::NoMemory;
 use std::alloc::Global;

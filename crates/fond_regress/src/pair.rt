@@ -1,7 +1,7 @@
 //! Short conditions of pairs.
 
-ghost use Rattle.fond_game.specs.Layers.{CubeView, IsSurePair};
-ghost use Rattle.fond_game.specs.Rules.{IsLeanPair};
+ghost use Rattle.fond_task.specs.Layers.{CubeView, IsSurePair};
+ghost use Rattle.fond_task.specs.Rules.{IsLeanPair};
 ghost use Rattle.fond_layers.specs.Over.{AreOver};
 ghost use Rattle.fond_regress.specs.Named.{HasCube};
 ghost use Rattle.fond_state.specs.Cubes.{CubeLiesIn, LiesIn, full_cube};
@@ -9,12 +9,12 @@ ghost use Rattle.fond_task.specs.declared.task.Act.{Act};
 ghost use Rattle.std.specs.Prelude.{◌≡◌, ◌<◌, List, Some, length, slice_get, IfOk};
 
 use crate::regress::regress;
-use fond_game::rule::Pair;
 use fond_layers::layers::Layers;
-use fond_lean::shorten_from;
+use fond_rules::lean::shorten_from;
 use fond_rules::pair_test::PairTest;
 use fond_state::cube::Cube;
 use fond_state::state::State;
+use fond_task::rule::Pair;
 use fond_task::task::Task;
 use fond_text::fault::NoMemory;
 use std::alloc::Global;

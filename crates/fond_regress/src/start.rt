@@ -10,11 +10,11 @@ ghost use Rattle.std.specs.Prelude.{◌≡◌, ◌<◌, Bool, not, Some, length,
 
 use crate::explain::{explain, take_literal};
 use crate::regress::regress;
-use fond_game::rule::{Target, TargetList, Targets};
 use fond_rules::pairs::Pairs;
 use fond_rules::rules::Rules;
 use fond_state::cube::Cube;
 use fond_task::image::image_of;
+use fond_task::rule::{Target, TargetList, Targets};
 use fond_task::task::{Act, Outcome, Outcomes, Task};
 use fond_text::fault::NoMemory;
 use std::alloc::Global;

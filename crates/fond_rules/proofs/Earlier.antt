@@ -3,14 +3,14 @@ use Rattle.std.proofs.Common.{◌≡◌, ℕ, zero, suc, ◌<◌, List, [], ◌�
 use Rattle.fond_task.specs.declared.task.Act.{Act}
 use Rattle.fond_task.specs.declared.task.Task.{Task}
 use Rattle.fond_task.specs.Images.{image}
-use Rattle.fond_game.specs.declared.rule.Pair.{Pair}
-use Rattle.fond_game.specs.declared.rule.Rule.{Rule}
-use Rattle.fond_game.specs.declared.rule.Target.{Target}
-use Rattle.fond_game.specs.declared.rule.Target.TheVariants.{Goal, Rule as ToRule}
-use Rattle.fond_game.specs.declared.rule.Targets.{Targets}
-use Rattle.fond_game.specs.declared.rule.Targets.TheVariants.{One, All}
-use Rattle.fond_game.specs.Layers.{CubeView}
-use Rattle.fond_game.specs.Rules.{Meets, IsEarlier, AreMet, IsSureRule}
+use Rattle.fond_task.specs.declared.rule.Pair.{Pair}
+use Rattle.fond_task.specs.declared.rule.Rule.{Rule}
+use Rattle.fond_task.specs.declared.rule.Target.{Target}
+use Rattle.fond_task.specs.declared.rule.Target.TheVariants.{Goal, Rule as ToRule}
+use Rattle.fond_task.specs.declared.rule.Targets.{Targets}
+use Rattle.fond_task.specs.declared.rule.Targets.TheVariants.{One, All}
+use Rattle.fond_task.specs.Layers.{CubeView}
+use Rattle.fond_task.specs.Rules.{Meets, IsEarlier, AreMet, IsSureRule}
 
 -- an element before a number is among those before it
 slice_get-take : {X : Type 0} (xs : List X) (n i : ℕ) → i < n → slice_get (take n xs) i ≡ slice_get xs i

@@ -3,3 +3,4 @@ pub mod Held
 pub mod Linked
 pub mod SureTargets
 pub mod Earlier
+pub mod Literals

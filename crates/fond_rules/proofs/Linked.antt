@@ -6,9 +6,9 @@ use Rattle.std.proofs.lemmas.Bool.Decides.{nat_tests}
 use Rattle.std.proofs.lemmas.List.{length-append}
 use Rattle.std.proofs.lemmas.Option.{same_Some, slice_get_within}
 use Rattle.fond_state.specs.Cubes.{Contradicts}
-use Rattle.fond_game.specs.declared.rule.Pair.{Pair}
-use Rattle.fond_game.specs.Layers.{CubeView}
-use Rattle.fond_game.proofs.Lists.{same_numbered, number_of}
+use Rattle.fond_task.specs.declared.rule.Pair.{Pair}
+use Rattle.fond_task.specs.Layers.{CubeView}
+use Rattle.fond_task.proofs.Lists.{same_numbered, number_of}
 use Rattle.fond_rules.specs.Links.{IsPast, IsBefore, IsOf, IsLast, AreLinked}
 use Rattle.fond_rules.specs.Targets.{AllContradict}
 

@@ -3,10 +3,10 @@ use Rattle.std.proofs.Common.{◌≡◌, List, Some, slice_get, sym, ap, ◌∙�
 use Rattle.std.proofs.lemmas.Option.{same_Some}
 use Rattle.fond_state.specs.Cubes.{CubeLiesIn, without_literal}
 use Rattle.fond_task.specs.declared.task.Task.{Task}
-use Rattle.fond_game.specs.declared.rule.Pair.{Pair}
-use Rattle.fond_game.specs.Layers.{CubeView, IsSurePair}
-use Rattle.fond_game.specs.Rules.{IsLeanPair}
-use Rattle.fond_lean.specs.Leans.{IsLean}
+use Rattle.fond_task.specs.declared.rule.Pair.{Pair}
+use Rattle.fond_task.specs.Layers.{CubeView, IsSurePair}
+use Rattle.fond_task.specs.Rules.{IsLeanPair}
+use Rattle.fond_rules.specs.Leans.{IsLean}
 use Rattle.fond_rules.specs.Targets.{LeadsInto}
 
 module _ (task : Task) (layers : List (List CubeView)) (layer : List CubeView) (dead : CubeView) where

@@ -1,10 +1,10 @@
 -- The laws of the selected rule and of the earlier rules.
 use Rattle.std.specs.Prelude.{◌≡◌, ◌↔◌, ℕ, List, Bool, take, option_map, option_and_then, slice_get}
 use Rattle.fond_task.specs.declared.task.Task.{Task}
-use Rattle.fond_game.specs.declared.rule.Pair.{Pair}
-use Rattle.fond_game.specs.declared.rule.Rule.{Rule}
-use Rattle.fond_game.specs.Policies.{selected}
-use Rattle.fond_game.specs.Rules.{IsSureRule}
+use Rattle.fond_task.specs.declared.rule.Pair.{Pair}
+use Rattle.fond_task.specs.declared.rule.Rule.{Rule}
+use Rattle.fond_task.specs.Policies.{selected}
+use Rattle.fond_task.specs.Rules.{IsSureRule}
 use Rattle.fond_rules.specs.Select.{selected_rule}
 
 -- the policy of the rules chooses the action of the selected rule, and no action if no rule is selected

@@ -3,3 +3,4 @@ pub mod Belongs
 pub mod Links
 pub mod Targets
 pub mod Laws
+pub mod Leans

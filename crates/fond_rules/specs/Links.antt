@@ -1,6 +1,6 @@
 -- Pairs that are linked to those before them of the same action.
 use Rattle.std.specs.Prelude.{◌≡◌, ℕ, ◌<◌, List, Option, Some, None, length, slice_get, ⊤}
-use Rattle.fond_game.specs.declared.rule.Pair.{Pair}
+use Rattle.fond_task.specs.declared.rule.Pair.{Pair}
 
 -- a number is past one that was found, if one was
 abbrev pub IsPast : Option ℕ → ℕ → Type 0

@@ -1,7 +1,7 @@
 -- The rule that a rule list selects in a state.
 use Rattle.std.specs.Prelude.{◌≡◌, ℕ, List, Bool, Option, length, position, All}
 use Rattle.fond_state.specs.Cubes.{lies_in}
-use Rattle.fond_game.specs.declared.rule.Rule.{Rule}
+use Rattle.fond_task.specs.declared.rule.Rule.{Rule}
 
 -- the number of the first rule whose literals all hold in the state, if there is one
 abbrev pub selected_rule : List Rule → List Bool → Option ℕ

@@ -3,7 +3,7 @@
 ghost use Rattle.fond_rules.specs.Targets.{LeadsInto};
 ghost use Rattle.std.specs.Prelude.{◌≡◌, length, Decides};
 
-use fond_lean::Test;
+use crate::lean::Test;
 use fond_state::cube::Cube;
 use fond_task::image::image_of;
 use fond_task::task::Task;
@@ -42,7 +42,7 @@ impl<'a> PairTest<'a> {
 }
 
 impl<'a> Test for PairTest<'a> {
-    ghost use Rattle.fond_game.proofs.Images.{image_more};
+    ghost use Rattle.fond_task.proofs.CubeImages.{image_more};
     ghost use Rattle.fond_rules.specs.Targets.{LeadsInto};
     ghost use Rattle.std.specs.Prelude.{length};
 

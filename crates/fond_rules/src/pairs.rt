@@ -1,12 +1,12 @@
 //! Lists of forbidden pairs.
 
-ghost use Rattle.fond_game.specs.declared.rule.Pair.{Pair};
+ghost use Rattle.fond_task.specs.declared.rule.Pair.{Pair};
 ghost use Rattle.fond_rules.specs.Belongs.{ArePairsOver};
 ghost use Rattle.fond_rules.specs.Targets.{AllContradict};
 ghost use Rattle.std.specs.Prelude.{◌≡◌, ◌<◌, [], ◌∷◌, ◌++◌, length, slice_get, Some, Decides, OnOk, OnErr};
 
-use fond_game::rule::Pair;
 use fond_state::cube::Cube;
+use fond_task::rule::Pair;
 use fond_text::fault::NoMemory;
 use std::alloc::Global;
 use std::collections::HashMap;
@@ -28,7 +28,7 @@ pub struct Pairs {
 }
 
 impl Model for Pairs {
-    ghost use Rattle.fond_game.specs.declared.rule.Pair.{Pair};
+    ghost use Rattle.fond_task.specs.declared.rule.Pair.{Pair};
     ghost use Rattle.fond_rules.specs.Links.{AreLinked};
     ghost use Rattle.std.specs.HashMap.{get};
     ghost use Rattle.std.specs.Prelude.{List, map, nat_eq};

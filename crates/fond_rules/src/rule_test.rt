@@ -1,6 +1,6 @@
 //! The test whether a rule with a given condition is sure.
 
-ghost use Rattle.fond_game.specs.Rules.{AreMet, IsSureRule};
+ghost use Rattle.fond_task.specs.Rules.{AreMet, IsSureRule};
 ghost use Rattle.fond_rules.specs.Belongs.{ArePairsOver};
 ghost use Rattle.fond_rules.specs.Select.{AreOver};
 ghost use Rattle.fond_rules.specs.Targets.{MeetsEarlier, EachMeets};
@@ -11,13 +11,13 @@ ghost use Rattle.fond_task.specs.declared.form.Kleene.TheVariants.{Yes};
 ghost use Rattle.std.specs.List.{list_all};
 ghost use Rattle.std.specs.Prelude.{◌≡◌, ◌<◌, ◌≤◌, length, Decides, IsTrue};
 
+use crate::lean::Test;
 use crate::pairs::Pairs;
 use crate::rules::Rules;
-use fond_game::rule::{Target, TargetList, Targets};
-use fond_lean::Test;
 use fond_state::cube::Cube;
 use fond_task::form::{Form, Kleene};
 use fond_task::image::image_of;
+use fond_task::rule::{Target, TargetList, Targets};
 use fond_task::task::{Act, Outcome, Outcomes, Task};
 use fond_task::value::value;
 
@@ -131,8 +131,8 @@ impl<'a> RuleTest<'a> {
 }
 
 impl<'a> Test for RuleTest<'a> {
-    ghost use Rattle.fond_game.specs.Rules.{IsSureRule};
-    ghost use Rattle.fond_game.proofs.More.{sure_more};
+    ghost use Rattle.fond_task.specs.Rules.{IsSureRule};
+    ghost use Rattle.fond_task.proofs.More.{sure_more};
     ghost use Rattle.std.specs.Prelude.{length};
 
     ghost width = { λ test. length test.task.now.atoms };

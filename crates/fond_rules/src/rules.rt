@@ -5,11 +5,11 @@ ghost use Rattle.fond_rules.specs.Select.{selected_rule, AreOver};
 ghost use Rattle.fond_match.specs.Besides.{is_beside};
 ghost use Rattle.std.specs.Prelude.{◌≡◌, ◌<◌, ◌-◌, ◌^◌, List, [], ◌∷◌, ◌++◌, length, position, slice_get, Some, true, All, IfSome, OnOk, OnErr};
 
-use fond_game::rule::Rule;
 use fond_match::index::Index;
 use fond_match::query::{Beside, HasCube};
 use fond_state::cube::Cube;
 use fond_state::state::State;
+use fond_task::rule::Rule;
 use fond_task::task::Task;
 use fond_text::fault::NoMemory;
 use std::alloc::Global;
@@ -22,7 +22,7 @@ struct Item {
 }
 
 impl Model for Item {
-    ghost use Rattle.fond_game.specs.declared.rule.Rule.{Rule};
+    ghost use Rattle.fond_task.specs.declared.rule.Rule.{Rule};
 
     ghost Value = { Rule };
 
@@ -47,7 +47,7 @@ pub struct Rules {
 
 impl Model for Rules {
     ghost use Rattle.std.specs.Prelude.{List, ◌<◌, ◌^◌, length, map};
-    ghost use Rattle.fond_game.specs.declared.rule.Rule.{Rule};
+    ghost use Rattle.fond_task.specs.declared.rule.Rule.{Rule};
     ghost use Rattle.fond_match.specs.Blocks.{IsIndexOf};
 
     ghost Value = { List Rule };

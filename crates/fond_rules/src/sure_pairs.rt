@@ -1,14 +1,14 @@
 //! Whether pairs are sure and lean.
 
-ghost use Rattle.fond_game.specs.Layers.{CubeView, IsSurePair};
-ghost use Rattle.fond_game.specs.Rules.{IsLeanPair};
+ghost use Rattle.fond_task.specs.Layers.{CubeView, IsSurePair};
+ghost use Rattle.fond_task.specs.Rules.{IsLeanPair};
 ghost use Rattle.std.specs.Prelude.{◌≡◌, List, Some, length, slice_get, Decides};
 
+use crate::lean::{Test, is_lean};
 use crate::pad::Pad;
 use crate::pair_test::PairTest;
-use fond_game::rule::Pair;
-use fond_lean::{Test, is_lean};
 use fond_state::cube::Cube;
+use fond_task::rule::Pair;
 use fond_task::task::Task;
 
 /// Whether the pair is sure, if `dead` is the cube that it names. An action or an outcome that the task does not have

@@ -1,16 +1,16 @@
 //! Whether rules are sure and lean.
 
-ghost use Rattle.fond_game.specs.Rules.{IsSureRule, IsLeanRule};
+ghost use Rattle.fond_task.specs.Rules.{IsSureRule, IsLeanRule};
 ghost use Rattle.fond_rules.specs.Belongs.{ArePairsOver};
 ghost use Rattle.fond_rules.specs.Select.{AreOver};
 ghost use Rattle.std.specs.Prelude.{◌≡◌, ◌<◌, ◌≤◌, length, Decides};
 
+use crate::lean::{Test, is_lean};
 use crate::pad::Pad;
 use crate::pairs::Pairs;
 use crate::rule_test::RuleTest;
 use crate::rules::Rules;
-use fond_game::rule::Rule;
-use fond_lean::{Test, is_lean};
+use fond_task::rule::Rule;
 use fond_task::task::Task;
 
 /// Whether the rule is sure at this number of the rules, beside the pairs. Targets of a number that the rules do not

@@ -1,3 +1,5 @@
 pub mod Cubes
 pub mod Words
 pub mod Hashed
+pub mod Games
+pub mod Traces

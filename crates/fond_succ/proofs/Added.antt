@@ -16,9 +16,9 @@ use Rattle.fond_task.specs.Within.{is_act_within, is_entry_within, is_form_withi
 use Rattle.fond_task.specs.declared.task.Act.{Act}
 use Rattle.fond_task.specs.declared.task.Entry.{Entry}
 use Rattle.fond_task.specs.declared.task.Task.{Task}
-use Rattle.fond_meaning.proofs.Come.{all-at}
-use Rattle.fond_meaning.proofs.Members.{Contains-from_Member, Member}
-use Rattle.fond_meaning.proofs.Tested.{some-member}
+use Rattle.fond_ast.proofs.Come.{all-at}
+use Rattle.fond_ast.proofs.Members.{Contains-from_Member, Member}
+use Rattle.fond_ast.proofs.Tested.{some-member}
 use Rattle.fond_succ.specs.Steps.{added}
 
 -- an action of a task has few outcomes

@@ -10,10 +10,10 @@ use Rattle.std.proofs.lemmas.Simd.{map-map}
 use Rattle.std.proofs.lemmas.Option.{same_Some}
 use Rattle.fond_text.specs.declared.atom.GroundAction.{GroundAction}
 use Rattle.fond_ast.specs.declared.task.LiftedTask.{LiftedTask}
-use Rattle.fond_meaning.specs.States.{State}
-use Rattle.fond_meaning.specs.Outcomes.{is_same_state, once as once_of, outcomes, state_after}
-use Rattle.fond_meaning.specs.Solutions.{IsApplicable, initial}
-use Rattle.fond_meaning.proofs.Once.{same-itself, same-states}
+use Rattle.fond_ast.specs.States.{State}
+use Rattle.fond_ast.specs.Outcomes.{is_same_state, once as once_of, outcomes, state_after}
+use Rattle.fond_ast.specs.Solutions.{IsApplicable, initial}
+use Rattle.fond_ast.proofs.Once.{same-itself, same-states}
 use Rattle.fond_task.specs.Steps.{next_state}
 use Rattle.fond_task.specs.Texts as ground_texts
 use Rattle.fond_task.specs.Truth.{is_true}
@@ -23,13 +23,13 @@ use Rattle.fond_task.specs.declared.task.Task.{Task}
 use Rattle.fond_task.proofs.Indices.{length-by_index}
 use Rattle.fond_ground.specs.Grounds.{IsGroundOf}
 use Rattle.fond_ground.specs.Texts.{state_text}
-use Rattle.fond_bridge.specs.Stands.{stands}
-use Rattle.fond_bridge.specs.Games.{IsState, action_of}
-use Rattle.fond_bridge.proofs.Between.{ground-tasks-play, outcomes-lead-alike, stands-is-injective, texts-agree}
-use Rattle.fond_bridge.proofs.Kept.{mapped}
-use Rattle.fond_bridge.proofs.Places.{same_tests}
-use Rattle.fond_bridge.proofs.Plays.{named}
-use Rattle.fond_meaning.proofs.Members.{Member, Member-cases, Member-from_map}
+use Rattle.fond_succ.specs.Stands.{stands}
+use Rattle.fond_succ.specs.Games.{IsState, action_of}
+use Rattle.fond_succ.proofs.Between.{ground-tasks-play, outcomes-lead-alike, stands-is-injective, texts-agree}
+use Rattle.fond_succ.proofs.Kept.{mapped}
+use Rattle.fond_succ.proofs.Firsts.{same_tests}
+use Rattle.fond_succ.proofs.Plays.{named}
+use Rattle.fond_ast.proofs.Members.{Member, Member-cases, Member-from_map}
 use Rattle.fond_succ.specs.Steps.{added, once}
 use Rattle.fond_succ.specs.Successors.{IsSuccessorsText}
 

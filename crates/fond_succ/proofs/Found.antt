@@ -6,10 +6,10 @@ use Rattle.fond_text.specs.declared.atom.GroundAction.{GroundAction}
 use Rattle.fond_ast.specs.Within.{are_ranges_within, is_schema_within}
 use Rattle.fond_ast.specs.declared.task.LSchema.{LSchema}
 use Rattle.fond_ast.specs.declared.task.LiftedTask.{LiftedTask}
-use Rattle.fond_bridge.proofs.Places.{one_place}
-use Rattle.fond_meaning.specs.Conditions.{IsTuple}
-use Rattle.fond_meaning.proofs.Bools.{and-parts}
-use Rattle.fond_meaning.proofs.Come.{all-at}
+use Rattle.fond_succ.proofs.Firsts.{one_place}
+use Rattle.fond_ast.specs.Conditions.{IsTuple}
+use Rattle.fond_ast.proofs.Bools.{and-parts}
+use Rattle.fond_ast.proofs.Come.{all-at}
 use Rattle.fond_task.specs.Texts.{name_at}
 use Rattle.fond_tree.specs.declared.tree.Tree.{Tree}
 use Rattle.fond_tree.specs.Trees.{leaf_of}

@@ -6,7 +6,7 @@ use Rattle.std.proofs.lemmas.Bool.{cases_lt}
 use Rattle.std.proofs.lemmas.Bool.Decides.{nat_tests}
 use Rattle.std.proofs.lemmas.Option.{get_or_from_slice_get, slice_get-get_or}
 use Rattle.fond_task.specs.Texts.{name_at}
-use Rattle.fond_meaning.proofs.Come.{all-at}
+use Rattle.fond_ast.proofs.Come.{all-at}
 
 -- the item of a range at an index is in it
 pub is_in : (range items : List ℕ) (index : ℕ) → items ≡ range → index < length items → Contains range (get_or items index 0)

@@ -11,11 +11,11 @@ use Rattle.std.specs.declared.alloc.Global.{Global}
 use Rattle.std.specs.declared.rc.Rc.{Rc}
 use Rattle.fond_ast.specs.Ranges.{RangeList, is_among, is_rising, objects_of}
 use Rattle.fond_ast.specs.Within.{are_ranges_within}
-use Rattle.fond_meaning.proofs.Come.{all-at}
-use Rattle.fond_meaning.specs.Conditions.{IsTuple}
-use Rattle.fond_meaning.proofs.Members.{Member, Contains-from_Member, Member-from_Contains}
-use Rattle.fond_meaning.proofs.Tested.{member-some, some-member}
-use Rattle.fond_meaning.proofs.Tuples.{tuples-lie-in-ranges}
+use Rattle.fond_ast.proofs.Come.{all-at}
+use Rattle.fond_ast.specs.Conditions.{IsTuple}
+use Rattle.fond_ast.proofs.Members.{Member, Contains-from_Member, Member-from_Contains}
+use Rattle.fond_ast.proofs.Tested.{member-some, some-member}
+use Rattle.fond_ast.proofs.Tuples.{tuples-lie-in-ranges}
 use Rattle.fond_task.specs.Texts.{name_at}
 use Rattle.fond_tree.specs.declared.tree.Tree.{Tree}
 use Rattle.fond_tree.specs.Trees.{leaf_of}

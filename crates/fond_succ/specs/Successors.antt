@@ -4,8 +4,8 @@ use Rattle.std.specs.List.{flat_map}
 use Rattle.fond_text.specs.declared.atom.GroundAction.{GroundAction}
 use Rattle.fond_ast.specs.declared.task.LSchema.{LSchema}
 use Rattle.fond_ast.specs.declared.task.LiftedTask.{LiftedTask}
-use Rattle.fond_meaning.specs.Outcomes.{successors}
-use Rattle.fond_meaning.specs.Solutions.{IsApplicable, initial}
+use Rattle.fond_ast.specs.Outcomes.{successors}
+use Rattle.fond_ast.specs.Solutions.{IsApplicable, initial}
 use Rattle.fond_ground.specs.Texts.{state_text}
 
 -- a text is that of the successors of the initial state by an action that is applicable there: each state to which an

@@ -2,7 +2,7 @@
 
 ghost use Rattle.fond_ast.specs.Within.{are_ranges_within};
 ghost use Rattle.fond_ast.specs.declared.task.LSchema.{LSchema};
-ghost use Rattle.fond_meaning.specs.Conditions.{IsTuple};
+ghost use Rattle.fond_ast.specs.Conditions.{IsTuple};
 ghost use Rattle.fond_task.specs.Texts.{name_at};
 ghost use Rattle.fond_text.specs.declared.atom.GroundAction.{GroundAction};
 ghost use Rattle.fond_succ.specs.Actions.{AreNamesOf, IsAction, NameNone, is_leaf_node, leaf_names, names_of};

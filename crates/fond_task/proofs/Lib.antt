@@ -7,3 +7,12 @@ pub mod Found
 pub mod Puts
 pub mod Images
 pub mod Folded
+pub mod Lists
+pub mod Reached
+pub mod Ranks
+pub mod Forced
+pub mod Stacked
+mod Worked
+pub mod Values
+pub mod CubeImages
+pub mod More

@@ -9,3 +9,9 @@ pub mod Images
 pub mod Laws
 pub mod Texts
 pub mod Numbers
+pub mod Policies
+pub mod Solutions
+pub mod Layers
+pub mod Rules
+pub mod Certificates
+pub mod GameLaws

@@ -1,7 +1,7 @@
 //! Ground conditions.
 
 /// The value of a condition on a cube: false in all its states, not known, or true in all.
-#[derive(Clone, Copy, Debug, PartialEq, Eq)]
+#[derive(Clone, Copy, PartialEq, Eq)]
 pub enum Kleene {
     No,
     Unknown,

@@ -5,13 +5,12 @@ ghost use Rattle.fond_task.specs.Within.{is_entry_within};
 ghost use Rattle.fond_task.specs.Values.{value};
 ghost use Rattle.fond_task.specs.Images.{changed_value, after_changes, image};
 ghost use Rattle.fond_text.specs.Bools.{is_same};
-ghost use Rattle.fond_task.specs.declared.task.Act.{Act};
 ghost use Rattle.fond_task.specs.declared.task.Entry.{Entry};
 ghost use Rattle.std.specs.List.{list_all};
-ghost use Rattle.std.specs.Prelude.{◌≡◌, ◌<◌, ◌==◌, ◌&&◌, if◌then◌else◌, ℕ, List, Some, length, slice_get, slice_set, IsTrue};
+ghost use Rattle.std.specs.Prelude.{◌≡◌, ◌<◌, ◌==◌, ◌&&◌, if◌then◌else◌, ℕ, Some, length, slice_set, IsTrue};
 
 use crate::form::Kleene;
-use crate::task::{Entry, Outcome, Task};
+use crate::task::{Entry, Outcome};
 use crate::value::value;
 use fond_state::cube::Cube;
 
@@ -77,17 +76,4 @@ pub fn image_of(cube: &Cube, entries: &Outcome, out: &mut Cube)
     out.copy_from(cube);
     put_all(entries, cube, false, out);
     put_all(entries, cube, true, out);
-}
-
-/// Makes `out` the image of the cube under this outcome of the action, as `image_of` does.
-pub fn image_into(task: &Task, cube: &Cube, act: u32, outcome: u32, out: &mut Cube)
-    requires long { length cube.now ≡ length task.now.atoms }
-    requires out_long { length out.old ≡ length task.now.atoms }
-    requires there { act < length task.now.acts }
-    requires outcome_there { (a : Act) → slice_get task.now.acts act ≡ Some a → outcome < length a.outcomes }
-    ensures same_length { length out.new ≡ length out.old }
-    ensures next { (a : Act) (entries : List Entry) → slice_get task.now.acts act ≡ Some a → slice_get a.outcomes outcome ≡ Some entries → out.new ≡ image cube.now entries }
-{
-    let entries = task.acts.get(act as usize).outcomes.get(outcome as usize);
-    image_of(cube, entries, out);
 }

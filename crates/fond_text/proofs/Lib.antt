@@ -2,3 +2,4 @@ pub mod Grown
 pub mod Digits
 pub mod Earliest
 pub mod Numerals
+pub mod Lowered

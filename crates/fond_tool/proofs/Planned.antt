@@ -1,16 +1,16 @@
 -- What `plan` replies where it does not end with a refusal of its files.
 use Rattle.std.proofs.Common.{◌≡◌, ℕ, refl, sym, subst}
 use Rattle.fond_ast.specs.declared.task.LiftedTask.{LiftedTask}
-use Rattle.fond_bridge.proofs.Between.{ground-tasks-agree}
+use Rattle.fond_succ.proofs.Between.{ground-tasks-agree}
 use Rattle.fond_cert.specs.Spellings.{spelling}
 use Rattle.fond_policy.specs.declared.cert.Cert.{Cert}
 use Rattle.fond_policy.specs.declared.cert.Cert.TheVariants.{Policy, Refusal, Covered}
 use Rattle.fond_planner.specs.Decisions.{IsDecision, IsGoodCert}
 use Rattle.fond_planner.specs.declared.decide.Decision.{Decision}
 use Rattle.fond_planner.specs.declared.decide.Decision.TheVariants.{Certified, Undecided}
-use Rattle.fond_game.proofs.Forced.{refusals_exclude}
+use Rattle.fond_task.proofs.Forced.{refusals_exclude}
 use Rattle.fond_policy.proofs.Covered.{covers_solve}
-use Rattle.fond_game.specs.Policies.{selected}
+use Rattle.fond_task.specs.Policies.{selected}
 use Rattle.fond_ground.specs.Grounds.{IsGroundOf}
 use Rattle.fond_task.specs.declared.task.Task.{Task}
 use Rattle.fond_tool.specs.Decided.{cert_ending, decision_reply}

@@ -8,13 +8,13 @@ use Rattle.std.specs.List.{list_any}
 use Rattle.std.proofs.lemmas.Bool.{false≢true}
 use Rattle.std.proofs.lemmas.List.Elements.{Contains-append_left, Contains-append_right}
 use Rattle.std.proofs.lemmas.Option.{none-some}
-use Rattle.fond_play.specs.Games.{start, onward}
-use Rattle.fond_game.proofs.Lists.{Contains-here, Contains-map}
-use Rattle.fond_game.proofs.Reached.{reached_long}
-use Rattle.fond_game.specs.Policies.{IsFiniteMap, Policy, Reach}
-use Rattle.fond_game.specs.Solutions.{IsSolution, IsSolvable}
-use Rattle.fond_meaning.proofs.Members.{Contains-from_Member, Member}
-use Rattle.fond_meaning.proofs.Tested.{some-member}
+use Rattle.fond_state.specs.Games.{start, onward}
+use Rattle.fond_task.proofs.Lists.{Contains-here, Contains-map}
+use Rattle.fond_task.proofs.Reached.{reached_long}
+use Rattle.fond_task.specs.Policies.{IsFiniteMap, Policy, Reach}
+use Rattle.fond_task.specs.Solutions.{IsSolution, IsSolvable}
+use Rattle.fond_ast.proofs.Members.{Contains-from_Member, Member}
+use Rattle.fond_ast.proofs.Tested.{some-member}
 use Rattle.fond_store.proofs.Kept.{missing}
 use Rattle.fond_task.specs.declared.task.Task.{Task}
 

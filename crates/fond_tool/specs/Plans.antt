@@ -2,17 +2,17 @@
 use Rattle.std.specs.Prelude.{ℕ, List, ◌++◌, codes}
 use Rattle.std.specs.Fmt.{decimal}
 use Rattle.fond_ast.specs.declared.task.LiftedTask.{LiftedTask}
-use Rattle.fond_meaning.specs.Solutions.{IsSolution, IsSolvable, More}
+use Rattle.fond_ast.specs.Solutions.{IsSolution, IsSolvable, More}
 use Rattle.fond_task.specs.declared.task.Task.{Task}
-use Rattle.fond_game.specs.declared.rule.Pair.{Pair}
-use Rattle.fond_game.specs.declared.rule.Rule.{Rule}
-use Rattle.fond_game.specs.Layers.{CubeView}
-use Rattle.fond_game.specs.Certificates.{IsRightRefusal}
+use Rattle.fond_task.specs.declared.rule.Pair.{Pair}
+use Rattle.fond_task.specs.declared.rule.Rule.{Rule}
+use Rattle.fond_task.specs.Layers.{CubeView}
+use Rattle.fond_task.specs.Certificates.{IsRightRefusal}
 use Rattle.fond_cover.specs.declared.item.Item.{Item}
 use Rattle.fond_policy.specs.declared.cert.Cert.TheVariants.{Refusal, Covered}
 use Rattle.fond_policy.specs.Parts.{AreAllLean, IsRightCover}
-use Rattle.fond_relax.specs.Stable.{IsHopeless}
-use Rattle.fond_bridge.specs.Solutions.{rules_policy}
+use Rattle.fond_regress.specs.Stable.{IsHopeless}
+use Rattle.fond_succ.specs.Solutions.{rules_policy}
 use Rattle.fond_front.specs.Texts.{Texts}
 use Rattle.fond_commands.specs.Certified.{IsCertText, TaskReply}
 use Rattle.fond_commands.specs.Replies.{Reply, line_reply}

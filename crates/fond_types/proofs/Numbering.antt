@@ -4,8 +4,8 @@ use Rattle.std.specs.Prelude.{if◌then◌else◌}
 use Rattle.std.specs.Str.{bytes_eq}
 use Rattle.std.specs.Cmp.Lexicographic.{nat_list_eq_equiv}
 use Rattle.std.proofs.lemmas.Bool.Decides.{nat_tests}
-use Rattle.fond_lookup.specs.Texts.{number_beside, with_text}
-use Rattle.fond_lookup.proofs.Entries.{kept_last}
+use Rattle.fond_store.specs.Texts.{number_beside, with_text}
+use Rattle.fond_store.proofs.Entries.{kept_last}
 use Rattle.fond_types.specs.Meanings.{numbered_from, name_also}
 use Rattle.fond_names.specs.Names.{is_among}
 use Rattle.fond_types.specs.Resolves.{is_number_of}

@@ -8,8 +8,8 @@ use Rattle.std.proofs.lemmas.Grind.{common_steps}
 use Rattle.std.proofs.lemmas.Iterator.Adapters.{position_from-zero}
 use Rattle.fond_ast.specs.declared.names.Term.{Term}
 use Rattle.fond_kinds.proofs.Types.{some_position}
-use Rattle.fond_lookup.proofs.Firsts.{number_kept}
-use Rattle.fond_lookup.specs.Texts.{number_beside, with_text}
+use Rattle.fond_store.proofs.Firsts.{number_kept}
+use Rattle.fond_store.specs.Texts.{number_beside, with_text}
 use Rattle.fond_names.proofs.Differs.{next_left, same_text}
 use Rattle.fond_names.proofs.Members.{or_left, or_right}
 use Rattle.fond_types.specs.Patterns.{first_place, HasPlaces}

@@ -8,7 +8,7 @@ use Rattle.fond_ast.specs.declared.files.Pattern.{Pattern}
 use Rattle.fond_ast.specs.declared.files.Schema.{Schema}
 use Rattle.fond_ast.specs.declared.form.LTerm.{LTerm}
 use Rattle.fond_ast.specs.declared.names.Term.{Term}
-use Rattle.fond_lookup.specs.Texts.{number_beside, with_text}
+use Rattle.fond_store.specs.Texts.{number_beside, with_text}
 use Rattle.fond_names.specs.Names.{Declarations, schema_of}
 use Rattle.fond_names.specs.Unknown.{is_sound_term}
 use Rattle.fond_types.specs.Meanings.{meanings}

@@ -1,6 +1,6 @@
 //! What conditions and effects are numbered by.
 
-ghost use Rattle.fond_lookup.specs.Texts.{number_beside};
+ghost use Rattle.fond_store.specs.Texts.{number_beside};
 ghost use Rattle.fond_types.specs.Context.{are_predicates};
 ghost use Rattle.fond_types.specs.Meanings.{meanings, numbered_from};
 ghost use Rattle.fond_types.specs.Numbered.{AreNumbered};

@@ -7,9 +7,9 @@ ghost use Rattle.fond_types.specs.Meanings.{name_also, names_once, numbered_from
 ghost use Rattle.std.specs.Prelude.{◌≡◌, ◌<◌, ◌≤◌, ◌+◌, ◌^◌, IfOk, OnOk, length};
 
 use crate::numbers::Numbers;
-use fond_lookup::index::TextIndex;
 use fond_names::files::Files;
 use fond_names::index::{insert_name, joined_get};
+use fond_store::index::TextIndex;
 use fond_text::fault::NoMemory;
 use fond_text::name::{Name, Names};
 use std::alloc::Global;

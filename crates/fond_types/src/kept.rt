@@ -1,7 +1,7 @@
 //! Ranges that were computed, to be shared.
 
 use fond_ast::form::Range;
-use fond_lookup::index::TextIndex;
+use fond_store::index::TextIndex;
 use fond_text::name::Names;
 
 /// A range with the names of its types.

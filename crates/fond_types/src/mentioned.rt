@@ -9,8 +9,8 @@ ghost use Rattle.std.specs.Str.{bytes_eq};
 use fond_ast::files::Domain;
 use fond_ast::names::ReadAtom;
 use fond_ast::syntax::Effect;
-use fond_lookup::index::TextIndex;
 use fond_names::index::insert_name;
+use fond_store::index::TextIndex;
 use fond_text::fault::NoMemory;
 use std::alloc::Global;
 

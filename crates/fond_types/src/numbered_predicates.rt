@@ -12,7 +12,7 @@ use crate::ranges::ranges_of;
 use crate::table::Table;
 use fond_ast::files::Declared;
 use fond_ast::task::{LPredicate, LPredicates};
-use fond_lookup::index::TextIndex;
+use fond_store::index::TextIndex;
 use fond_text::fault::NoMemory;
 use std::alloc::Global;
 

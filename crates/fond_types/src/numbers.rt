@@ -3,7 +3,7 @@
 ghost use Rattle.fond_types.specs.Meanings.{numbered_from};
 ghost use Rattle.std.specs.Prelude.{◌≡◌, ◌<◌, ◌^◌, length};
 
-use fond_lookup::index::TextIndex;
+use fond_store::index::TextIndex;
 use fond_text::name::Names;
 
 /// Distinct names in order, and an index of their numbers, which is in a box so that the whole is small to move.

@@ -19,8 +19,8 @@ use crate::ranges::ranges_in;
 use fond_ast::files::Schema;
 use fond_ast::form::{LCond, LEffect, LPatterns};
 use fond_ast::task::{LSchema, LSchemas};
-use fond_lookup::index::TextIndex;
 use fond_names::scope::{Variables, inside, outside};
+use fond_store::index::TextIndex;
 use fond_text::fault::NoMemory;
 use std::alloc::Global;
 

@@ -1,6 +1,6 @@
 //! Declarations without a fault of names, and the numbers of their names.
 
-ghost use Rattle.fond_lookup.specs.Texts.{number_beside};
+ghost use Rattle.fond_store.specs.Texts.{number_beside};
 ghost use Rattle.fond_names.specs.Faults.{StandsInNames};
 ghost use Rattle.fond_names.specs.Files.{declarations_of};
 ghost use Rattle.fond_names.specs.Names.{all_objects, first_of, predicate_of};

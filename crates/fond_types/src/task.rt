@@ -24,10 +24,10 @@ use crate::schemas::numbered_schemas;
 use crate::table::Table;
 use fond_ast::form::LCond;
 use fond_ast::task::{LPredicates, LSchemas, LiftedTask};
-use fond_lookup::index::TextIndex;
 use fond_names::files::Files;
 use fond_names::predicates::index_kinds;
 use fond_names::scope::outside;
+use fond_store::index::TextIndex;
 use fond_text::fault::NoMemory;
 use std::alloc::Global;
 

@@ -19,12 +19,12 @@ use Rattle.fond_task.specs.Images.{image}
 use Rattle.fond_task.specs.Within.{is_act_within, is_entry_within, is_form_within}
 use Rattle.fond_task.proofs.Found.{all_at, pre_within}
 use Rattle.fond_task.proofs.Exact.{exact-image, exact-value}
-use Rattle.fond_game.specs.declared.rule.Pair.{Pair}
-use Rattle.fond_game.specs.Layers.{CubeView, Leads, Forces, IsSureCube, IsSureLayer, IsSurePair}
-use Rattle.fond_game.proofs.Lists.{Contains_numbered, number_of, same_numbered, Contains-map}
-use Rattle.fond_game.proofs.Reached.{length-next_state}
+use Rattle.fond_task.specs.declared.rule.Pair.{Pair}
+use Rattle.fond_task.specs.Layers.{CubeView, Leads, Forces, IsSureCube, IsSureLayer, IsSurePair}
+use Rattle.fond_task.proofs.Lists.{Contains_numbered, number_of, same_numbered, Contains-map}
+use Rattle.fond_task.proofs.Reached.{length-next_state}
 use Rattle.fond_layers.specs.Over.{IsOver, AreOver}
-use Rattle.fond_game.proofs.Images.{image_more}
+use Rattle.fond_task.proofs.CubeImages.{image_more}
 use Rattle.fond_rules.specs.Belongs.{ArePairsOver}
 use Rattle.fond_regress.specs.Barred.{IsBarred}
 use Rattle.fond_weak.specs.Trees.{IsOpened, IsTried, MayLose, StaysAmong}

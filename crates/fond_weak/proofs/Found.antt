@@ -6,20 +6,20 @@ use Rattle.std.proofs.lemmas.Bool.{cases_lt, false≢true}
 use Rattle.std.proofs.lemmas.List.{length-append, reverse-append}
 use Rattle.std.proofs.lemmas.List.Elements.{Contains-append_left}
 use Rattle.std.proofs.lemmas.Option.{none-some, same_Some, slice_get_within}
-use Rattle.fond_play.specs.Games.{start, onward}
+use Rattle.fond_state.specs.Games.{start, onward}
 use Rattle.fond_text.specs.Lists.{AreDistinct}
 use Rattle.fond_store.specs.Stores.{Adds}
 use Rattle.fond_task.specs.declared.task.Act.{Act}
 use Rattle.fond_task.specs.declared.task.Task.{Task}
 use Rattle.fond_task.specs.Steps.{next_state}
-use Rattle.fond_game.specs.declared.rule.Pair.{Pair}
-use Rattle.fond_game.specs.Layers.{CubeView}
-use Rattle.fond_game.specs.Policies.{IsNext}
-use Rattle.fond_game.proofs.Lists.{Contains_numbered, number_of}
-use Rattle.fond_game.proofs.Reached.{length-next_state}
+use Rattle.fond_task.specs.declared.rule.Pair.{Pair}
+use Rattle.fond_task.specs.Layers.{CubeView}
+use Rattle.fond_task.specs.Policies.{IsNext}
+use Rattle.fond_task.proofs.Lists.{Contains_numbered, number_of}
+use Rattle.fond_task.proofs.Reached.{length-next_state}
 use Rattle.fond_explicit.specs.Answers.{IsReachable, IsPast}
 use Rattle.fond_explicit.proofs.Grown.{front_stays, front_was}
-use Rattle.fond_hint.specs.declared.step.PlanStep.{PlanStep}
+use Rattle.fond_task.specs.declared.plan_step.PlanStep.{PlanStep}
 use Rattle.fond_weak.specs.Trees.{LeadsTo, IsLinked, IsTree, IsMore, IsTried, IsOpened, AreOpened}
 use Rattle.fond_weak.specs.Weak.{MayTake, IsWeakPlan}
 use Rattle.fond_weak.specs.declared.tree.Link.{Link}

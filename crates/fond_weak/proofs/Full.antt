@@ -4,8 +4,8 @@ use Rattle.std.specs.Prelude.{◌⊎◌}
 use Rattle.std.proofs.lemmas.Bool.{false≢true}
 use Rattle.std.proofs.lemmas.Option.{none-some, same_Some}
 use Rattle.fond_state.specs.Cubes.{Contradicts, CubeLiesIn, LiesIn, full_cube, literal_at, truth_at}
-use Rattle.fond_game.specs.Layers.{CubeView}
-use Rattle.fond_lean.proofs.Literals.{literal_within}
+use Rattle.fond_task.specs.Layers.{CubeView}
+use Rattle.fond_rules.proofs.Literals.{literal_within}
 
 -- a state lies in its full cube
 pub lies_own : (state : List Bool) → LiesIn state (full_cube state)

@@ -8,9 +8,9 @@ use Rattle.std.proofs.lemmas.Option.{none-some, same_Some}
 use Rattle.fond_task.specs.declared.task.Act.{Act}
 use Rattle.fond_task.specs.declared.task.Task.{Task}
 use Rattle.fond_state.specs.Cubes.{LiesIn}
-use Rattle.fond_game.specs.Certificates.{LiesInLayers}
-use Rattle.fond_game.specs.Layers.{CubeView, AreSureLayers, Forces, IsSureCube}
-use Rattle.fond_game.proofs.Lists.{Contains_numbered, number_of, Contains-here, Contains-cases}
+use Rattle.fond_task.specs.Certificates.{LiesInLayers}
+use Rattle.fond_task.specs.Layers.{CubeView, AreSureLayers, Forces, IsSureCube}
+use Rattle.fond_task.proofs.Lists.{Contains_numbered, number_of, Contains-here, Contains-cases}
 use Rattle.fond_layers.specs.Deads.{IsFirstDead}
 use Rattle.fond_layers.specs.Over.{AreOver, IsOver}
 use Rattle.fond_explicit.proofs.Distinct.{nothing_in}

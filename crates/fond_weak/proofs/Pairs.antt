@@ -3,9 +3,9 @@ use Rattle.std.proofs.Common.{◌≡◌, ℕ, List, [], ◌∷◌, Bool, true, f
 use Rattle.std.specs.Prelude.{◌⊎◌, Contains, Decides}
 use Rattle.std.proofs.lemmas.Bool.{cases_eq, false≢true}
 use Rattle.fond_state.specs.Cubes.{Contradicts, full_cube}
-use Rattle.fond_game.specs.Layers.{CubeView}
-use Rattle.fond_game.specs.declared.rule.Pair.{Pair}
-use Rattle.fond_game.proofs.Lists.{Contains-here, Contains-later, Contains-cases}
+use Rattle.fond_task.specs.Layers.{CubeView}
+use Rattle.fond_task.specs.declared.rule.Pair.{Pair}
+use Rattle.fond_task.proofs.Lists.{Contains-here, Contains-later, Contains-cases}
 use Rattle.fond_rules.specs.Targets.{AllContradict}
 use Rattle.fond_explicit.proofs.Distinct.{nothing_in}
 use Rattle.fond_regress.specs.Barred.{IsBarred}

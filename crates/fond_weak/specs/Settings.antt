@@ -1,8 +1,8 @@
 -- The definitions of weak plans and of trees, in a setting.
 use Rattle.std.specs.Prelude.{ℕ, List, Bool, Contains}
-use Rattle.fond_game.specs.declared.rule.Pair.{Pair}
-use Rattle.fond_game.specs.Layers.{IsSurePair}
-use Rattle.fond_hint.specs.declared.step.PlanStep.{PlanStep}
+use Rattle.fond_task.specs.declared.rule.Pair.{Pair}
+use Rattle.fond_task.specs.Layers.{IsSurePair}
+use Rattle.fond_task.specs.declared.plan_step.PlanStep.{PlanStep}
 use Rattle.fond_weak.specs.Trees.{IsTree, AreTried, IsOpened}
 use Rattle.fond_weak.specs.Weak.{IsWeakPlan, IsFound}
 use Rattle.fond_weak.specs.declared.setting.Setting.{Setting}

@@ -6,12 +6,12 @@ use Rattle.fond_task.specs.declared.task.Entry.{Entry}
 use Rattle.fond_task.specs.declared.task.Task.{Task}
 use Rattle.fond_task.specs.Steps.{next_state}
 use Rattle.fond_task.specs.Truth.{is_true}
-use Rattle.fond_game.specs.declared.rule.Pair.{Pair}
-use Rattle.fond_game.specs.Layers.{CubeView, IsSureLayer}
-use Rattle.fond_game.specs.Policies.{IsGoal}
+use Rattle.fond_task.specs.declared.rule.Pair.{Pair}
+use Rattle.fond_task.specs.Layers.{CubeView, IsSureLayer}
+use Rattle.fond_task.specs.Policies.{IsGoal}
 use Rattle.fond_layers.specs.Over.{IsOver}
 use Rattle.fond_explicit.specs.Answers.{IsPast}
-use Rattle.fond_hint.specs.declared.step.PlanStep.{PlanStep}
+use Rattle.fond_task.specs.declared.plan_step.PlanStep.{PlanStep}
 use Rattle.fond_regress.specs.Barred.{IsBarred}
 use Rattle.fond_weak.specs.declared.weak.Weak.{Weak}
 use Rattle.fond_weak.specs.declared.weak.Weak.TheVariants.{Plan, Unreachable, Spent}

@@ -1,7 +1,7 @@
 //! Opening states breadth first.
 
 ghost use Rattle.fond_explicit.specs.Filings.{IsIndexOf};
-ghost use Rattle.fond_game.specs.Policies.{IsGoal};
+ghost use Rattle.fond_task.specs.Policies.{IsGoal};
 ghost use Rattle.fond_state.specs.Cubes.{full_cube};
 ghost use Rattle.fond_weak.specs.Settings.{HasSurePairs, IsFoundIn, IsPlanIn, IsTreeIn};
 ghost use Rattle.std.specs.Prelude.{◌≡◌, ◌<◌, List, Bool, length, map, slice_get, Some, IfOk};
@@ -13,10 +13,10 @@ use crate::tree::{Scratch, Tree};
 use crate::weak::Weak;
 use fond_explicit::act_index::ActIndex;
 use fond_explicit::filing::index_of;
-use fond_hint::step::PlanSteps;
 use fond_layers::layers::Layer;
 use fond_state::cube::Cube;
 use fond_store::store::Store;
+use fond_task::plan_step::PlanSteps;
 use fond_task::truth::is_goal;
 use fond_text::fault::NoMemory;
 use fond_text::list::List;

@@ -1,6 +1,6 @@
 //! Finding more states.
 
-ghost use Rattle.fond_game.specs.Policies.{IsGoal};
+ghost use Rattle.fond_task.specs.Policies.{IsGoal};
 ghost use Rattle.fond_task.specs.Truth.{is_true};
 ghost use Rattle.fond_task.specs.declared.task.Act.{Act};
 ghost use Rattle.fond_regress.specs.Barred.{IsBarred};
@@ -10,10 +10,10 @@ ghost use Rattle.std.specs.Prelude.{◌≡◌, ◌<◌, [], ◌∷◌, true, len
 
 use crate::setting::Setting;
 use crate::tree::{Link, Node, Tree};
-use fond_hint::step::PlanStep;
 use fond_state::cube::Cube;
 use fond_state::state::State;
 use fond_store::store::Store;
+use fond_task::plan_step::PlanStep;
 use fond_task::step::apply_into;
 use fond_text::fault::NoMemory;
 use std::alloc::Global;

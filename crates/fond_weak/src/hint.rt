@@ -6,10 +6,10 @@ ghost use Rattle.std.specs.Prelude.{IfOk, IfSome};
 use crate::plan::is_plan;
 use crate::setting::Setting;
 use fond_guess::engine::Engine;
-use fond_hint::hint::Hint;
-use fond_hint::step::PlanSteps;
 use fond_layers::layers::{Layer, Layers};
 use fond_rules::pairs::Pairs;
+use fond_task::hint::Hint;
+use fond_task::plan_step::PlanSteps;
 use fond_text::fault::NoMemory;
 use std::alloc::Global;
 

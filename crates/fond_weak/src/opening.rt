@@ -1,7 +1,7 @@
 //! Opening states: trying each action that is applicable in them.
 
 ghost use Rattle.fond_explicit.specs.Filings.{IsIndexOf, AreCandidates};
-ghost use Rattle.fond_game.specs.Policies.{IsGoal};
+ghost use Rattle.fond_task.specs.Policies.{IsGoal};
 ghost use Rattle.fond_task.specs.Truth.{is_true};
 ghost use Rattle.fond_task.specs.declared.task.Act.{Act};
 ghost use Rattle.fond_weak.specs.Settings.{AreTriedIn, IsOpenedIn, IsTreeIn};

@@ -6,9 +6,9 @@ ghost use Rattle.fond_weak.specs.Weak.{IsWeakPlan, MayTake};
 ghost use Rattle.std.specs.Prelude.{◌≡◌, ◌<◌, true, length, slice_get, Some, IfOk};
 
 use crate::setting::Setting;
-use fond_hint::step::PlanStep;
 use fond_state::cube::Cube;
 use fond_state::state::State;
+use fond_task::plan_step::PlanStep;
 use fond_task::step::apply_into;
 use fond_task::task::Task;
 use fond_task::truth::{applicable, is_goal};

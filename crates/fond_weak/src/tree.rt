@@ -3,10 +3,10 @@
 ghost use Rattle.fond_state.specs.Cubes.{full_cube};
 ghost use Rattle.std.specs.Prelude.{◌≡◌};
 
-use fond_hint::step::PlanStep;
 use fond_state::cube::Cube;
 use fond_state::state::State;
 use fond_store::store::Store;
+use fond_task::plan_step::PlanStep;
 
 /// How a state was found: by a step from the state of this number.
 #[derive(Clone, Copy)]

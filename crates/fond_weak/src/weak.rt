@@ -1,7 +1,7 @@
 //! Weak plans from a state.
 
-ghost use Rattle.fond_game.specs.Layers.{AreSureLayers, IsSurePair};
-ghost use Rattle.fond_game.specs.declared.rule.Pair.{Pair};
+ghost use Rattle.fond_task.specs.Layers.{AreSureLayers, IsSurePair};
+ghost use Rattle.fond_task.specs.declared.rule.Pair.{Pair};
 ghost use Rattle.fond_layers.specs.Over.{AreOver};
 ghost use Rattle.fond_rules.specs.Belongs.{ArePairsOver};
 ghost use Rattle.fond_weak.specs.Weak.{IsFound, ShowsLost};
@@ -10,10 +10,10 @@ ghost use Rattle.std.specs.Prelude.{◌≡◌, length, Contains, IfOk, IfSome};
 use crate::breadth::open_from;
 use crate::hint::planned;
 use crate::setting::Setting;
-use fond_hint::step::PlanSteps;
 use fond_layers::layers::{Layer, Layers};
 use fond_rules::pairs::Pairs;
 use fond_state::state::State;
+use fond_task::plan_step::PlanSteps;
 use fond_task::task::Task;
 use fond_text::fault::NoMemory;
 use fond_text::list::List;

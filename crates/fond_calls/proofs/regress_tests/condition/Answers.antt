@@ -1,10 +1,10 @@
 use Rattle.std.proofs.Common.{ℕ, ap, refl, subst, sym}
 use Rattle.std.specs.Prelude.{length}
 use Rattle.fond_state.specs.Cubes.{full_cube}
-use Rattle.fond_game.specs.Layers.{CubeView}
-use Rattle.fond_game.specs.Rules.{IsSureRule}
-use Rattle.fond_game.specs.declared.rule.Target.TheVariants.{Goal}
-use Rattle.fond_game.specs.declared.rule.Targets.TheVariants.{One}
+use Rattle.fond_task.specs.Layers.{CubeView}
+use Rattle.fond_task.specs.Rules.{IsSureRule}
+use Rattle.fond_task.specs.declared.rule.Target.TheVariants.{Goal}
+use Rattle.fond_task.specs.declared.rule.Targets.TheVariants.{One}
 use Rattle.fond_calls.proofs.regress_tests.condition.Goals as goal
 
 pub lean_condition-requires-clause-sure : goal.lean_condition-requires-clause-sure

@@ -1,5 +1,5 @@
 use Rattle.std.proofs.Common.{ap, ◌∙◌, slice_get}
-use Rattle.fond_game.specs.declared.rule.Targets.TheVariants.{One}
+use Rattle.fond_task.specs.declared.rule.Targets.TheVariants.{One}
 use Rattle.fond_cert.specs.declared.values.LineValues.{LineValues}
 use Rattle.fond_cert.proofs.Filled.{same_some}
 use Rattle.fond_cert.proofs.item.fair_of.Goals as goal

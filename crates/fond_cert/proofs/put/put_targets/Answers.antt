@@ -1,6 +1,6 @@
 use Rattle.std.proofs.Common.{ap, map, arith, ℕ, List}
 use Rattle.std.proofs.lemmas.List.{at_drop_more}
-use Rattle.fond_game.specs.declared.rule.Target.{Target}
+use Rattle.fond_task.specs.declared.rule.Target.{Target}
 use Rattle.fond_form.specs.Lines.{spaced}
 use Rattle.fond_cert.specs.Spellings.{target_word}
 use Rattle.fond_cert.proofs.Adding.{adds_same, adding_all, adding_more, adding_none}

@@ -1,5 +1,5 @@
 use Rattle.std.proofs.Common.{◌∙◌, refl, arith}
-use Rattle.fond_game.specs.Rules.{IsLeanPair}
+use Rattle.fond_task.specs.Rules.{IsLeanPair}
 use Rattle.fond_policy.proofs.Firsts.{before_more, among_all}
 use Rattle.fond_check.proofs.lean.are_pairs_lean.Goals as goal
 

@@ -1,5 +1,5 @@
 use Rattle.std.proofs.Common.{◌∙◌, refl, arith}
-use Rattle.fond_game.specs.Rules.{IsLeanRule}
+use Rattle.fond_task.specs.Rules.{IsLeanRule}
 use Rattle.fond_policy.proofs.Firsts.{before_more, before_all}
 use Rattle.fond_check.proofs.lean.are_rules_lean.Goals as goal
 

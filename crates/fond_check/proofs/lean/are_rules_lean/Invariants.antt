@@ -1,5 +1,5 @@
 use Rattle.std.proofs.Common.{◌≡◌, length}
-use Rattle.fond_game.specs.Rules.{IsLeanRule}
+use Rattle.fond_task.specs.Rules.{IsLeanRule}
 use Rattle.fond_policy.proofs.Firsts.{Before}
 use Rattle.fond_check.proofs.lean.are_rules_lean.Given as goal
 

@@ -1,6 +1,6 @@
 use Rattle.std.proofs.Common.{◌∙◌, List, take, sym, subst, arith}
-use Rattle.fond_game.specs.Layers.{CubeView, AreSureLayers}
-use Rattle.fond_game.proofs.Stacked.{AreSureLayers-none, AreSureLayers-push}
+use Rattle.fond_task.specs.Layers.{CubeView, AreSureLayers}
+use Rattle.fond_task.proofs.Stacked.{AreSureLayers-none, AreSureLayers-push}
 use Rattle.fond_policy.proofs.Firsts.{take_next, take_all, element_at}
 use Rattle.fond_check.proofs.parts.bad_layer.Goals as goal
 

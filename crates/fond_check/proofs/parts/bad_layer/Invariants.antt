@@ -1,5 +1,5 @@
 use Rattle.std.proofs.Common.{◌≡◌, length, take}
-use Rattle.fond_game.specs.Layers.{AreSureLayers}
+use Rattle.fond_task.specs.Layers.{AreSureLayers}
 use Rattle.fond_check.proofs.parts.bad_layer.Given as goal
 
 -- the layers so far are sure

@@ -1,5 +1,5 @@
 use Rattle.std.proofs.Common.{◌≡◌, length}
-use Rattle.fond_game.specs.Layers.{IsSurePair}
+use Rattle.fond_task.specs.Layers.{IsSurePair}
 use Rattle.fond_policy.proofs.Firsts.{Before}
 use Rattle.fond_check.proofs.parts.first_bad_pair.Given as goal
 

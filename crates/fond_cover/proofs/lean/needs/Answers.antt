@@ -3,7 +3,7 @@ use Rattle.std.specs.Prelude.{slice_set}
 use Rattle.std.proofs.lemmas.Bool.{false≢true, not-true, not-false}
 use Rattle.std.proofs.lemmas.List.{length-set}
 use Rattle.fond_state.specs.Cubes.{literal_at, without_literal}
-use Rattle.fond_lean.proofs.Literals.{put_back}
+use Rattle.fond_rules.proofs.Literals.{put_back}
 use Rattle.fond_cover.proofs.Placed.{there, sure_with, sure_without}
 use Rattle.fond_cover.proofs.lean.needs.Goals as goal
 

@@ -1,7 +1,7 @@
 use Rattle.std.proofs.Common.{◌≡◌, ℕ, List, Bool, Some, length, slice_get}
-use Rattle.fond_game.specs.Policies.{selected}
-use Rattle.fond_game.proofs.Lists.{Contains_numbered}
-use Rattle.fond_game.proofs.Reached.{reached_long}
+use Rattle.fond_task.specs.Policies.{selected}
+use Rattle.fond_task.proofs.Lists.{Contains_numbered}
+use Rattle.fond_task.proofs.Reached.{reached_long}
 use Rattle.fond_cover.specs.Items.{AreFirstsOver}
 use Rattle.fond_cover.proofs.Ruled.{firsts_belong}
 use Rattle.fond_cover.specs.Items.{firsts_of}

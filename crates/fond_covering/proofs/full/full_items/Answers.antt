@@ -1,8 +1,8 @@
 use Rattle.std.proofs.Common.{◌∙◌, ◌+◌, length, slice_get, sym, ap, subst, ⊎_elim}
 use Rattle.std.proofs.lemmas.Option.{slice_get_within}
-use Rattle.fond_game.specs.Policies.{selected}
-use Rattle.fond_game.proofs.Lists.{Contains_numbered}
-use Rattle.fond_game.proofs.Reached.{reached_long}
+use Rattle.fond_task.specs.Policies.{selected}
+use Rattle.fond_task.proofs.Lists.{Contains_numbered}
+use Rattle.fond_task.proofs.Reached.{reached_long}
 use Rattle.fond_covering.specs.Full.{IsFullItem}
 use Rattle.fond_covering.proofs.Appended.{old_or_last, one_longer}
 use Rattle.fond_covering.proofs.full.full_items.Goals as goal

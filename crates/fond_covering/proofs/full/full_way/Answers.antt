@@ -1,7 +1,7 @@
 use Rattle.std.proofs.Common.{◌≡◌, ◌∙◌, None, sym, subst}
 use Rattle.std.specs.Prelude.{IsSome}
 use Rattle.std.proofs.lemmas.Bool.{false≢true}
-use Rattle.fond_game.specs.Policies.{selected}
+use Rattle.fond_task.specs.Policies.{selected}
 use Rattle.fond_policy.proofs.Walking.{act_there, applies, chosen_none, chosen_some, not_goal}
 use Rattle.fond_covering.proofs.full.full_way.Goals as goal
 

@@ -1,7 +1,7 @@
 use Rattle.std.proofs.Common.{◌≡◌, ◌∙◌, ◌<◌, ◌+◌, length, Some, [], get_or, slice_get, sym, ap, ⊎_elim, arith}
 use Rattle.std.proofs.lemmas.Option.{same_Some, slice_get-get_or}
 use Rattle.fond_task.specs.declared.task.Act.{Act}
-use Rattle.fond_game.proofs.Lists.{Contains_numbered}
+use Rattle.fond_task.proofs.Lists.{Contains_numbered}
 use Rattle.fond_policy.proofs.Walking.{few_outcomes}
 use Rattle.fond_covering.proofs.Appended.{old_or_last, one_longer}
 use Rattle.fond_covering.proofs.full.next_numbers.Goals as goal

@@ -1,8 +1,8 @@
 use Rattle.std.proofs.Common.{◌≡◌, length, ap, sym, ◌∙◌, ◌++◌}
 use Rattle.fond_demo.specs.Demos.{for_each, way}
 use Rattle.fond_demo.proofs.Each.{both}
-use Rattle.fond_random.proofs.Drawn.{counted}
-use Rattle.fond_random.specs.Words.{drawn_words}
+use Rattle.fond_demo.proofs.Drawn.{counted}
+use Rattle.fond_demo.specs.Words.{drawn_words}
 use Rattle.fond_demo.proofs.problem.put_problem.Goals as goal
 
 pub put_ways-requires : goal.put_ways-requires

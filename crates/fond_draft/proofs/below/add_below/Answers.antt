@@ -3,7 +3,7 @@ use Rattle.std.specs.Prelude.{Contains}
 use Rattle.std.proofs.lemmas.Bool.{cases_lt}
 use Rattle.std.proofs.lemmas.Option.{same_Some, slice_get_within}
 use Rattle.fond_policy.proofs.Walking.{grown_at, grown_cases, grown_has, grown_keeps}
-use Rattle.fond_game.proofs.Lists.{Contains_numbered, number_of}
+use Rattle.fond_task.proofs.Lists.{Contains_numbered, number_of}
 use Rattle.fond_draft.proofs.Plans.{choice_of_state, one_choice}
 use Rattle.fond_draft.proofs.Provided.{provided_more}
 use Rattle.fond_draft.proofs.below.add_below.Goals as goal

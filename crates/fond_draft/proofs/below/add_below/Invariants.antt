@@ -1,6 +1,6 @@
 use Rattle.std.proofs.Common.{◌≡◌, ◌-◌, ◌^◌, ◌<◌, ◌≤◌, ℕ, List, Bool, Some, length, slice_get}
 use Rattle.std.specs.Prelude.{Contains}
-use Rattle.fond_game.specs.Policies.{IsNext}
+use Rattle.fond_task.specs.Policies.{IsNext}
 use Rattle.fond_explicit.specs.Answers.{ChoiceView}
 use Rattle.fond_draft.specs.Plans.{IsProvided}
 use Rattle.fond_draft.proofs.below.add_below.Given as goal

@@ -1,7 +1,7 @@
 use Rattle.std.proofs.Common.{inl, inr, ◌∙◌, sym, ap}
 use Rattle.std.specs.Option.{is_some}
 use Rattle.std.specs.Prelude.{Contains}
-use Rattle.fond_game.proofs.Lists.{Contains_numbered}
+use Rattle.fond_task.proofs.Lists.{Contains_numbered}
 use Rattle.fond_policy.proofs.Walking.{added_grows, added_has}
 use Rattle.fond_draft.proofs.Provided.{no_smaller}
 use Rattle.fond_draft.proofs.Rules.{has_selected}

@@ -6,7 +6,7 @@ use Rattle.fond_task.specs.Steps.{next_state}
 use Rattle.fond_task.specs.Truth.{is_true}
 use Rattle.fond_task.specs.declared.task.Act.{Act}
 use Rattle.fond_policy.proofs.Walking.{few_outcomes, grows_none, grows_twice}
-use Rattle.fond_game.proofs.Lists.{Contains_numbered, number_of}
+use Rattle.fond_task.proofs.Lists.{Contains_numbered, number_of}
 use Rattle.fond_explicit.specs.Answers.{ChoiceView}
 use Rattle.fond_draft.specs.Plans.{IsProvided}
 use Rattle.fond_draft.proofs.Plans.{choice_applies, choice_long}

@@ -1,7 +1,7 @@
 use Rattle.std.proofs.Common.{◌≡◌, ◌∙◌, List, Bool, [], sym, subst, ⊎_elim}
 use Rattle.std.specs.Prelude.{Contains}
 use Rattle.std.proofs.lemmas.Option.{same_Some}
-use Rattle.fond_game.proofs.Lists.{Contains_numbered, Contains-here, Contains-cases}
+use Rattle.fond_task.proofs.Lists.{Contains_numbered, Contains-here, Contains-cases}
 use Rattle.fond_explicit.proofs.Distinct.{nothing_in}
 use Rattle.fond_explicit.specs.Answers.{ChoiceView}
 use Rattle.fond_draft.proofs.Plans.{state_of_choice}

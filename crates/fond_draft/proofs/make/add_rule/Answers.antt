@@ -2,7 +2,7 @@ use Rattle.std.proofs.Common.{◌≡◌, ◌∙◌, true, sym, subst}
 use Rattle.std.proofs.lemmas.Option.{same_Some, slice_get_within}
 use Rattle.fond_task.specs.Truth.{is_true}
 use Rattle.fond_task.specs.declared.task.Act.{Act}
-use Rattle.fond_game.specs.declared.rule.Rule.{Rule}
+use Rattle.fond_task.specs.declared.rule.Rule.{Rule}
 use Rattle.fond_draft.proofs.Fitting.{fitting_over}
 use Rattle.fond_draft.proofs.Made.{ruled_more}
 use Rattle.fond_draft.proofs.Sure.{sure_full}

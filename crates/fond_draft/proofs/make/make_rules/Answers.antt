@@ -1,6 +1,6 @@
 use Rattle.std.proofs.Common.{◌<◌, ◌∙◌, List, length, ap, subst, sym}
 use Rattle.std.proofs.lemmas.Option.{slice_get_within}
-use Rattle.fond_game.proofs.Lists.{number_of}
+use Rattle.fond_task.proofs.Lists.{number_of}
 use Rattle.fond_draft.specs.declared.order.Place.{Place}
 use Rattle.fond_draft.specs.Places.{ArePlacesBelow, HavePlaced}
 use Rattle.fond_draft.proofs.make.make_rules.Goals as goal

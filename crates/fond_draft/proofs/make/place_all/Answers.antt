@@ -1,7 +1,7 @@
 use Rattle.std.proofs.Common.{refl, ◌≡◌, ◌∙◌, get_or, sym, ap, subst, arith}
 use Rattle.std.specs.Prelude.{Contains}
 use Rattle.std.proofs.lemmas.Option.{same_Some, slice_get-get_or, slice_get_within}
-use Rattle.fond_game.proofs.Lists.{Contains_numbered}
+use Rattle.fond_task.proofs.Lists.{Contains_numbered}
 use Rattle.fond_explicit.specs.Answers.{ChoiceView}
 use Rattle.fond_draft.specs.declared.order.Place.{Place}
 use Rattle.fond_draft.proofs.Made.{placed_more}

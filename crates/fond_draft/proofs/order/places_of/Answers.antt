@@ -3,7 +3,7 @@ use Rattle.std.specs.Prelude.{Contains}
 use Rattle.std.proofs.lemmas.Bool.{cases_lt}
 use Rattle.std.proofs.lemmas.List.Elements.{Contains-append_left, Contains-append_right, Contains-append_cases}
 use Rattle.std.proofs.lemmas.Option.{same_Some, slice_get_within}
-use Rattle.fond_game.proofs.Lists.{Contains_numbered, Contains-here, Contains-cases, number_of}
+use Rattle.fond_task.proofs.Lists.{Contains_numbered, Contains-here, Contains-cases, number_of}
 use Rattle.fond_explicit.specs.Answers.{ChoiceView}
 use Rattle.fond_draft.specs.Places.{IsPlace}
 use Rattle.fond_draft.specs.declared.order.Place.{Place}

@@ -1,10 +1,10 @@
 use Rattle.std.proofs.Common.{◌≡◌, ◌∙◌, ◌+◌, ◌<◌, List, Bool, length, Some, [], ◌∷◌, get_or, slice_get, length-append, sym, ap, subst, ⊎_elim, arith}
 use Rattle.std.proofs.lemmas.Option.{slice_get-get_or}
 use Rattle.fond_policy.proofs.Walking.{few_outcomes}
-use Rattle.fond_game.proofs.Lists.{Contains_numbered}
+use Rattle.fond_task.proofs.Lists.{Contains_numbered}
 use Rattle.fond_draft.specs.Targets.{IsCovered, LeadsOn}
 use Rattle.fond_draft.proofs.Lists.{push_cases}
-use Rattle.fond_game.specs.declared.rule.Target.{Target}
+use Rattle.fond_task.specs.declared.rule.Target.{Target}
 use Rattle.fond_draft.proofs.target.all_targets.Goals as goal
 
 pub overflow_cast-outcome : goal.overflow_cast-outcome

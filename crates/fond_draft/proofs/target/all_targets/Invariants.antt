@@ -2,7 +2,7 @@ use Rattle.std.proofs.Common.{◌≡◌, ℕ, length, slice_get, Some, List}
 use Rattle.fond_task.specs.Steps.{next_state}
 use Rattle.fond_task.specs.declared.task.Act.{Act}
 use Rattle.fond_task.specs.declared.task.Entry.{Entry}
-use Rattle.fond_game.specs.declared.rule.Target.{Target}
+use Rattle.fond_task.specs.declared.rule.Target.{Target}
 use Rattle.fond_draft.specs.Targets.{LeadsOn}
 use Rattle.fond_draft.proofs.target.all_targets.Given as goal
 

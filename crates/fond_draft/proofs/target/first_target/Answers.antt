@@ -3,7 +3,7 @@ use Rattle.std.proofs.lemmas.Bool.{cases_lt}
 use Rattle.std.proofs.lemmas.Option.{same_Some, slice_get-get_or, slice_get_within}
 use Rattle.fond_task.specs.declared.task.Act.{Act}
 use Rattle.fond_policy.proofs.Walking.{few_outcomes}
-use Rattle.fond_game.proofs.Lists.{number_of}
+use Rattle.fond_task.proofs.Lists.{number_of}
 use Rattle.fond_draft.specs.Targets.{IsCovered, LeadsOn}
 use Rattle.fond_draft.proofs.target.first_target.Goals as goal
 

@@ -6,7 +6,7 @@ use Rattle.std.proofs.lemmas.Option.{same_Some}
 use Rattle.fond_task.specs.Steps.{next_state}
 use Rattle.fond_task.specs.declared.task.Act.{Act}
 use Rattle.fond_task.specs.declared.task.Entry.{Entry}
-use Rattle.fond_game.proofs.Lists.{Contains_numbered}
+use Rattle.fond_task.proofs.Lists.{Contains_numbered}
 use Rattle.fond_draft.specs.Targets.{IsCovered}
 use Rattle.fond_draft.proofs.turn.has_targets.Goals as goal
 

@@ -1,7 +1,7 @@
 use Rattle.std.proofs.Common.{◌∙◌, ℕ, Some, length, sym, ap, subst}
 use Rattle.std.specs.Prelude.{Decides}
 use Rattle.std.proofs.lemmas.List.{length-map}
-use Rattle.fond_game.specs.Layers.{CubeView}
+use Rattle.fond_task.specs.Layers.{CubeView}
 use Rattle.fond_rules.specs.Belongs.{ArePairsOver}
 use Rattle.fond_rules.specs.Targets.{AllContradict}
 use Rattle.fond_draft.proofs.Fitting.{fitting_over}

@@ -4,7 +4,7 @@ use Rattle.std.proofs.lemmas.Option.{same_Some, slice_get-get_or}
 use Rattle.fond_task.specs.Steps.{next_state}
 use Rattle.fond_task.specs.declared.task.Act.{Act}
 use Rattle.fond_policy.proofs.Walking.{few_outcomes}
-use Rattle.fond_game.proofs.Lists.{Contains_numbered}
+use Rattle.fond_task.proofs.Lists.{Contains_numbered}
 use Rattle.fond_draft.specs.Targets.{IsCovered}
 use Rattle.fond_draft.proofs.Turned.{of_all, turn_long, turn_there}
 use Rattle.fond_draft.proofs.turn.is_some_covered.Goals as goal

@@ -2,10 +2,10 @@ use Rattle.std.proofs.Common.{◌≡◌, ◌+◌, ◌-◌, ◌<◌, ◌++◌, �
 use Rattle.std.proofs.lemmas.List.{drop_more, length-drop}
 use Rattle.fond_task.specs.declared.task.Task.{Task}
 use Rattle.fond_task.specs.Truth.{is_true}
-use Rattle.fond_game.specs.declared.rule.Rule.{Rule}
-use Rattle.fond_game.specs.Policies.{IsGoal}
+use Rattle.fond_task.specs.declared.rule.Rule.{Rule}
+use Rattle.fond_task.specs.Policies.{IsGoal}
 use Rattle.fond_exec.specs.Steps.{IsStuck, IsTaken}
-use Rattle.fond_play.specs.Traces.{by_remainder, goal_line}
+use Rattle.fond_state.specs.Traces.{by_remainder, goal_line}
 use Rattle.fond_exec.specs.Traces.{step_line}
 use Rattle.fond_exec.proofs.Chosen.{counted_outcomes}
 use Rattle.fond_exec.proofs.Grown.{grew_after}

@@ -1,5 +1,5 @@
 use Rattle.std.proofs.Common.{◌≡◌, drop}
-use Rattle.fond_play.specs.Traces.{by_remainder}
+use Rattle.fond_state.specs.Traces.{by_remainder}
 use Rattle.fond_exec.proofs.Traced.{Progress}
 use Rattle.fond_exec.proofs.simulate.put_steps.Given as goal
 

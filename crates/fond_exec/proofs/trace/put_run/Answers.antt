@@ -1,5 +1,5 @@
 use Rattle.fond_text.proofs.Grown.{grew_more}
-use Rattle.fond_play.specs.Traces.{as_recorded}
+use Rattle.fond_state.specs.Traces.{as_recorded}
 use Rattle.fond_exec.proofs.Grown.{grew_same}
 use Rattle.fond_exec.proofs.Traced.{traced_and_state}
 use Rattle.fond_exec.proofs.trace.put_run.Goals as goal

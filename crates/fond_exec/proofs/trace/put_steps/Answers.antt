@@ -1,7 +1,7 @@
 use Rattle.std.proofs.Common.{◌++◌, ◌∙◌, refl, slice_get, sym, ap}
 use Rattle.fond_task.specs.declared.task.Task.{Task}
 use Rattle.fond_task.specs.Truth.{is_true}
-use Rattle.fond_play.specs.Traces.{as_recorded}
+use Rattle.fond_state.specs.Traces.{as_recorded}
 use Rattle.fond_exec.specs.Traces.{step_line}
 use Rattle.fond_exec.specs.declared.step.Step.TheVariants.{Took, Done, Stuck, BadOutcome}
 use Rattle.fond_exec.proofs.Grown.{grew_after}

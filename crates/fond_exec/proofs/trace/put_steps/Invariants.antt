@@ -1,5 +1,5 @@
 use Rattle.std.proofs.Common.{◌≡◌, length}
-use Rattle.fond_play.specs.Traces.{as_recorded}
+use Rattle.fond_state.specs.Traces.{as_recorded}
 use Rattle.fond_exec.proofs.Traced.{Progress}
 use Rattle.fond_exec.proofs.trace.put_steps.Given as goal
 

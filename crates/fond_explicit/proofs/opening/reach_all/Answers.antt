@@ -3,7 +3,7 @@ use Rattle.std.proofs.lemmas.List.Elements.{Contains-get_or}
 use Rattle.std.proofs.lemmas.Option.{same_Some, slice_get-get_or}
 use Rattle.fond_task.specs.declared.task.Act.{Act}
 use Rattle.fond_task.specs.declared.task.Entry.{Entry}
-use Rattle.fond_game.specs.Policies.{IsNext}
+use Rattle.fond_task.specs.Policies.{IsNext}
 use Rattle.fond_explicit.specs.Spaces.{AreNexts}
 use Rattle.fond_explicit.specs.Openings.{IsKeptAs}
 use Rattle.fond_explicit.proofs.Grown.{few_outcomes, kept_stay, grown_one, grown_then, nexts_more, take_whole}

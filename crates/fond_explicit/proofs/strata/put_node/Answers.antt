@@ -1,5 +1,5 @@
 use Rattle.std.proofs.Common.{[], sym, ◌∙◌, subst}
-use Rattle.fond_game.specs.Layers.{CubeView}
+use Rattle.fond_task.specs.Layers.{CubeView}
 use Rattle.fond_explicit.specs.Strata.{IsPut}
 use Rattle.fond_explicit.proofs.Choosing.{rounds_skip, rounds_more}
 use Rattle.fond_explicit.proofs.strata.put_node.Goals as goal

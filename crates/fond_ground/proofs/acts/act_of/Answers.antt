@@ -1,5 +1,5 @@
 use Rattle.std.proofs.Common.{◌≡◌, ◌<◌, ◌≤◌, ◌∙◌, ℕ, List, false, sym, subst, length}
-use Rattle.fond_meaning.specs.Outcomes.{outcomes}
+use Rattle.fond_ast.specs.Outcomes.{outcomes}
 use Rattle.fond_oneof.specs.Outcomes.{outcome_lists}
 use Rattle.fond_text.specs.declared.code.TheConstants.{MOST_OUTCOMES, TOO_MANY_OUTCOMES}
 use Rattle.fond_text.specs.declared.fault.Fault.{Fault}

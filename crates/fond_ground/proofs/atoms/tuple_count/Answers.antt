@@ -2,7 +2,7 @@ use Rattle.std.proofs.Common.{◌≡◌, ◌∙◌, ◌+◌, ◌*◌, ◌-◌, �
 use Rattle.std.specs.Prelude.{min}
 use Rattle.std.proofs.lemmas.Grind.{common_steps}
 use Rattle.fond_ast.specs.Ranges.{objects_of}
-use Rattle.fond_meaning.specs.Conditions.{tuples}
+use Rattle.fond_ast.specs.Conditions.{tuples}
 use Rattle.fond_ground.proofs.Counts.{tuples-length, capped_product}
 use Rattle.fond_ground.proofs.Signs.{drop_here}
 use Rattle.fond_ground.proofs.atoms.tuple_count.Goals as goal

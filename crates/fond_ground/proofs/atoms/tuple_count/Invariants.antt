@@ -1,7 +1,7 @@
 use Rattle.std.proofs.Common.{◌≡◌, ◌≤◌, ◌*◌, ◌-◌, ◌^◌, length, drop}
 use Rattle.std.specs.Prelude.{min}
 use Rattle.fond_ast.specs.Ranges.{objects_of}
-use Rattle.fond_meaning.specs.Conditions.{tuples}
+use Rattle.fond_ast.specs.Conditions.{tuples}
 use Rattle.fond_ground.proofs.atoms.tuple_count.Given as goal
 
 abbrev pub invariant-loop-range : goal.invariant-loop-range

@@ -6,9 +6,9 @@ use Rattle.std.proofs.lemmas.List.{append-nil, length-map}
 use Rattle.fond_text.specs.Lists.{concatenations}
 use Rattle.fond_ast.specs.Ranges.{objects_of}
 use Rattle.fond_ast.specs.declared.form.LEffect.{LEffect}
-use Rattle.fond_meaning.specs.Conditions.{ground_atom, tuples}
-use Rattle.fond_meaning.specs.Outcomes.{Literal, outcomes}
-use Rattle.fond_meaning.proofs.Bools.{and-parts}
+use Rattle.fond_ast.specs.Conditions.{ground_atom, tuples}
+use Rattle.fond_ast.specs.Outcomes.{Literal, outcomes}
+use Rattle.fond_ast.proofs.Bools.{and-parts}
 use Rattle.fond_oneof.specs.declared.effect.GroundEffect as made
 use Rattle.fond_oneof.specs.declared.effect.GroundEffect.{GroundEffect}
 use Rattle.fond_ground.specs.Atoms.{atom_number}

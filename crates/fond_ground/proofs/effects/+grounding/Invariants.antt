@@ -1,8 +1,8 @@
 use Rattle.std.proofs.Common.{◌≡◌, ◌++◌, List, true, length, map, drop}
 use Rattle.std.specs.List.{list_all}
 use Rattle.fond_ast.specs.Ranges.{objects_of}
-use Rattle.fond_meaning.specs.Conditions.{tuples}
-use Rattle.fond_meaning.specs.Outcomes.{outcomes}
+use Rattle.fond_ast.specs.Conditions.{tuples}
+use Rattle.fond_ast.specs.Outcomes.{outcomes}
 use Rattle.fond_oneof.specs.declared.effect.GroundEffect.{GroundEffect}
 use Rattle.fond_ground.specs.Effects.{is_numbered, numbered_by, HaveOutcomes}
 use Rattle.fond_ground.proofs.effects.+grounding.Given as goal

@@ -4,7 +4,7 @@ use Rattle.std.proofs.lemmas.Grind.{common_steps}
 use Rattle.std.proofs.Math.Seq.{take-append_seam}
 use Rattle.fond_ast.specs.Ranges.{objects_of}
 use Rattle.fond_join.specs.Values.{condition_value}
-use Rattle.fond_meaning.specs.Conditions.{ground_atom, tuples}
+use Rattle.fond_ast.specs.Conditions.{ground_atom, tuples}
 use Rattle.fond_task.specs.declared.form.Kleene.{Kleene}
 use Rattle.fond_task.specs.Junctions.{joined, joined_all, neutral}
 use Rattle.fond_task.specs.Values.{value}

@@ -2,7 +2,7 @@ use Rattle.std.proofs.Common.{◌≡◌, ◌++◌, List, Bool, true, Option, len
 use Rattle.std.specs.List.{fold, list_all}
 use Rattle.fond_ast.specs.Ranges.{objects_of}
 use Rattle.fond_join.specs.Values.{condition_value}
-use Rattle.fond_meaning.specs.Conditions.{tuples}
+use Rattle.fond_ast.specs.Conditions.{tuples}
 use Rattle.fond_task.specs.Junctions.{joined, joined_all}
 use Rattle.fond_task.specs.Within.{is_form_within}
 use Rattle.fond_ground.specs.Atoms.{fluent_atoms}

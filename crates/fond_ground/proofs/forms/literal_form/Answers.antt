@@ -1,7 +1,7 @@
 use Rattle.std.proofs.Common.{◌∙◌, ap}
 use Rattle.std.specs.FinSet as set
-use Rattle.fond_meaning.specs.Conditions.{ground_atom}
-use Rattle.fond_meaning.specs.Solutions.{initial}
+use Rattle.fond_ast.specs.Conditions.{ground_atom}
+use Rattle.fond_ast.specs.Solutions.{initial}
 use Rattle.fond_ground.proofs.Literals.{literal_within, static_literal, tail_of}
 use Rattle.fond_ground.proofs.forms.literal_form.Goals as goal
 

@@ -2,7 +2,7 @@ use Rattle.std.proofs.Common.{◌≡◌, ◌∙◌, ◌+◌, ◌++◌, ◌∷◌
 use Rattle.std.specs.FinSet as set
 use Rattle.std.proofs.lemmas.List.{length-set, map-append, take_more_set}
 use Rattle.fond_text.specs.declared.atom.Atom.{Atom}
-use Rattle.fond_meaning.specs.Solutions.{initial}
+use Rattle.fond_ast.specs.Solutions.{initial}
 use Rattle.fond_ground.proofs.Actions.{take_item}
 use Rattle.fond_ground.proofs.ground.first_state.Goals as goal
 

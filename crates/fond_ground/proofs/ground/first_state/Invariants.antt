@@ -1,6 +1,6 @@
 use Rattle.std.proofs.Common.{◌≡◌, length, map, take}
 use Rattle.std.specs.FinSet as set
-use Rattle.fond_meaning.specs.Solutions.{initial}
+use Rattle.fond_ast.specs.Solutions.{initial}
 use Rattle.fond_ground.proofs.ground.first_state.Given as goal
 
 abbrev pub invariant-loop-i : goal.invariant-loop-i

@@ -2,7 +2,7 @@ use Rattle.std.proofs.Common.{◌≡◌, ◌∙◌, length, sym, ap, arith}
 use Rattle.std.specs.FinSet as set
 use Rattle.std.specs.List.{list_all}
 use Rattle.std.proofs.lemmas.List.{length-map}
-use Rattle.fond_meaning.specs.Solutions.{initial}
+use Rattle.fond_ast.specs.Solutions.{initial}
 use Rattle.fond_task.specs.Within.{is_act_within, is_form_within}
 use Rattle.fond_task.specs.Distinct.{are_distinct_atoms}
 use Rattle.fond_task.specs.Named.{is_named_action, is_named_atom}

@@ -1,6 +1,6 @@
 use Rattle.std.proofs.Common.{map, ap, ◌∙◌}
 use Rattle.std.specs.FinSet as set
-use Rattle.fond_meaning.specs.Solutions.{initial}
+use Rattle.fond_ast.specs.Solutions.{initial}
 use Rattle.fond_ground.proofs.Actions.{handed_on}
 use Rattle.fond_ground.proofs.ground.parts_by.Goals as goal
 

@@ -1,5 +1,5 @@
 use Rattle.std.proofs.Common.{◌≡◌, ◌++◌, ◌∷◌, map, drop}
-use Rattle.fond_meaning.specs.Conditions.{object_of}
+use Rattle.fond_ast.specs.Conditions.{object_of}
 use Rattle.fond_ground.proofs.table.ground_numbers.Given as goal
 
 abbrev pub invariant-loop-term : goal.invariant-loop-term

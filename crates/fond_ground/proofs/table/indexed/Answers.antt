@@ -1,7 +1,7 @@
 use Rattle.std.proofs.Common.{◌∙◌, arith}
 use Rattle.std.proofs.lemmas.Bool.Decides.{nat_tests}
 use Rattle.fond_task.specs.Distinct.{atom_numbers}
-use Rattle.fond_lookup.proofs.Firsts.{has_all}
+use Rattle.fond_store.proofs.Firsts.{has_all}
 use Rattle.fond_ground.proofs.Indexed.{first-same}
 use Rattle.fond_ground.proofs.table.indexed.Goals as goal
 

@@ -1,5 +1,5 @@
 use Rattle.fond_task.specs.Distinct.{atom_numbers}
-use Rattle.fond_lookup.proofs.Firsts.{HasFirsts}
+use Rattle.fond_store.proofs.Firsts.{HasFirsts}
 use Rattle.fond_ground.proofs.table.indexed.Given as goal
 
 abbrev pub invariant-loop-i : goal.invariant-loop-i

@@ -1,7 +1,7 @@
 use Rattle.std.proofs.Common.{◌<◌, [], length, set, get_or, sym, ap, subst, ◌∙◌, arith}
 use Rattle.std.proofs.lemmas.Grind.{common_steps}
 use Rattle.std.proofs.lemmas.List.{get_or_default}
-use Rattle.fond_lookup.specs.Texts.{with_text}
+use Rattle.fond_store.specs.Texts.{with_text}
 use Rattle.fond_join.specs.Tables.{IsEnteredBeside}
 use Rattle.fond_join.proofs.Tables.{put_entered}
 use Rattle.fond_join.proofs.facts.enter.Goals as goal

@@ -2,7 +2,7 @@ use Rattle.std.proofs.Common.{◌≤◌, ◌+◌, ◌||◌, ◌∷◌, length, d
 use Rattle.std.specs.FinSet as sets
 use Rattle.std.specs.FinSet.{contains-empty}
 use Rattle.std.proofs.lemmas.List.{drop_all}
-use Rattle.fond_meaning.specs.States.{atom_cmp, atoms_of}
+use Rattle.fond_ast.specs.States.{atom_cmp, atoms_of}
 use Rattle.fond_join.specs.Tables.{is_entered}
 use Rattle.fond_join.proofs.Items.{drop_item, found_item}
 use Rattle.fond_join.proofs.Tables.{predicate_within, next_entered, or_none}

@@ -1,7 +1,7 @@
 use Rattle.std.proofs.Common.{◌≡◌, ◌||◌, ℕ, List, drop, length, vec_len}
 use Rattle.std.specs.FinSet as set
-use Rattle.fond_meaning.specs.States.{atoms_of}
-use Rattle.fond_meaning.specs.Solutions.{initial}
+use Rattle.fond_ast.specs.States.{atoms_of}
+use Rattle.fond_ast.specs.Solutions.{initial}
 use Rattle.fond_join.specs.Tables.{is_entered}
 use Rattle.fond_join.proofs.facts.tables_of.Given as goal
 

@@ -1,7 +1,7 @@
 use Rattle.std.proofs.Common.{◌≡◌, ◌∷◌, [], ◌++◌, ◌∙◌, ap, sym, subst, length, IfSome, arith}
 use Rattle.std.proofs.lemmas.Grind.{common_steps}
 use Rattle.fond_ast.specs.Ranges.{is_among}
-use Rattle.fond_lookup.specs.Texts.{with_text}
+use Rattle.fond_store.specs.Texts.{with_text}
 use Rattle.fond_join.specs.Rows.{AreNumbered, IsGrown, row_at}
 use Rattle.fond_join.proofs.Rowed.{begun_numbered, begun_grown, begun_added}
 use Rattle.fond_join.proofs.rows.begin.Goals as goal

@@ -4,7 +4,7 @@ use Rattle.std.specs.Prelude.{fold}
 use Rattle.std.proofs.lemmas.List.{get_or_default}
 use Rattle.fond_ast.specs.Ranges.{RangeList, objects_of}
 use Rattle.fond_ast.specs.declared.form.LCond.{LCond}
-use Rattle.fond_meaning.specs.Conditions.{tuples}
+use Rattle.fond_ast.specs.Conditions.{tuples}
 use Rattle.fond_task.specs.Junctions.{joined, joined_all}
 use Rattle.fond_task.specs.declared.form.Junction.TheVariants.{All, Any}
 use Rattle.fond_join.specs.Partial.{partial_value}

@@ -5,7 +5,7 @@ use Rattle.fond_task.specs.Junctions.{joined, joined_all}
 use Rattle.fond_join.specs.Partial.{partial_value}
 use Rattle.fond_join.proofs.Joined.{over_rest}
 use Rattle.fond_join.proofs.Weights.{total, weight}
-use Rattle.fond_meaning.specs.Conditions.{tuples}
+use Rattle.fond_ast.specs.Conditions.{tuples}
 use Rattle.fond_join.proofs.value.+evaluating.Given as goal
 
 abbrev pub decreases-value : goal.decreases-value

@@ -1,6 +1,6 @@
 use Rattle.std.proofs.Common.{◌≡◌, ◌+◌, ◌*◌, ℕ, List, [], refl, ap, ◌∙◌, subst, arith}
-use Rattle.fond_lookup.proofs.Firsts.{HasFirsts, has_all, has_more}
-use Rattle.fond_lookup.specs.Texts.{with_text}
+use Rattle.fond_store.proofs.Firsts.{HasFirsts, has_all, has_more}
+use Rattle.fond_store.specs.Texts.{with_text}
 use Rattle.fond_kinds.specs.Kinds.{root, only_kind}
 use Rattle.fond_kinds.specs.Tables.{type_names}
 use Rattle.fond_kinds.proofs.Numbers.{name_at, kind_at, names_long}

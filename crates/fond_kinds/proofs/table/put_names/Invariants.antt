@@ -1,5 +1,5 @@
 use Rattle.std.proofs.Common.{◌+◌, ◌*◌}
-use Rattle.fond_lookup.proofs.Firsts.{HasFirsts}
+use Rattle.fond_store.proofs.Firsts.{HasFirsts}
 use Rattle.fond_kinds.specs.Tables.{type_names}
 use Rattle.fond_kinds.proofs.table.put_names.Given as goal
 

@@ -7,7 +7,7 @@ use Rattle.fond_task.proofs.Found.{all_at}
 use Rattle.fond_layers.specs.Over.{IsOver, AreOver}
 use Rattle.fond_task.specs.declared.task.Entry.{Entry}
 use Rattle.fond_task.specs.Images.{image}
-use Rattle.fond_game.specs.Layers.{CubeView, Leads, LiesInLayer}
+use Rattle.fond_task.specs.Layers.{CubeView, Leads, LiesInLayer}
 use Rattle.fond_layers.specs.Leads.{LiesInSome}
 use Rattle.fond_layers.proofs.Tried.{read_at, read_Contains, all_more, some_more, each_more}
 use Rattle.fond_layers.proofs.Forced.{forced_by_some, forced_by_each, forced_earlier}

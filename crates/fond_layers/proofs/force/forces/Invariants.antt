@@ -1,6 +1,6 @@
 use Rattle.std.proofs.Common.{◌≡◌, length, Decides}
 use Rattle.fond_task.specs.Images.{image}
-use Rattle.fond_game.specs.Layers.{Leads}
+use Rattle.fond_task.specs.Layers.{Leads}
 use Rattle.fond_layers.specs.Leads.{LiesInSome}
 use Rattle.fond_layers.proofs.Tried.{AllBefore, SomeBefore}
 use Rattle.fond_layers.proofs.force.forces.Given as goal

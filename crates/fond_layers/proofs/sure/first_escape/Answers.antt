@@ -4,7 +4,7 @@ use Rattle.std.specs.List.{list_all}
 use Rattle.fond_task.specs.declared.form.Kleene.TheVariants.{No}
 use Rattle.fond_task.specs.declared.task.Act.{Act}
 use Rattle.fond_task.specs.Values.{value}
-use Rattle.fond_game.specs.Layers.{Forces}
+use Rattle.fond_task.specs.Layers.{Forces}
 use Rattle.fond_layers.specs.Faults.{IsFirstEscape}
 use Rattle.fond_task.specs.Within.{is_act_within}
 use Rattle.fond_task.proofs.Found.{all_at}

@@ -1,7 +1,7 @@
 use Rattle.std.proofs.Common.{◌≡◌, length}
 use Rattle.fond_task.specs.declared.form.Kleene.TheVariants.{No}
 use Rattle.fond_task.specs.Values.{value}
-use Rattle.fond_game.specs.Layers.{Forces}
+use Rattle.fond_task.specs.Layers.{Forces}
 use Rattle.fond_layers.proofs.Tried.{AllBefore}
 use Rattle.fond_layers.proofs.sure.first_escape.Given as goal
 

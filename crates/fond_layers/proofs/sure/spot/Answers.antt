@@ -1,6 +1,6 @@
 use Rattle.std.proofs.Common.{◌≡◌, ◌∙◌, ℕ, List, Some, ap, sym, subst, arith, take}
 use Rattle.std.specs.Prelude.{slice_get, Contains}
-use Rattle.fond_game.specs.Layers.{CubeView, IsSureCube}
+use Rattle.fond_task.specs.Layers.{CubeView, IsSureCube}
 use Rattle.fond_layers.specs.Faults.{cube_number}
 use Rattle.fond_layers.proofs.Tried.{read_at, all_front, all_more, all_of}
 use Rattle.fond_layers.proofs.sure.spot.Goals as goal

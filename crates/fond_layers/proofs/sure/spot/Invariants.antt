@@ -1,5 +1,5 @@
 use Rattle.std.proofs.Common.{◌≡◌, length}
-use Rattle.fond_game.specs.Layers.{IsSureCube}
+use Rattle.fond_task.specs.Layers.{IsSureCube}
 use Rattle.fond_layers.proofs.Tried.{AllBefore}
 use Rattle.fond_layers.proofs.sure.spot.Given as goal
 

@@ -1,5 +1,5 @@
 use Rattle.std.proofs.Common.{◌++◌}
-use Rattle.fond_lookup.proofs.Firsts.{HasFirsts}
+use Rattle.fond_store.proofs.Firsts.{HasFirsts}
 use Rattle.fond_names.proofs.index.index_objects.Given as goal
 
 -- the index has the first position of each name so far

@@ -1,4 +1,4 @@
-use Rattle.fond_lookup.proofs.Firsts.{HasFirsts}
+use Rattle.fond_store.proofs.Firsts.{HasFirsts}
 use Rattle.fond_names.proofs.index.index_schemas.Given as goal
 
 -- the index has the first position of each name so far

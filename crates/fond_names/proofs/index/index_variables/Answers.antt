@@ -1,7 +1,7 @@
 use Rattle.std.proofs.Common.{arith, refl}
 use Rattle.std.proofs.lemmas.Bool.Decides.{nat_tests}
 use Rattle.fond_ast.specs.declared.names.TypedName.{TypedName}
-use Rattle.fond_lookup.proofs.Firsts.{has_all, has_more}
+use Rattle.fond_store.proofs.Firsts.{has_all, has_more}
 use Rattle.fond_names.proofs.index.index_variables.Goals as goal
 
 pub loop-i-preserved : goal.loop-i-preserved

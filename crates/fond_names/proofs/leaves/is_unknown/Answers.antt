@@ -1,5 +1,5 @@
 use Rattle.std.proofs.Common.{◌≡◌, not, is_some, ap, ◌∙◌}
-use Rattle.fond_lookup.specs.Texts.{number_beside}
+use Rattle.fond_store.specs.Texts.{number_beside}
 use Rattle.fond_names.specs.Names.{is_among, schema_names}
 use Rattle.fond_names.proofs.Missing.{negated}
 use Rattle.fond_names.proofs.Positions.{among_position}

@@ -1,6 +1,6 @@
 use Rattle.std.proofs.Common.{◌||◌, ◌+◌, List, drop, is_some, refl, sym, ap, ◌∙◌}
 use Rattle.fond_ast.specs.declared.names.Kind.{Kind}
-use Rattle.fond_lookup.specs.Texts.{number_beside}
+use Rattle.fond_store.specs.Texts.{number_beside}
 use Rattle.fond_names.specs.Names.{is_among}
 use Rattle.fond_names.specs.Same.{kind_names}
 use Rattle.fond_names.proofs.Differs.{next_left}

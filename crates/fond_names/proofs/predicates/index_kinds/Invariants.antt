@@ -1,5 +1,5 @@
 use Rattle.std.proofs.Common.{◌≡◌, ◌||◌, ℕ, List, drop, is_some}
-use Rattle.fond_lookup.specs.Texts.{number_beside}
+use Rattle.fond_store.specs.Texts.{number_beside}
 use Rattle.fond_names.specs.Names.{is_among}
 use Rattle.fond_names.specs.Same.{kind_names}
 use Rattle.fond_names.proofs.predicates.index_kinds.Given as goal

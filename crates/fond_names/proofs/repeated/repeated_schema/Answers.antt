@@ -1,6 +1,6 @@
 use Rattle.std.proofs.Common.{◌≡◌, List, true, map, sym, ap, ◌∙◌, arith}
 use Rattle.fond_ast.specs.declared.files.Schema.{Schema}
-use Rattle.fond_lookup.specs.Texts.{number_beside}
+use Rattle.fond_store.specs.Texts.{number_beside}
 use Rattle.fond_text.specs.declared.code.TheConstants.{REPEATED_NAME}
 use Rattle.fond_names.specs.Names.{is_among}
 use Rattle.fond_names.proofs.Among.{later_none, later_next, later_all}

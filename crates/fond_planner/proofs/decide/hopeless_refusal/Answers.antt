@@ -1,5 +1,5 @@
 use Rattle.std.proofs.Common.{◌≡◌, ◌∙◌, List, [], ◌∷◌, ◌++◌, sym, ap, subst}
-use Rattle.fond_game.specs.Layers.{CubeView}
+use Rattle.fond_task.specs.Layers.{CubeView}
 use Rattle.fond_policy.specs.declared.cert.Cert.TheVariants.{Refusal}
 use Rattle.fond_planner.specs.Decisions.{IsGoodCert}
 use Rattle.fond_planner.proofs.Right.{right_hopeless}

@@ -1,6 +1,6 @@
 use Rattle.std.proofs.Common.{subst}
 use Rattle.std.proofs.lemmas.Option.{slice_get_within}
-use Rattle.fond_game.proofs.Lists.{Contains_numbered}
+use Rattle.fond_task.proofs.Lists.{Contains_numbered}
 use Rattle.fond_draft.specs.Targets.{HasRule}
 use Rattle.fond_draft.proofs.Lists.{read_at}
 use Rattle.fond_draft.proofs.Plans.{choice_of_state}

@@ -1,5 +1,5 @@
 use Rattle.std.proofs.Common.{◌≡◌, ap, arith}
-use Rattle.fond_game.specs.declared.rule.Pair.{Pair}
+use Rattle.fond_task.specs.declared.rule.Pair.{Pair}
 use Rattle.fond_planner.proofs.Barred.{dead_pair}
 use Rattle.fond_planner.proofs.Walked.{state_long}
 use Rattle.fond_planner.proofs.walk.pair_of.Goals as goal

@@ -4,8 +4,8 @@ use Rattle.std.proofs.lemmas.Bool.{cases_lt}
 use Rattle.std.proofs.lemmas.Option.{same_Some, slice_get-get_or, slice_get_within}
 use Rattle.fond_task.specs.Steps.{next_state}
 use Rattle.fond_task.specs.declared.task.Act.{Act}
-use Rattle.fond_game.specs.Policies.{IsNext}
-use Rattle.fond_game.proofs.Lists.{Contains_numbered, number_of}
+use Rattle.fond_task.specs.Policies.{IsNext}
+use Rattle.fond_task.proofs.Lists.{Contains_numbered, number_of}
 use Rattle.fond_policy.proofs.Walking.{few_outcomes, grown_has, grows_twice, grows_weaker}
 use Rattle.fond_policy.proofs.walk.add_successors.Goals as goal
 

@@ -3,7 +3,7 @@ use Rattle.std.specs.Prelude.{Contains}
 use Rattle.fond_task.specs.Steps.{next_state}
 use Rattle.fond_task.specs.declared.task.Act.{Act}
 use Rattle.fond_task.specs.declared.task.Entry.{Entry}
-use Rattle.fond_game.specs.Policies.{IsNext}
+use Rattle.fond_task.specs.Policies.{IsNext}
 use Rattle.fond_policy.specs.Walks.{Grows}
 use Rattle.fond_policy.proofs.walk.add_successors.Given as goal
 

@@ -1,6 +1,6 @@
 use Rattle.std.proofs.Common.{◌≡◌, ◌∙◌, ℕ, Some, None, sym, subst}
 use Rattle.std.proofs.lemmas.Option.{same_Some, none-some}
-use Rattle.fond_game.specs.Policies.{IsNext, selected}
+use Rattle.fond_task.specs.Policies.{IsNext, selected}
 use Rattle.fond_policy.proofs.Walking.{act_there, applies, chosen_none, chosen_some, grows_none, grows_weaker, not_goal, some_is}
 use Rattle.fond_policy.proofs.walk.visit.Goals as goal
 

@@ -1,8 +1,8 @@
 use Rattle.std.proofs.Common.{◌≡◌, ◌∙◌, ◌+◌, ◌≤◌, List, Bool, Some, length, slice_get, sym, ap, subst, arith}
 use Rattle.std.proofs.lemmas.Option.{slice_get_within}
-use Rattle.fond_game.specs.Policies.{selected}
-use Rattle.fond_game.proofs.Lists.{Contains_numbered}
-use Rattle.fond_game.proofs.Reached.{reached_long}
+use Rattle.fond_task.specs.Policies.{selected}
+use Rattle.fond_task.proofs.Lists.{Contains_numbered}
+use Rattle.fond_task.proofs.Reached.{reached_long}
 use Rattle.fond_policy.specs.Walks.{IsUnruledAmong}
 use Rattle.fond_policy.proofs.Walking.{grown_keeps, open_below, open_more, open_one, walk_all, walk_begun, walk_more}
 use Rattle.fond_policy.proofs.walk.walk_on.Goals as goal

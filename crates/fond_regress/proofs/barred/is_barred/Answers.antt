@@ -1,8 +1,8 @@
 use Rattle.std.proofs.Common.{◌≡◌, ◌<◌, ◌∙◌, ℕ, List, Some, length, get_or, slice_get, refl, sym, ap, subst, ⊎_elim, arith}
 use Rattle.std.proofs.lemmas.Bool.{cases_lt, false≢true}
 use Rattle.std.proofs.lemmas.Option.{same_Some, slice_get_within, slice_get-get_or}
-use Rattle.fond_game.proofs.Lists.{Contains_numbered, number_of}
-use Rattle.fond_game.specs.declared.rule.Pair.{Pair}
+use Rattle.fond_task.proofs.Lists.{Contains_numbered, number_of}
+use Rattle.fond_task.specs.declared.rule.Pair.{Pair}
 use Rattle.fond_regress.specs.Barred.{Bars}
 use Rattle.fond_regress.proofs.barred.is_barred.Goals as goal
 

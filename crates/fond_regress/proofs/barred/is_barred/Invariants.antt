@@ -1,5 +1,5 @@
 use Rattle.std.proofs.Common.{◌≡◌, ℕ, ◌<◌, Some, slice_get}
-use Rattle.fond_game.specs.declared.rule.Pair.{Pair}
+use Rattle.fond_task.specs.declared.rule.Pair.{Pair}
 use Rattle.fond_regress.specs.Barred.{Bars}
 use Rattle.fond_regress.proofs.barred.is_barred.Given as goal
 

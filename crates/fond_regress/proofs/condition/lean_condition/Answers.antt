@@ -1,8 +1,8 @@
 use Rattle.std.proofs.Common.{ℕ, sym, subst}
 use Rattle.fond_state.specs.Cubes.{CubeLiesIn, full_cube}
-use Rattle.fond_game.specs.Layers.{CubeView}
-use Rattle.fond_game.specs.Rules.{IsSureRule}
-use Rattle.fond_lean.specs.Leans.{IsLean}
+use Rattle.fond_task.specs.Layers.{CubeView}
+use Rattle.fond_task.specs.Rules.{IsSureRule}
+use Rattle.fond_rules.specs.Leans.{IsLean}
 use Rattle.fond_regress.proofs.Cubes.{lies_by_full}
 use Rattle.fond_regress.proofs.condition.lean_condition.Goals as goal
 

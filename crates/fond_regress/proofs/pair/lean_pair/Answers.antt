@@ -1,7 +1,7 @@
 use Rattle.std.proofs.Common.{sym, subst}
 use Rattle.fond_state.specs.Cubes.{CubeLiesIn, full_cube}
-use Rattle.fond_game.specs.declared.rule.Pair.{Pair}
-use Rattle.fond_game.specs.Layers.{CubeView}
+use Rattle.fond_task.specs.declared.rule.Pair.{Pair}
+use Rattle.fond_task.specs.Layers.{CubeView}
 use Rattle.fond_rules.specs.Targets.{LeadsInto}
 use Rattle.fond_rules.proofs.SureTargets.{lean_if_leads, leads_if_sure}
 use Rattle.fond_regress.proofs.Cubes.{lies_by_full}

@@ -1,6 +1,6 @@
 use Rattle.std.proofs.Common.{sym, subst, arith, rules}
 use Rattle.std.proofs.lemmas.Grind.{common_steps}
-use Rattle.fond_game.specs.Layers.{CubeView}
+use Rattle.fond_task.specs.Layers.{CubeView}
 use Rattle.fond_regress.specs.Taken.{TakesFrom}
 use Rattle.fond_regress.proofs.Cubes.{takes_twice}
 use Rattle.fond_regress.proofs.regress.explain_no_change.Goals as goal

@@ -1,6 +1,6 @@
 use Rattle.std.proofs.Common.{subst, Decides}
-use Rattle.fond_game.specs.Layers.{CubeView}
-use Rattle.fond_lean.specs.Leans.{IsLean}
+use Rattle.fond_task.specs.Layers.{CubeView}
+use Rattle.fond_rules.specs.Leans.{IsLean}
 use Rattle.fond_rules.specs.Targets.{LeadsInto}
 use Rattle.fond_rules.proofs.SureTargets.{lean_if_leads, leads_if_lean}
 use Rattle.fond_rules.proofs.sure_pairs.lean_pair.Goals as goal

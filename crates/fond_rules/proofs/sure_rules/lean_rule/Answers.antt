@@ -1,7 +1,7 @@
 use Rattle.std.proofs.Common.{subst, Decides}
-use Rattle.fond_game.specs.Layers.{CubeView}
-use Rattle.fond_game.specs.Rules.{IsSureRule}
-use Rattle.fond_lean.specs.Leans.{IsLean}
+use Rattle.fond_task.specs.Layers.{CubeView}
+use Rattle.fond_task.specs.Rules.{IsSureRule}
+use Rattle.fond_rules.specs.Leans.{IsLean}
 use Rattle.fond_rules.proofs.sure_rules.lean_rule.Goals as goal
 
 pub returns-clause-decides : goal.returns-clause-decides

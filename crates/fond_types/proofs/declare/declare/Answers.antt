@@ -1,5 +1,5 @@
 use Rattle.std.proofs.Common.{◌≡◌, ◌++◌, ◌∷◌, [], ◌∙◌, true, false, is_some, sym, ap}
-use Rattle.fond_lookup.specs.Texts.{number_beside}
+use Rattle.fond_store.specs.Texts.{number_beside}
 use Rattle.fond_types.specs.Meanings.{numbered_from}
 use Rattle.fond_types.proofs.Numbering.{declared_there, declared_new, numbered_new}
 use Rattle.fond_types.proofs.declare.declare.Goals as goal

@@ -1,6 +1,6 @@
 use Rattle.std.proofs.Common.{◌≡◌, ◌||◌, ℕ, List, drop, map, is_some}
 use Rattle.std.specs.List.{list_any}
-use Rattle.fond_lookup.specs.Texts.{number_beside}
+use Rattle.fond_store.specs.Texts.{number_beside}
 use Rattle.fond_types.specs.Resolves.{mentions}
 use Rattle.fond_types.proofs.mentioned.+add_effect.Given as goal
 

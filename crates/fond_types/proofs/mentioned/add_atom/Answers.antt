@@ -1,5 +1,5 @@
 use Rattle.std.proofs.Common.{is_some, ap, ◌∙◌}
-use Rattle.fond_lookup.specs.Texts.{number_beside}
+use Rattle.fond_store.specs.Texts.{number_beside}
 use Rattle.fond_names.proofs.Insertions.{kept_there}
 use Rattle.fond_types.proofs.Passing.{on_ok}
 use Rattle.fond_types.proofs.mentioned.add_atom.Goals as goal

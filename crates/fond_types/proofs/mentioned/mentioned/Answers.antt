@@ -1,7 +1,7 @@
 use Rattle.std.proofs.Common.{◌||◌, ◌+◌, List, drop, is_some, sym, ap, ◌∙◌}
 use Rattle.std.specs.List.{list_any}
 use Rattle.fond_ast.specs.declared.files.Schema.{Schema}
-use Rattle.fond_lookup.specs.Texts.{number_beside}
+use Rattle.fond_store.specs.Texts.{number_beside}
 use Rattle.fond_types.specs.Resolves.{mentions}
 use Rattle.fond_names.proofs.Differs.{next_left}
 use Rattle.fond_names.proofs.Insertions.{or_again}

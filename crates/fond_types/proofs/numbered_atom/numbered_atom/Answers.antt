@@ -2,7 +2,7 @@ use Rattle.std.proofs.Common.{◌≡◌, true, false, None, is_some, map, refl, 
 use Rattle.fond_text.specs.Lists.{each_passes}
 use Rattle.fond_ast.specs.declared.files.Declared.{Declared}
 use Rattle.fond_ast.specs.declared.form.LAtom.{LAtom}
-use Rattle.fond_lookup.specs.Texts.{number_beside}
+use Rattle.fond_store.specs.Texts.{number_beside}
 use Rattle.fond_types.specs.Meanings.{meanings, numbered_from}
 use Rattle.fond_types.specs.Resolves.{is_number_of, is_term, is_atom}
 use Rattle.fond_types.proofs.AtomLemmas.{atom_known, sound_atom, atom_within, atom_fluent}

@@ -2,7 +2,7 @@ use Rattle.std.proofs.Common.{◌≡◌, ◌&&◌, ◌||◌, not, true, false, N
 use Rattle.fond_ast.specs.declared.form.LTerm.TheVariants.{Object}
 use Rattle.fond_ast.specs.declared.names.Term.{Term}
 use Rattle.fond_ast.specs.declared.names.TypedName.{TypedName}
-use Rattle.fond_lookup.specs.Texts.{number_beside}
+use Rattle.fond_store.specs.Texts.{number_beside}
 use Rattle.fond_names.specs.Names.{is_among, all_objects, first_of}
 use Rattle.fond_names.proofs.Members.{all_got}
 use Rattle.fond_types.specs.Meanings.{meanings, numbered_from}

@@ -3,7 +3,7 @@ use Rattle.fond_ast.specs.Ranges.{objects_of}
 use Rattle.fond_ast.specs.Within.{are_ranges_within, is_condition_within, is_effect_within}
 use Rattle.fond_ast.specs.declared.form.LCond.{LCond}
 use Rattle.fond_ast.specs.declared.names.Kind.{Kind}
-use Rattle.fond_lookup.specs.Texts.{number_beside}
+use Rattle.fond_store.specs.Texts.{number_beside}
 use Rattle.fond_types.specs.Bodies.{IsNumberedCondition}
 use Rattle.fond_types.specs.Meanings.{meanings, ranges_around}
 use Rattle.fond_names.specs.Names.{objects_declared}

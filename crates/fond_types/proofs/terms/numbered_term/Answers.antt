@@ -4,7 +4,7 @@ use Rattle.std.specs.Option.{option_map_or}
 use Rattle.fond_ast.specs.declared.form.LTerm.TheVariants.{Object, Variable}
 use Rattle.fond_types.proofs.Subsets.{same_number}
 use Rattle.fond_ast.specs.declared.names.TypedName.{TypedName}
-use Rattle.fond_lookup.specs.Texts.{number_beside}
+use Rattle.fond_store.specs.Texts.{number_beside}
 use Rattle.fond_names.specs.Names.{is_among, all_objects, first_of}
 use Rattle.fond_types.specs.Resolves.{is_number_of, is_term, variable_number}
 use Rattle.fond_types.specs.Meanings.{meanings, numbered_from}

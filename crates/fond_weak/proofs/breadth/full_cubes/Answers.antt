@@ -1,6 +1,6 @@
 use Rattle.std.proofs.Common.{◌∷◌, ◌++◌, [], List, map, take, sym, ap, ◌∙◌}
 use Rattle.fond_state.specs.Cubes.{full_cube}
-use Rattle.fond_game.specs.Layers.{CubeView}
+use Rattle.fond_task.specs.Layers.{CubeView}
 use Rattle.fond_weak.proofs.Lists.{map_more}
 use Rattle.fond_weak.proofs.breadth.full_cubes.Goals as goal
 

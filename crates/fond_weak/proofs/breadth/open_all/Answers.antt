@@ -1,6 +1,6 @@
 use Rattle.std.proofs.Common.{◌<◌, ◌^◌, List, length, sym, ◌∙◌, subst, arith}
 use Rattle.std.proofs.lemmas.Option.{slice_get_within}
-use Rattle.fond_game.specs.Layers.{CubeView}
+use Rattle.fond_task.specs.Layers.{CubeView}
 use Rattle.fond_weak.specs.Weak.{ShowsLost}
 use Rattle.fond_weak.proofs.Closed.{opened_shows}
 use Rattle.fond_weak.proofs.Found.{tree_past, more_long, opened_next}

@@ -1,5 +1,5 @@
 use Rattle.std.proofs.Common.{◌<◌, List, Option, Some, reverse, length, sym, ap, ◌∙◌, subst, arith}
-use Rattle.fond_hint.specs.declared.step.PlanStep.{PlanStep}
+use Rattle.fond_task.specs.declared.plan_step.PlanStep.{PlanStep}
 use Rattle.fond_weak.specs.Trees.{LeadsTo}
 use Rattle.fond_weak.specs.Weak.{IsWeakPlan}
 use Rattle.fond_weak.specs.declared.tree.Link.{Link}

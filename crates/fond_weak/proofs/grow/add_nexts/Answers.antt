@@ -4,7 +4,7 @@ use Rattle.std.proofs.lemmas.Bool.{cases_lt}
 use Rattle.std.proofs.lemmas.Option.{same_Some, slice_get-get_or, slice_get_within}
 use Rattle.fond_task.specs.declared.task.Act.{Act}
 use Rattle.fond_task.specs.Steps.{next_state}
-use Rattle.fond_game.proofs.Lists.{number_of}
+use Rattle.fond_task.proofs.Lists.{number_of}
 use Rattle.fond_explicit.proofs.Grown.{few_outcomes}
 use Rattle.fond_weak.proofs.Found.{more_none, more_then, more_has, more_stays}
 use Rattle.fond_weak.proofs.grow.add_nexts.Goals as goal

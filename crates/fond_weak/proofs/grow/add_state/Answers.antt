@@ -1,6 +1,6 @@
 use Rattle.std.proofs.Common.{◌≡◌, ◌++◌, ◌∷◌, [], List, Bool, Option, sym, ap, ◌∙◌, subst}
 use Rattle.std.specs.Prelude.{Contains}
-use Rattle.fond_game.proofs.Lists.{Contains_numbered}
+use Rattle.fond_task.proofs.Lists.{Contains_numbered}
 use Rattle.fond_weak.specs.Trees.{IsTree}
 use Rattle.fond_weak.specs.declared.tree.Link.{Link}
 use Rattle.fond_weak.proofs.Found.{found_has, found_none, added, more_none, tree_more}

@@ -1,8 +1,8 @@
 use Rattle.std.proofs.Common.{◌≡◌, ◌<◌, List, Bool, [], length, get_or, sym, ap, ◌∙◌, subst, arith}
 use Rattle.std.proofs.lemmas.Option.{same_Some, slice_get-get_or}
 use Rattle.fond_task.specs.declared.task.Act.{Act}
-use Rattle.fond_game.specs.Certificates.{LiesInLayers}
-use Rattle.fond_game.proofs.Lists.{Contains_numbered}
+use Rattle.fond_task.specs.Certificates.{LiesInLayers}
+use Rattle.fond_task.proofs.Lists.{Contains_numbered}
 use Rattle.fond_explicit.proofs.Grown.{few_outcomes}
 use Rattle.fond_weak.proofs.Lost.{dead_lies}
 use Rattle.fond_weak.proofs.opening.may_lose.Goals as goal

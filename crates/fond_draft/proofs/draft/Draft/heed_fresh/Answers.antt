@@ -3,9 +3,9 @@ use Rattle.std.proofs.lemmas.List.{append_assoc, append-nil, take_all}
 use Rattle.std.proofs.Math.Seq.{take-suc}
 use native.Mathlib.Numerals.{unary_clauses}
 use Rattle.std.specs.Prelude.{Contains}
-use Rattle.fond_game.proofs.Lists.{Contains_numbered}
-use Rattle.fond_game.specs.declared.rule.Pair.{Pair}
-use Rattle.fond_game.specs.declared.rule.Rule.{Rule}
+use Rattle.fond_task.proofs.Lists.{Contains_numbered}
+use Rattle.fond_task.specs.declared.rule.Pair.{Pair}
+use Rattle.fond_task.specs.declared.rule.Rule.{Rule}
 use Rattle.fond_draft.specs.Barring.{EachBarsMore}
 use Rattle.fond_draft.specs.Drafts.{AreFitting, AreLeanRules, IsFitting}
 use Rattle.fond_draft.proofs.Fitting.{fitting_more}

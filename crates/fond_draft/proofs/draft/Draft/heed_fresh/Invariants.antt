@@ -1,5 +1,5 @@
 use Rattle.std.proofs.Common.{◌≡◌, ◌++◌, [], length, take}
-use Rattle.fond_game.specs.Layers.{AreSureLayers}
+use Rattle.fond_task.specs.Layers.{AreSureLayers}
 use Rattle.fond_layers.specs.Over.{AreOver}
 use Rattle.fond_draft.specs.Drafts.{AreFitting}
 use Rattle.fond_draft.proofs.draft.Draft.heed_fresh.Given as goal

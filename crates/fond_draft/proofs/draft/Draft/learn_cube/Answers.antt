@@ -3,8 +3,8 @@ use Rattle.std.proofs.lemmas.Bool.{false≢true}
 use Rattle.std.specs.Prelude.{Contains}
 use Rattle.std.proofs.lemmas.List.Elements.{Contains-push}
 use Rattle.fond_state.proofs.Tested.{lies_in-Decides}
-use Rattle.fond_game.proofs.Lists.{Contains-here}
-use Rattle.fond_game.specs.Layers.{CubeView}
+use Rattle.fond_task.proofs.Lists.{Contains-here}
+use Rattle.fond_task.specs.Layers.{CubeView}
 use Rattle.fond_draft.proofs.draft.Draft.learn_cube.Goals as goal
 
 pub returns-clause-lies : goal.returns-clause-lies

@@ -2,9 +2,9 @@ use Rattle.std.proofs.Common.{subst}
 use Rattle.std.proofs.lemmas.Bool.{false≢true}
 use Rattle.std.proofs.lemmas.Result.{IfOk-weaker}
 use Rattle.std.specs.Prelude.{Decides}
-use Rattle.fond_relax.specs.Guesses.{IsGuess}
-use Rattle.fond_relax.specs.declared.estimate.Guess.{Guess}
-use Rattle.fond_relax.specs.Stable.{IsHopeless, IsHopelessBy}
+use Rattle.fond_regress.specs.Guesses.{IsGuess}
+use Rattle.fond_regress.specs.declared.estimate.Guess.{Guess}
+use Rattle.fond_regress.specs.Stable.{IsHopeless, IsHopelessBy}
 use Rattle.fond_draft.specs.Learning.{IsDeadAround}
 use Rattle.fond_draft.proofs.Spots.{hopeless_dead}
 use Rattle.fond_draft.proofs.draft.Draft.learn_hopeless.Goals as goal

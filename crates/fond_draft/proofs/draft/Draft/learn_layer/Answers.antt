@@ -2,7 +2,7 @@ use Rattle.std.proofs.Common.{ℕ, refl, sym, subst, arith}
 use Rattle.std.proofs.lemmas.Bool.{false≢true}
 use Rattle.std.proofs.lemmas.Result.{IfOk-weaker}
 use Rattle.std.specs.Prelude.{Decides}
-use Rattle.fond_game.specs.Layers.{IsSureLayer}
+use Rattle.fond_task.specs.Layers.{IsSureLayer}
 use Rattle.fond_layers.specs.Over.{IsOver}
 use Rattle.fond_draft.specs.Learning.{MayComeNext}
 use Rattle.fond_draft.proofs.draft.Draft.learn_layer.Goals as goal

@@ -1,6 +1,6 @@
 use Rattle.std.proofs.Common.{◌≡◌, ◌<◌, ◌^◌, ◌∙◌, [], ◌∷◌, ◌++◌, List, true, length, sym, ap, subst, arith}
 use Rattle.std.specs.Prelude.{Decides, IfOk}
-use Rattle.fond_game.specs.Layers.{CubeView, IsSureLayer}
+use Rattle.fond_task.specs.Layers.{CubeView, IsSureLayer}
 use Rattle.fond_layers.specs.Over.{IsOver}
 use Rattle.fond_draft.proofs.Lists.{only_one}
 use Rattle.fond_draft.proofs.draft.Draft.push_cube.Goals as goal

@@ -1,5 +1,5 @@
 use Rattle.std.proofs.Common.{◌≡◌, ◌∙◌, length, ap, arith}
-use Rattle.fond_game.proofs.Lists.{same_numbered}
+use Rattle.fond_task.proofs.Lists.{same_numbered}
 use Rattle.fond_task.specs.declared.task.Act.{Act}
 use Rattle.fond_exec.proofs.Chosen.{counted_outcomes}
 use Rattle.fond_exec.proofs.simulator.Simulator.step.Goals as goal

@@ -1,6 +1,6 @@
 use Rattle.std.proofs.Common.{◌≡◌, ◌<◌, List, Some, is_some, slice_get, true, ℕ}
 use Rattle.fond_ast.specs.declared.form.LTerm.{LTerm}
-use Rattle.fond_lookup.specs.Texts.{number_beside}
+use Rattle.fond_store.specs.Texts.{number_beside}
 use Rattle.fond_ground.specs.Patterns.{code, renamed, Agrees}
 use Rattle.fond_ground.proofs.patterns.Patterns.fit.Given as goal
 

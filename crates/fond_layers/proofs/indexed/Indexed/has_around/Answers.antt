@@ -1,5 +1,5 @@
 use Rattle.std.proofs.Common.{◌∙◌, Bool, Decides, sym, subst}
-use Rattle.fond_game.specs.Layers.{LiesInLayer}
+use Rattle.fond_task.specs.Layers.{LiesInLayer}
 use Rattle.fond_layers.proofs.Firsts.{around}
 use Rattle.fond_layers.proofs.indexed.Indexed.has_around.Goals as goal
 

@@ -1,5 +1,5 @@
 use Rattle.std.proofs.Common.{ℕ, ◌<◌, List, get_or}
-use Rattle.fond_game.specs.Layers.{CubeView}
+use Rattle.fond_task.specs.Layers.{CubeView}
 use Rattle.fond_layers.specs.Over.{IsOver}
 use Rattle.fond_layers.proofs.layers.Layers.are_over.Given as goal
 

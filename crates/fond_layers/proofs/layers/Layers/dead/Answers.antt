@@ -1,7 +1,7 @@
 use Rattle.std.proofs.Common.{◌∙◌, List, sym, subst, arith}
 use Rattle.std.specs.Prelude.{Contains}
 use Rattle.fond_state.specs.Cubes.{LiesIn}
-use Rattle.fond_game.specs.Layers.{CubeView}
+use Rattle.fond_task.specs.Layers.{CubeView}
 use Rattle.fond_layers.specs.Deads.{IsFirstDead}
 use Rattle.fond_layers.proofs.Tried.{read_at, all_front, all_more, all_of}
 use Rattle.fond_layers.proofs.layers.Layers.dead.Goals as goal

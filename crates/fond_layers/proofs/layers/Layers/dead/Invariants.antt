@@ -1,6 +1,6 @@
 use Rattle.std.proofs.Common.{ℕ, ◌<◌, List, get_or}
 use Rattle.std.specs.Prelude.{Contains}
-use Rattle.fond_game.specs.Layers.{CubeView}
+use Rattle.fond_task.specs.Layers.{CubeView}
 use Rattle.fond_state.specs.Cubes.{LiesIn}
 use Rattle.fond_layers.proofs.layers.Layers.dead.Given as goal
 

@@ -1,7 +1,7 @@
 use Rattle.std.proofs.Common.{◌≡◌, ◌∙◌, List, take, ap, subst}
 use Rattle.std.specs.Prelude.{MatchOption}
-use Rattle.fond_game.specs.Layers.{CubeView, IsSureLayer}
-use Rattle.fond_game.proofs.Lists.{same_numbered}
+use Rattle.fond_task.specs.Layers.{CubeView, IsSureLayer}
+use Rattle.fond_task.proofs.Lists.{same_numbered}
 use Rattle.fond_layers.specs.Faults.{IsSpot}
 use Rattle.fond_layers.proofs.layers.Layers.fault.Goals as goal
 

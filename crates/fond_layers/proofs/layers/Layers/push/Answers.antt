@@ -1,7 +1,7 @@
 use Rattle.std.proofs.Common.{◌∙◌, List, [], ◌∷◌, ◌++◌, ap, sym, subst}
 use Rattle.std.proofs.lemmas.Result.{err_from_is_err_and}
-use Rattle.fond_game.specs.Layers.{CubeView, IsSureLayer, AreSureLayers}
-use Rattle.fond_game.proofs.Stacked.{AreSureLayers-push}
+use Rattle.fond_task.specs.Layers.{CubeView, IsSureLayer, AreSureLayers}
+use Rattle.fond_task.proofs.Stacked.{AreSureLayers-push}
 use Rattle.fond_layers.proofs.layers.Layers.push.Goals as goal
 
 pub returns-in_err-add-clause-fault : goal.returns-in_err-add-clause-fault

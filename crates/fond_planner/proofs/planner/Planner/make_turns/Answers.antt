@@ -1,5 +1,5 @@
 use Rattle.std.proofs.Common.{ℕ, sym, subst}
-use Rattle.fond_game.proofs.Lists.{Contains_numbered}
+use Rattle.fond_task.proofs.Lists.{Contains_numbered}
 use Rattle.fond_rules.specs.Select.{AreOver}
 use Rattle.fond_draft.proofs.Turned.{turn_long}
 use Rattle.fond_planner.proofs.planner.Planner.make_turns.Goals as goal

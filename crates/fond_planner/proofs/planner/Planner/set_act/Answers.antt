@@ -3,7 +3,7 @@ use Rattle.fond_policy.proofs.Walking.{applies, not_goal}
 use Rattle.fond_rules.specs.Select.{AreOver}
 use Rattle.std.proofs.lemmas.Option.{same_Some}
 use Rattle.fond_state.specs.Cubes.{LiesIn}
-use Rattle.fond_game.specs.declared.rule.Rule.{Rule}
+use Rattle.fond_task.specs.declared.rule.Rule.{Rule}
 use Rattle.fond_draft.proofs.Barring.{free_by}
 use Rattle.fond_draft.proofs.Ready.{reachable_long}
 use Rattle.fond_draft.proofs.Rules.{selected_holds}

@@ -1,5 +1,5 @@
 use Rattle.std.proofs.Common.{◌∙◌, List, sym, subst}
-use Rattle.fond_game.specs.declared.rule.Pair.{Pair}
+use Rattle.fond_task.specs.declared.rule.Pair.{Pair}
 use Rattle.fond_regress.specs.Barred.{IsBarred}
 use Rattle.fond_planner.proofs.Walked.{next_reachable}
 use Rattle.fond_planner.proofs.planner.Planner.settle.Goals as goal

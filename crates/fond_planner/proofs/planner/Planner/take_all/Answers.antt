@@ -3,8 +3,8 @@ use Rattle.std.proofs.lemmas.Option.{same_Some, slice_get-get_or, slice_get_with
 use Rattle.fond_task.specs.Truth.{is_true}
 use Rattle.fond_task.specs.declared.task.Act.{Act}
 use Rattle.fond_policy.proofs.Walking.{few_outcomes}
-use Rattle.fond_game.specs.Policies.{IsGoal}
-use Rattle.fond_game.specs.declared.rule.Pair.{Pair}
+use Rattle.fond_task.specs.Policies.{IsGoal}
+use Rattle.fond_task.specs.declared.rule.Pair.{Pair}
 use Rattle.fond_regress.specs.Barred.{IsBarred}
 use Rattle.fond_explicit.specs.Answers.{IsReachable}
 use Rattle.fond_draft.proofs.Ready.{reachable_long}

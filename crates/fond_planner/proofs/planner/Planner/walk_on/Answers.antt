@@ -1,5 +1,5 @@
 use Rattle.std.proofs.Common.{◌∙◌, length, sym, ap, subst}
-use Rattle.fond_game.proofs.Lists.{Contains_numbered}
+use Rattle.fond_task.proofs.Lists.{Contains_numbered}
 use Rattle.fond_explicit.specs.Answers.{IsReachable}
 use Rattle.fond_draft.proofs.Ready.{reachable_long}
 use Rattle.fond_planner.proofs.planner.Planner.walk_on.Goals as goal

@@ -3,7 +3,7 @@ use Rattle.std.specs.Prelude.{IsTrue}
 use Rattle.std.proofs.lemmas.Grind.{common_steps}
 use Rattle.fond_task.specs.Within.{is_form_within}
 use Rattle.fond_state.specs.Cubes.{CubeLiesIn}
-use Rattle.fond_game.specs.Layers.{CubeView}
+use Rattle.fond_task.specs.Layers.{CubeView}
 use Rattle.fond_regress.proofs.Cubes.{lies_in_empty}
 use Rattle.fond_regress.proofs.start.Origin.goal_literals.Goals as goal
 

@@ -5,7 +5,7 @@ use Rattle.std.proofs.lemmas.Bool.{and_parts}
 use Rattle.fond_state.specs.Cubes.{CubeLiesIn}
 use Rattle.fond_task.specs.Within.{is_act_within}
 use Rattle.fond_task.proofs.Found.{all_at, pre_within}
-use Rattle.fond_game.specs.Layers.{CubeView}
+use Rattle.fond_task.specs.Layers.{CubeView}
 use Rattle.fond_regress.proofs.Cubes.{lies_in_empty}
 use Rattle.fond_regress.proofs.start.Origin.regressed.Goals as goal
 

@@ -3,7 +3,7 @@ use Rattle.fond_state.specs.Cubes.{CubeLiesIn}
 use Rattle.fond_task.specs.declared.task.Entry.{Entry}
 use Rattle.fond_task.specs.Images.{image}
 use Rattle.fond_task.proofs.Found.{outcome_within, same_entries}
-use Rattle.fond_game.specs.Layers.{CubeView}
+use Rattle.fond_task.specs.Layers.{CubeView}
 use Rattle.fond_rules.proofs.pair_test.PairTest.leads_into.Goals as goal
 
 pub image_of-requires-clause-within : goal.image_of-requires-clause-within

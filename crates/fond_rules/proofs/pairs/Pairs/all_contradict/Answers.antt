@@ -3,7 +3,7 @@ use Rattle.std.specs.Prelude.{option_map}
 use Rattle.std.proofs.lemmas.Bool.{false≢true}
 use Rattle.std.proofs.lemmas.List.{length-map}
 use Rattle.std.proofs.lemmas.Option.{slice_get-map, slice_get-get_or}
-use Rattle.fond_game.specs.declared.rule.Pair.{Pair}
+use Rattle.fond_task.specs.declared.rule.Pair.{Pair}
 use Rattle.fond_rules.specs.Links.{AreLinked, IsLast}
 use Rattle.fond_rules.specs.declared.pairs.Linked.{Linked}
 use Rattle.fond_rules.proofs.Held.{held_at, contained}

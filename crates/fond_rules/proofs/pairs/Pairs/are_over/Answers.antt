@@ -1,7 +1,7 @@
 use Rattle.std.proofs.Common.{◌≡◌, ◌∙◌, ◌<◌, List, length, map, get_or, ap, sym, subst, refl, arith}
 use Rattle.std.proofs.lemmas.List.{get_or-map, length-map}
 use Rattle.std.proofs.lemmas.List.Elements.{All-map}
-use Rattle.fond_game.specs.declared.rule.Pair.{Pair}
+use Rattle.fond_task.specs.declared.rule.Pair.{Pair}
 use Rattle.fond_rules.specs.Belongs.{ArePairsOver}
 use Rattle.fond_rules.specs.declared.pairs.Linked.{Linked}
 use Rattle.fond_rules.proofs.pairs.Pairs.are_over.Goals as goal

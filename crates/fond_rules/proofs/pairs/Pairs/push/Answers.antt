@@ -3,7 +3,7 @@ use Rattle.std.specs.Prelude.{nat_eq}
 use Rattle.std.specs.HashMap.{get}
 use Rattle.std.specs.Map.{lookup}
 use Rattle.std.proofs.lemmas.List.{map-append, length-map}
-use Rattle.fond_game.specs.declared.rule.Pair.{Pair}
+use Rattle.fond_task.specs.declared.rule.Pair.{Pair}
 use Rattle.fond_rules.specs.Links.{AreLinked}
 use Rattle.fond_rules.specs.declared.pairs.Linked.{Linked}
 use Rattle.fond_rules.proofs.Linked.{AreLinked-push, AreLinked-same}

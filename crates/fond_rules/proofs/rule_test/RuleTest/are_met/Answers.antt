@@ -6,8 +6,8 @@ use Rattle.fond_task.specs.declared.task.Entry.{Entry}
 use Rattle.fond_task.specs.Images.{image}
 use Rattle.fond_task.specs.Within.{is_entry_within}
 use Rattle.fond_task.proofs.Found.{all_at}
-use Rattle.fond_game.specs.Rules.{AreMet, Meets}
-use Rattle.fond_game.specs.declared.rule.Targets.{Targets}
+use Rattle.fond_task.specs.Rules.{AreMet, Meets}
+use Rattle.fond_task.specs.declared.rule.Targets.{Targets}
 use Rattle.fond_rules.proofs.rule_test.RuleTest.are_met.Goals as goal
 
 pub image_meets-requires-clause-within : goal.image_meets-requires-clause-within

@@ -7,7 +7,7 @@ use Rattle.fond_task.specs.declared.task.Entry.{Entry}
 use Rattle.fond_task.specs.Images.{image}
 use Rattle.fond_task.specs.Within.{is_entry_within}
 use Rattle.fond_task.proofs.Found.{all_at}
-use Rattle.fond_game.specs.declared.rule.Target.{Target}
+use Rattle.fond_task.specs.declared.rule.Target.{Target}
 use Rattle.fond_rules.specs.Targets.{MeetsEarlier}
 use Rattle.fond_rules.proofs.rule_test.RuleTest.each_meets.Goals as goal
 

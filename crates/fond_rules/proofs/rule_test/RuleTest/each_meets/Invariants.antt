@@ -1,7 +1,7 @@
 use Rattle.std.proofs.Common.{◌≡◌, ℕ, ◌<◌, List, Some, length, slice_get}
 use Rattle.fond_task.specs.declared.task.Entry.{Entry}
 use Rattle.fond_task.specs.Images.{image}
-use Rattle.fond_game.specs.declared.rule.Target.{Target}
+use Rattle.fond_task.specs.declared.rule.Target.{Target}
 use Rattle.fond_rules.specs.Targets.{MeetsEarlier}
 use Rattle.fond_rules.proofs.rule_test.RuleTest.each_meets.Given as goal
 

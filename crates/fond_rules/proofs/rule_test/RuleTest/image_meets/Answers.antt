@@ -1,5 +1,5 @@
 use Rattle.std.proofs.Common.{subst, Decides}
-use Rattle.fond_game.specs.Layers.{CubeView}
+use Rattle.fond_task.specs.Layers.{CubeView}
 use Rattle.fond_rules.specs.Targets.{MeetsEarlier}
 use Rattle.fond_rules.proofs.rule_test.RuleTest.image_meets.Goals as goal
 

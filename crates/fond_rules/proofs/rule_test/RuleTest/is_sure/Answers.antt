@@ -6,7 +6,7 @@ use Rattle.fond_task.specs.declared.task.Act.{Act}
 use Rattle.fond_task.specs.Values.{value}
 use Rattle.fond_task.specs.Within.{is_act_within}
 use Rattle.fond_task.proofs.Found.{all_at, pre_within}
-use Rattle.fond_game.specs.Rules.{AreMet}
+use Rattle.fond_task.specs.Rules.{AreMet}
 use Rattle.fond_rules.specs.Targets.{AllContradict}
 use Rattle.fond_rules.proofs.rule_test.RuleTest.is_sure.Goals as goal
 use Rattle.fond_rules.proofs.rule_test.RuleTest.is_sure.Goals.{then-is_yes, else-is_yes}

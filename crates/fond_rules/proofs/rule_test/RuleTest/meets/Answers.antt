@@ -3,8 +3,8 @@ use Rattle.std.specs.Prelude.{IsTrue}
 use Rattle.std.proofs.lemmas.Option.{same_Some}
 use Rattle.fond_state.specs.Cubes.{CubeLiesIn}
 use Rattle.fond_task.specs.Within.{is_form_within}
-use Rattle.fond_game.specs.declared.rule.Rule.{Rule}
-use Rattle.fond_game.specs.declared.rule.Target.{Target}
+use Rattle.fond_task.specs.declared.rule.Rule.{Rule}
+use Rattle.fond_task.specs.declared.rule.Target.{Target}
 use Rattle.fond_rules.specs.Targets.{MeetsEarlier}
 use Rattle.fond_rules.proofs.Held.{held_at}
 use Rattle.fond_rules.proofs.rule_test.RuleTest.meets.Goals as goal

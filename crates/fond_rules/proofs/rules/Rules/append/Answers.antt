@@ -1,6 +1,6 @@
 use Rattle.std.proofs.Common.{◌≡◌, ◌∙◌, List, [], ◌∷◌, ◌++◌, Bool, Option, length, map, sym, ap, subst, arith, length-append}
 use Rattle.std.proofs.lemmas.List.{map-append}
-use Rattle.fond_game.specs.declared.rule.Rule.{Rule}
+use Rattle.fond_task.specs.declared.rule.Rule.{Rule}
 use Rattle.fond_match.specs.Blocks.{IsIndexOf}
 use Rattle.fond_match.proofs.Growing.{index_more}
 use Rattle.fond_rules.proofs.rules.Rules.append.Goals as goal

@@ -1,5 +1,5 @@
 use Rattle.std.proofs.Common.{◌≡◌, ℕ, ◌<◌, length, get_or}
-use Rattle.fond_game.specs.declared.rule.Rule.{Rule}
+use Rattle.fond_task.specs.declared.rule.Rule.{Rule}
 use Rattle.fond_rules.proofs.rules.Rules.are_over.Given as goal
 
 abbrev pub invariant-loop-item : goal.invariant-loop-item

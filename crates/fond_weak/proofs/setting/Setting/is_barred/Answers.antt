@@ -2,8 +2,8 @@ use Rattle.std.proofs.Common.{◌≡◌, Bool, Some, length, sym, ap, ◌∙◌,
 use Rattle.std.specs.Prelude.{Decides}
 use Rattle.std.proofs.lemmas.List.{length-map}
 use Rattle.std.proofs.lemmas.List.Elements.{All-contains}
-use Rattle.fond_game.specs.Layers.{CubeView}
-use Rattle.fond_game.specs.declared.rule.Pair.{Pair}
+use Rattle.fond_task.specs.Layers.{CubeView}
+use Rattle.fond_task.specs.declared.rule.Pair.{Pair}
 use Rattle.fond_rules.specs.Targets.{AllContradict}
 use Rattle.fond_weak.proofs.Pairs.{barred_Decides}
 use Rattle.fond_weak.proofs.setting.Setting.is_barred.Goals as goal

@@ -1,5 +1,0 @@
-use Rattle.fond_bridge.proofs.Between.{outcomes-lead-alike}
-use Rattle.fond_bridge.proofs.laws.outcomes_lead_alike.Goals as goal
-
-pub returns : goal.returns
-returns c = outcomes-lead-alike

@@ -1,5 +1,0 @@
-use Rattle.fond_bridge.proofs.Between.{stands-is-injective}
-use Rattle.fond_bridge.proofs.laws.stands_is_injective.Goals as goal
-
-pub returns : goal.returns
-returns c = stands-is-injective

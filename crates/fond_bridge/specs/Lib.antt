@@ -1,5 +1,0 @@
-pub mod Stands
-pub mod Games
-pub mod Solutions
-pub mod Traces
-pub mod Laws

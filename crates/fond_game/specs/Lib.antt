@@ -1,6 +1,0 @@
-pub mod Policies
-pub mod Solutions
-pub mod Layers
-pub mod Rules
-pub mod Certificates
-pub mod Laws

@@ -1,5 +1,0 @@
-use Rattle.fond_meaning.proofs.Come.{outcomes-come-next}
-use Rattle.fond_meaning.proofs.laws.outcomes_come_next.Goals as goal
-
-pub returns : goal.returns
-returns c = outcomes-come-next

@@ -1,5 +1,0 @@
-use Rattle.fond_meaning.proofs.Once.{successors-are-outcomes}
-use Rattle.fond_meaning.proofs.laws.successors_are_outcomes.Goals as goal
-
-pub returns : goal.returns
-returns c = successors-are-outcomes

@@ -1,5 +1,0 @@
-use Rattle.fond_meaning.proofs.Tuples.{tuples-lie-in-ranges}
-use Rattle.fond_meaning.proofs.laws.tuples_lie_in_ranges.Goals as goal
-
-pub returns : goal.returns
-returns c = tuples-lie-in-ranges

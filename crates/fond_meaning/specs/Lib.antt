@@ -1,8 +1,0 @@
-pub mod States
-pub mod Conditions
-pub mod Effects
-pub mod Truths
-pub mod Outcomes
-pub mod Patterns
-pub mod Solutions
-pub mod Laws

@@ -1,5 +1,0 @@
-use Rattle.fond_relax.proofs.Hopeless.{stable_sure}
-use Rattle.fond_relax.proofs.laws.stable_cubes_are_sure.Goals as goal
-
-pub returns : goal.returns
-returns c = stable_sure

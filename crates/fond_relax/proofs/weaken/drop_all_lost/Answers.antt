@@ -1,8 +1,0 @@
-use Rattle.std.proofs.Common.{◌≡◌, ℕ, ◌<◌, subst, arith}
-use Rattle.fond_lean.proofs.Literals.{literal_within}
-use Rattle.fond_relax.proofs.weaken.drop_all_lost.Goals as goal
-
-pub returns-clause-kept : goal.returns-clause-kept
-returns-clause-kept c = λ atom sign is.
-    let within = literal_within c.loop-atom.cube atom sign is in
-    c.loop-atom.invariant.kept atom sign (omega (arith, within, c.loop-atom.invariant.weaker.long, c.len-atom-end.ensures.counted, c.loop-atom-test.false)) is

@@ -1,9 +1,0 @@
-use Rattle.std.proofs.Common.{◌≡◌, Bool, List, Option, true, sym, subst}
-use Rattle.fond_relax.specs.Weaker.{IsWeaker}
-use Rattle.fond_relax.proofs.Lost.{weaker_without}
-use Rattle.fond_relax.proofs.weaken.drop_lost.Goals as goal
-
-pub returns-clause-weaker : goal.returns-clause-weaker
-returns-clause-weaker c =
-    let cube = c.args.cube.now in
-    subst (λ new. IsWeaker cube new true) (sym c.drop_literal.ensures) (weaker_without cube c.args.atom c.in-Some.sign (sym c.in-Some.ensures))

@@ -1,4 +1,0 @@
-pub mod Stable
-pub mod Weaker
-pub mod Guesses
-pub mod Laws

@@ -1,0 +1,61 @@
+//! Texts and lists of numbers, each with a number of its own, found by a hash.
+
+ghost use Rattle.fond_store.specs.Texts.{number_by, with_list};
+ghost use Rattle.std.specs.Prelude.{◌≡◌, [], OnOk, OnErr};
+
+use fond_text::fault::NoMemory;
+use indexmap::IndexMap;
+use std::alloc::Global;
+use std::hash::Hash;
+use std::marker::Model;
+
+/// Distinct lists, each with a number, in the order in which they were inserted.
+#[derive(Drop)]
+pub struct Index<T: Eq + Hash> {
+    numbers: IndexMap<Vec<T>, u32>,
+}
+
+/// Distinct texts, each with a number.
+pub type TextIndex = Index<u8>;
+
+/// Distinct lists of numbers, each with a number of its own.
+pub type TupleIndex = Index<u32>;
+
+impl<T: Eq + Hash> Model for Index<T> {
+    ghost use Rattle.std.specs.Prelude.{List, ℕ, map};
+
+    ghost Value = { List (List T × ℕ) };
+
+    ghost view = { λ x. map (λ entry. (entry.0.items, entry.1)) x.numbers.entries };
+}
+
+impl<T: Eq + Hash + Drop> Index<T> {
+    /// An index of no lists. It takes no memory until a list is inserted.
+    pub fn new(alloc: Global) -> Index<T>
+        ensures { result ≡ [] }
+    {
+        Index {
+            numbers: IndexMap::new(alloc),
+        }
+    }
+
+    /// Inserts a list with its number, or changes nothing if the list is already there. Takes time in the length of
+    /// the list.
+    pub fn insert(&mut self, list: Vec<T>, number: u32) -> Result<(), NoMemory>
+        ensures ok { OnOk result (self.new ≡ with_list T.eq self.old list.items number) }
+        ensures err { OnErr result (self.new ≡ self.old) }
+    {
+        if self.find(&list).is_some() {
+            return Ok(());
+        }
+        self.numbers.insert(list, number)?;
+        Ok(())
+    }
+
+    /// The number of a list, if the list is there. Takes time in the length of the list.
+    pub fn find(&self, list: &[T]) -> Option<u32>
+        ensures { result ≡ number_by T.eq self.now list.now }
+    {
+        self.numbers.get(list).copied()
+    }
+}
