@@ -3,6 +3,7 @@
 use crate::opposed::Opposed;
 use fond_moves::condition::{Mask, all_hold};
 use fond_moves::index::{Literal, NONE, at, bit_of, has, link_at, put, put_bit, size, word_at};
+use fond_moves::lists::empty_lists;
 use fond_state::cube::Cube;
 use fond_text::fault::NoMemory;
 use std::alloc::Global;
@@ -158,10 +159,7 @@ fn place(literal: Literal) -> usize {
 impl Choices {
     /// No rules, over this many atoms.
     pub(crate) fn new(alloc: Global, atoms: u32, width: u32) -> Result<Choices, NoMemory> {
-        let mut lists = Vec::new(alloc);
-        for _ in 0..(atoms as usize).saturating_mul(2) {
-            lists.push(Vec::new(alloc))?;
-        }
+        let lists = empty_lists(alloc, atoms.saturating_mul(2))?;
         let filed_true = vec![in alloc; 0; width as usize]?;
         let filed_false = vec![in alloc; 0; width as usize]?;
         let counts = vec![in alloc; 0; atoms as usize]?;

@@ -8,6 +8,7 @@ use fond_moves::boxes::boxed;
 use fond_moves::condition::Mask;
 use fond_moves::effect::Effect;
 use fond_moves::index::{Literal, bit_of, size};
+use fond_moves::lists::empty_lists;
 use fond_moves::moves::{Move, Moves};
 use fond_task::plan_step::PlanStep;
 use fond_task::task::Task;
@@ -116,21 +117,23 @@ impl Givers {
         effect.list_gifts(number, &mut self.steps)
     }
 
+    /// Adds all steps.
+    fn add_all(&mut self, moves: &Moves) -> Result<(), NoMemory> {
+        for (number, step) in moves.steps.iter().enumerate() {
+            self.add(moves, size(number), *step)?;
+        }
+        Ok(())
+    }
+
     /// The lists of all steps of a task.
     pub fn new(alloc: Global, task: &Task, moves: &Moves) -> Result<Box<Givers>, NoMemory> {
-        let mut steps = Vec::new(alloc);
-        for _ in 0..moves.atoms.saturating_mul(2) {
-            steps.push(Vec::new(alloc))?;
-        }
         let mut givers = Givers {
             together: Together::new(alloc, task, moves)?,
-            steps,
+            steps: empty_lists(alloc, moves.atoms.saturating_mul(2))?,
             found: Vec::new(alloc),
             left: MOST_FOR_ALL,
         };
-        for (number, step) in moves.steps.iter().enumerate() {
-            givers.add(moves, size(number), *step)?;
-        }
+        givers.add_all(moves)?;
         boxed(alloc, givers)
     }
 

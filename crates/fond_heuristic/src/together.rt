@@ -41,20 +41,24 @@ fn meet_words(words: &mut [u64], others: &[u64]) {
     }
 }
 
+/// Rows of words that are 0, this many.
+fn empty_rows(alloc: Global, count: u32, width: usize) -> Result<Vec<Vec<u64>>, NoMemory> {
+    let mut rows = Vec::new(alloc);
+    for _ in 0..count {
+        rows.push(vec![in alloc; 0; width]?)?;
+    }
+    Ok(rows)
+}
+
 impl Together {
     /// Nothing is true yet.
     fn empty(alloc: Global, moves: &Moves) -> Result<Together, NoMemory> {
         let width = moves.width as usize;
-        let mut rows = Vec::new(alloc);
         let each = (moves.acts.len() as u64).saturating_mul(width as u64);
         let left = if each > MOST / 8 { 0 } else { MOST };
-        if left > 0 {
-            for _ in 0..moves.atoms {
-                rows.push(vec![in alloc; 0; width]?)?;
-            }
-        }
+        let rows = if left > 0 { moves.atoms } else { 0 };
         Ok(Together {
-            rows,
+            rows: empty_rows(alloc, rows, width)?,
             reached: vec![in alloc; 0; width]?,
             before: vec![in alloc; 0; width]?,
             after: vec![in alloc; 0; width]?,

@@ -1,4 +1,4 @@
-//! The laws of replies: what follows for the answers of the tool to the same files, as that `check` accepts what `plan` prints.
+//! The laws of replies: what follows for the answers of the tool to the same files, such as that `check` accepts what `plan` prints.
 //! They rest on the laws that what is planned and what is checked is the same: three texts are read as at most one task, and the
 //! ground tasks of a task are the same to certificates. No program needs them, so they stand above the tool.
 #![tactic(auto)]

@@ -4,6 +4,7 @@
 use crate::boxes::boxed;
 use crate::condition::{Condition, Mask};
 use crate::index::{put_bit, size, word_at};
+use crate::lists::empty_lists;
 use crate::moves::Moves;
 use fond_text::fault::NoMemory;
 use std::alloc::Global;
@@ -76,19 +77,21 @@ impl ActIndex {
     }
 
     /// Files all actions.
-    pub fn new(alloc: Global, moves: &Moves) -> Result<Box<ActIndex>, NoMemory> {
-        let mut lists = Vec::new(alloc);
-        for _ in 0..moves.atoms {
-            lists.push(Vec::new(alloc))?;
+    fn add_all(&mut self, moves: &Moves) -> Result<(), NoMemory> {
+        for (act, one) in moves.acts.iter().enumerate() {
+            self.add(size(act), &one.needs)?;
         }
+        Ok(())
+    }
+
+    /// An index of all actions.
+    pub fn new(alloc: Global, moves: &Moves) -> Result<Box<ActIndex>, NoMemory> {
         let mut index = ActIndex {
-            lists,
+            lists: empty_lists(alloc, moves.atoms)?,
             others: Vec::new(alloc),
             filed: vec![in alloc; 0; moves.width as usize]?,
         };
-        for (act, one) in moves.acts.iter().enumerate() {
-            index.add(size(act), &one.needs)?;
-        }
+        index.add_all(moves)?;
         boxed(alloc, index)
     }
 

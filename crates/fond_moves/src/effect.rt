@@ -358,16 +358,24 @@ impl Effect {
     }
 }
 
+impl Effect {
+    /// Adds the entries of an outcome.
+    fn add_all(&mut self, alloc: Global, outcome: &Outcome) -> Result<(), NoMemory> {
+        self.add_plain(outcome, false)?;
+        self.add_plain(outcome, true)?;
+        for entry in outcome {
+            if !is_plain(entry) {
+                self.add_mixed(alloc, entry)?;
+            }
+        }
+        Ok(())
+    }
+}
+
 /// The effect of an outcome. Takes time in the number of entries times that of the words that they change, and in the
 /// square of the number of entries with a condition.
 pub fn effect_of(alloc: Global, outcome: &Outcome) -> Result<Effect, NoMemory> {
     let mut effect = Effect::new(alloc);
-    effect.add_plain(outcome, false)?;
-    effect.add_plain(outcome, true)?;
-    for entry in outcome {
-        if !is_plain(entry) {
-            effect.add_mixed(alloc, entry)?;
-        }
-    }
+    effect.add_all(alloc, outcome)?;
     Ok(effect)
 }

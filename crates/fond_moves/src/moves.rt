@@ -65,6 +65,14 @@ impl Moves {
         Ok(())
     }
 
+    /// Adds all actions of a task.
+    fn add_all(&mut self, alloc: Global, task: &Task) -> Result<(), NoMemory> {
+        for act in &task.acts {
+            self.add(alloc, act)?;
+        }
+        Ok(())
+    }
+
     /// The actions of a task.
     pub fn new(alloc: Global, task: &Task) -> Result<Moves, NoMemory> {
         let atoms = size(task.atoms.len());
@@ -75,9 +83,7 @@ impl Moves {
             atoms,
             width: atoms.saturating_add(63) / 64,
         };
-        for act in &task.acts {
-            moves.add(alloc, act)?;
-        }
+        moves.add_all(alloc, task)?;
         Ok(moves)
     }
 
