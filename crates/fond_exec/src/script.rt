@@ -10,16 +10,13 @@ ghost use Rattle.std.specs.Prelude.{◌≡◌, ℕ, not, IfOk, IfErr, IfSome, If
 use fond_text::bytes::is_blank;
 use fond_text::number::read_number;
 use std::alloc::{AllocFailed, Global};
-use thiserror::Error;
 
 /// Why a text is no script.
-#[derive(Clone, Copy, Debug, PartialEq, Eq, Error)]
+#[derive(Clone, Copy, Debug)]
 pub enum ScriptError {
     /// The word that begins at this byte, counted from 0, is not the digits of a number below 2^32, without a sign or
     /// a leading zero.
-    #[error("the script is refused")]
     Refused { byte: u64 },
-    #[error("out of memory")]
     NoMemory,
 }
 

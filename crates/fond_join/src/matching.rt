@@ -10,7 +10,6 @@ use crate::barren::has_barren_pair;
 use crate::facts::Facts;
 use crate::search::search;
 use crate::value::Scope;
-use fond_ast::task::LiftedTask;
 use fond_text::atom::Objects;
 use fond_text::fault::NoMemory;
 use fond_text::list::List;
@@ -68,18 +67,5 @@ pub fn matches_within(
         Ok(Some(found))
     } else {
         Ok(None)
-    }
-}
-
-/// The argument lists of the kept ground actions of a schema, in order. More of them than memory may hold are reported as
-/// memory that ran out.
-pub fn matches(alloc: Global, task: &LiftedTask, schema: u32) -> Result<ArgsList, NoMemory>
-    requires { schema < length task.now.schemas }
-    ensures { (s : LSchema) → slice_get task.now.schemas schema ≡ Some s → IfOk result (λ all. all ≡ kept_args task.now s) }
-{
-    let facts = Facts::of(alloc, task)?;
-    match matches_within(alloc, &facts, schema, usize::MAX)? {
-        None => Err(NoMemory),
-        Some(all) => Ok(all),
     }
 }

@@ -4,7 +4,6 @@ ghost use Rattle.fond_layers.specs.declared.fault.LayerFault.TheVariants.{NoMemo
 ghost use Rattle.std.specs.Prelude.{◌≡◌};
 
 use fond_text::fault::NoMemory;
-use thiserror::Error;
 
 /// The first cube of a layer that is not sure, by its number, and what is wrong with it.
 #[derive(Clone, Copy)]
@@ -17,13 +16,12 @@ pub enum Spot {
 }
 
 /// Why a layer was not appended.
-#[derive(Clone, Copy, Debug, PartialEq, Eq, Error)]
+#[derive(Clone, Copy)]
 pub enum LayerFault {
-    #[error("the goal may be true in cube {cube} of the layer")]
+    /// The goal may be true in the cube.
     Goal { cube: u32 },
-    #[error("action {act} may leave the layers from cube {cube} of the layer")]
+    /// The action may be applicable in the cube, and does not lead into the layer or an earlier one.
     NotSure { cube: u32, act: u32 },
-    #[error("out of memory")]
     NoMemory,
 }
 
