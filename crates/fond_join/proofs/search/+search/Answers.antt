@@ -123,3 +123,25 @@ returns-after-loop-object-clause-found t c =
     ∙ ap (λ left. c.loop-object.found ++ passing_from (objects_of c.args.schema.now.ranges) (is_kept task c.args.schema.now) env (get_or order 0 0) rest left) (sym none)
     ∙ c.loop-object.invariant.left in
     (found ∙ ap (λ around. c.args.found.now ++ kept_completions task c.args.schema.now around order) c.in_ok-is_possible.ensures.same, c.loop-object.invariant.room)
+
+pub index_mut-requires : goal.index_mut-requires
+index_mut-requires t c =
+    let order = c.args.order.now in
+    let env = c.args.scope.now.env.items in
+    let whole = first_item order (get_or order 0 0) c.in-len1-up.len_at_least (get_or_default order 0 0 (get_or order 0 0) c.in-len1-up.len_at_least) in
+    let within = none_within env (get_or order 0 0) (subst (IsOrder env) whole c.requires.order).0 in
+    omega (arith, within, ap length (c.loop-object.invariant.same ∙ c.in_ok-is_possible.ensures.same), c.loop-object.scope.env.ok.0)
+
+pub index_mut-requires-in-loop-object : goal.index_mut-requires-in-loop-object
+index_mut-requires-in-loop-object t c =
+    let order = c.args.order.now in
+    let env = c.args.scope.now.env.items in
+    let object = Some (get_or c.deref-object-items.result.now c.loop-object.object-index 0) in
+    let whole = first_item order (get_or order 0 0) c.in-len1-up.len_at_least (get_or_default order 0 0 (get_or order 0 0) c.in-len1-up.len_at_least) in
+    let within = none_within env (get_or order 0 0) (subst (IsOrder env) whole c.requires.order).0 in
+    let stays = subst (λ complete. OnTrue complete (c.search.new.scope.env.items ≡ set c.loop-object.scope.env.items (get_or order 0 0) object)) c.if-not-branch-2.false c.in_ok-search-in-len1-up.ensures.same in
+    let long = length-set c.loop-object.scope.env.items (get_or order 0 0) object in
+    omega (arith, within, ap length stays, long, ap length (c.loop-object.invariant.same ∙ c.in_ok-is_possible.ensures.same), c.search.new.scope.env.ok.0)
+
+pub returns-after-loop-object-clause-same : goal.returns-after-loop-object-clause-same
+returns-after-loop-object-clause-same t c = c.loop-object.invariant.same ∙ c.in_ok-is_possible.ensures.same
