@@ -5,6 +5,7 @@ pub mod Exact
 pub mod Forms
 pub mod Found
 pub mod Puts
+pub mod Written
 pub mod Images
 pub mod Folded
 pub mod Lists
