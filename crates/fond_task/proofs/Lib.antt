@@ -6,6 +6,7 @@ pub mod Forms
 pub mod Found
 pub mod Puts
 pub mod Written
+pub mod Junctions
 pub mod Images
 pub mod Folded
 pub mod Lists
