@@ -1,5 +1,5 @@
--- Truth, values and atoms of conjunctions and disjunctions, by those of their parts.
-use Rattle.std.proofs.Common.{◌≡◌, ℕ, List, Bool, Option, map, sym, ap, ◌∙◌}
+-- Truth and atoms of conjunctions and disjunctions, by those of their parts.
+use Rattle.std.proofs.Common.{◌≡◌, ℕ, List, Bool, map, sym, ap, ◌∙◌}
 use Rattle.std.specs.List.{list_all, list_any}
 use Rattle.std.specs.declared.vec.Vec.{Vec}
 use Rattle.std.specs.declared.alloc.Global.{Global}
@@ -9,8 +9,6 @@ use Rattle.fond_task.specs.declared.form.Form.TheOpen.{And as AndOf, Or as OrOf}
 use Rattle.fond_task.specs.declared.form.Form.TheFolds.{fold-roll-Form}
 use Rattle.fond_task.specs.Within.{is_form_within, within_step}
 use Rattle.fond_task.specs.Truth.{is_true, is_true_step}
-use Rattle.fond_task.specs.declared.form.Kleene.{Kleene}
-use Rattle.fond_task.specs.Values.{greatest, value, value_step}
 
 -- a conjunction is true if each part is, and a disjunction if some part is
 pub is_true-And : (state : List Bool) (parts : Vec Form Global) → is_true state (And parts) ≡ list_all (λ part. part) (map (is_true state) parts.items)
@@ -25,7 +23,3 @@ within-parts-And atoms parts = ap (is_form_within atoms) (sym (rolls-And parts))
 
 pub within-parts-Or : (atoms : ℕ) (parts : Vec Form Global) → is_form_within atoms (Or parts) ≡ list_all (λ part. part) (map (is_form_within atoms) parts.items)
 within-parts-Or atoms parts = ap (is_form_within atoms) (sym (rolls-Or parts)) ∙ fold-roll-Form Bool (within_step atoms) (OrOf parts)
-
--- the value of a disjunction is the greatest of its parts
-pub value-Or : (cube : List (Option Bool)) (parts : Vec Form Global) → value cube (Or parts) ≡ greatest (map (value cube) parts.items)
-value-Or cube parts = ap (value cube) (sym (rolls-Or parts)) ∙ fold-roll-Form Kleene (value_step cube) (OrOf parts)

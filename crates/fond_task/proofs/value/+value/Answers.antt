@@ -1,8 +1,9 @@
-use Rattle.std.proofs.Common.{ap, sym, ◌∙◌, ◌+◌, map, drop, arith, rules}
+use Rattle.std.proofs.Common.{ap, sym, ◌∙◌, ◌+◌, length, map, drop}
 use Rattle.std.specs.Prelude.{fold}
-use Rattle.std.proofs.lemmas.Grind.{common_steps}
+use Rattle.std.proofs.lemmas.Bool.{and_parts}
+use Rattle.fond_task.specs.Within.{is_form_within}
 use Rattle.fond_task.specs.Values.{value, lesser, greater}
-use Rattle.fond_task.proofs.Folded.{fold_next}
+use Rattle.fond_task.proofs.Folded.{all_next, fold_next}
 use Rattle.fond_task.proofs.Images.{least_no, greatest_yes}
 use Rattle.fond_task.proofs.value.+value.Goals as goal
 
@@ -21,7 +22,7 @@ loop-part-preserved t c =
     let items = c.deref-part-items.result.now in
     let next = c.loop-part.part-index + 1 in
     record {
-      within = first_of (search rules, grind (arith, common_steps));
+      within = (and_parts _ _ (sym (all_next (is_form_within (length cube)) items c.loop-part.part-index c.part-item.result c.loop-part-test.true c.part-item.is) ∙ c.loop-part.invariant.within)).1;
       value = ap (λ a. fold lesser a (map (value cube) (drop next items))) (c.lesser-least.ensures ∙ ap (lesser c.loop-part.least) c.value.ensures)
           ∙ sym (fold_next lesser (value cube) c.loop-part.least items c.loop-part.part-index c.part-item.result c.loop-part-test.true c.part-item.is) ∙ c.loop-part.invariant.value;
     }
@@ -41,7 +42,7 @@ loop-part-2-preserved t c =
     let items = c.deref-part-items-in-Or.result.now in
     let next = c.loop-part-2.part-index + 1 in
     record {
-      within = first_of (search rules, grind (arith, common_steps));
+      within = (and_parts _ _ (sym (all_next (is_form_within (length cube)) items c.loop-part-2.part-index c.part-item-in-loop-part-2.result c.loop-part-2-test.true c.part-item-in-loop-part-2.is) ∙ c.loop-part-2.invariant.within)).1;
       value = ap (λ a. fold greater a (map (value cube) (drop next items))) (c.greater-greatest.ensures ∙ ap (greater c.loop-part-2.greatest) c.value-in-loop-part-2.ensures)
           ∙ sym (fold_next greater (value cube) c.loop-part-2.greatest items c.loop-part-2.part-index c.part-item-in-loop-part-2.result c.loop-part-2-test.true c.part-item-in-loop-part-2.is) ∙ c.loop-part-2.invariant.value;
     }
