@@ -38,3 +38,11 @@ loop-entry-preserved c =
       put = λ k small. counts_with_later value entry.add (entry.atom == k) (is_true state entry.cond) (adds state later k) (deletes state later k) _ _ (c.put.ensures.put k (omega arith))
           ∙ sym (ap (λ left. if (if value then adds state left k else deletes state left k) then value else truth_at c.loop-entry.out k) next) ∙ c.loop-entry.invariant.put k small;
     }
+
+pub put-requires-clause-within : goal.put-requires-clause-within
+put-requires-clause-within c =
+    let next = drop_next c.as_slice-entry-items.result.now c.loop-entry.entry-index c.entry-item.result c.loop-entry-test.true c.entry-item.is in
+    (and_parts _ _ (sym (ap (list_all (is_entry_within (length c.args.state.now))) next) ∙ c.loop-entry.invariant.within)).0
+
+pub put-requires-clause-long : goal.put-requires-clause-long
+put-requires-clause-long c = c.loop-entry.invariant.long ∙ c.requires.long
