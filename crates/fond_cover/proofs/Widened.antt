@@ -12,7 +12,7 @@ use Rattle.fond_cover.specs.declared.item.Way.{Way}
 use Rattle.fond_cover.specs.declared.item.Way.TheVariants.{Goal, Rule as ByRule}
 use Rattle.fond_cover.specs.Items.{First, LiesInItem, IsSureWay, IsSureItem, AreSureItems, AreItemsOver, with_cube, dropped}
 use Rattle.fond_cover.proofs.Placed.{got_same, got_other}
-use Rattle.fond_cover.specs.Wider.{AreWider, one_if, literals, all_literals, HaveWidened}
+use Rattle.fond_cover.specs.Wider.{IsWider, AreWider, one_if, literals, all_literals, HaveWidened}
 
 -- a cube lies in what is left of it
 lies_in_rest : (cube : CubeView) (atom : ℕ) → CubeLiesIn cube (without_literal cube atom)
@@ -94,6 +94,19 @@ module _ (task : Task) (firsts : List First) where
         ap (λ (i : Item). length i.cube) is_lesser ∙ length-set item.cube atom None ∙ over at item has)
         (λ differs. over number one (sym (got_other items at number lesser differs) ∙ is))
         (cases_eq number at)
+
+  -- items that stayed as they were
+  pub widened_none : (items : List Item) → AreItemsOver (length task.atoms) items → AreSureItems task firsts items → HaveWidened task firsts items items false
+  widened_none items over sure = record {
+    over = over;
+    sure = sure;
+    wider = record {
+      counted = refl;
+      each = λ number item other is also. subst (λ (i : Item). IsWider item i) (same_Some item other (sym is ∙ also)) (record { long = refl; lies = λ k sign at. at; same = refl });
+    };
+    fewer = λ is. absurd (false≢true is);
+    none = λ is. refl;
+  }
 
   -- widened twice
   pub widened_twice : (one two three : List Item) (x y : Bool) → HaveWidened task firsts one two x → HaveWidened task firsts two three y → HaveWidened task firsts one three (x || y)

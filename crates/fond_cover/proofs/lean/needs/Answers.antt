@@ -1,9 +1,9 @@
-use Rattle.std.proofs.Common.{◌∙◌, Some, None, length, sym, ap}
+use Rattle.std.proofs.Common.{◌∙◌, Some, None, length, sym, ap, ◌≡◌, ◌<◌, subst}
 use Rattle.std.specs.Prelude.{slice_set}
 use Rattle.std.proofs.lemmas.Bool.{false≢true, not-true, not-false}
 use Rattle.std.proofs.lemmas.List.{length-set}
 use Rattle.fond_state.specs.Cubes.{literal_at, without_literal}
-use Rattle.fond_rules.proofs.Literals.{put_back}
+use Rattle.fond_rules.proofs.Literals.{literal_within, put_back}
 use Rattle.fond_cover.proofs.Placed.{there, sure_with, sure_without}
 use Rattle.fond_cover.proofs.lean.needs.Goals as goal
 
@@ -38,3 +38,9 @@ returns-clause-spare g c = λ no item has.
       has = ap (λ cube. literal_at cube c.args.atom) (sym same) ∙ sym c.in-Some.ensures;
       sure = sure_without task firsts c.args.items.now c.args.at item has c.args.atom cube is ((c.is_sure_beside-is_sure.ensures.decides item has).0 (not-false _ no));
     }
+
+pub put_literal-requires : goal.put_literal-requires
+put_literal-requires g c =
+    let cube = c.args.scratch.now.cube in
+    let same : length c.is_sure_beside-is_sure.new.scratch.cube ≡ length cube = ap length (c.is_sure_beside-is_sure.ensures.same_cube ∙ c.drop_literal.ensures) ∙ length-set cube c.args.atom None in
+    subst (λ n. c.args.atom < n) (sym same) (literal_within cube c.args.atom c.in-Some.sign (sym c.in-Some.ensures))

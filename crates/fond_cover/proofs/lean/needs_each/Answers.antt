@@ -1,6 +1,7 @@
-use Rattle.std.proofs.Common.{◌≡◌, ◌∙◌, refl, subst, ⊎_elim, arith}
+use Rattle.std.proofs.Common.{◌≡◌, ◌∙◌, refl, subst, ⊎_elim, arith, ◌<◌}
 use Rattle.std.proofs.lemmas.Bool.{cases_lt, false≢true}
 use Rattle.fond_cover.specs.Items.{NeedsLiteral}
+use Rattle.fond_rules.proofs.Literals.{literal_within}
 use Rattle.fond_cover.proofs.lean.needs_each.Goals as goal
 
 pub returns-then-not-needs-clause-decides : goal.returns-then-not-needs-clause-decides
@@ -26,3 +27,11 @@ loop-atom-preserved g c =
           subst (λ n. NeedsLiteral task firsts c.args.items.now c.args.at item n) same (told.needed refl item has))
           (cases_lt k atom);
     }
+
+pub returns-clause-decides : goal.returns-clause-decides
+returns-clause-decides g c = λ item has. (
+  λ e atom sign at.
+      let below : atom < c.loop-atom.atom = omega (arith, literal_within item.cube atom sign at, c.requires.over c.args.at item has, c.loop-atom-test.false, c.len-atom-end.ensures) in
+      c.loop-atom.invariant.needed atom item below has sign at,
+  λ each. refl,
+)

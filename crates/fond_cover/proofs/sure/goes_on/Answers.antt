@@ -6,6 +6,7 @@ use Rattle.fond_task.specs.declared.task.Act.{Act}
 use Rattle.fond_task.proofs.Found.{all_at}
 use Rattle.fond_cover.specs.Items.{First, LeadInto}
 use Rattle.fond_cover.proofs.Ruled.{of_act}
+use Rattle.std.proofs.lemmas.Bool.{false≢true}
 use Rattle.fond_cover.proofs.sure.goes_on.Goals as goal
 
 pub get-requires : goal.get-requires
@@ -30,3 +31,9 @@ returns-then-first_on-clause-decides g c =
       λ goes. c.lead_into.ensures.decides.1 (subst (λ (a : Act). LeadInto c.args.others.now a c.args.cube.now c.args.numbers.now)
           (same_Some goes.act c.get.result.now (sym goes.has_act ∙ ap (slice_get acts) (same goes.on.first goes.on.numbered) ∙ c.get.ensures)) goes.leads),
     )
+
+pub returns-else-first_on-clause-decides : goal.returns-else-first_on-clause-decides
+returns-else-first_on-clause-decides g c = (
+  λ e. absurd (false≢true (sym c.if-first_on.false ∙ e)),
+  λ goes. c.first_on.ensures.1 goes.on,
+)

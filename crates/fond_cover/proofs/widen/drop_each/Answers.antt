@@ -5,6 +5,7 @@ use Rattle.fond_task.specs.declared.task.Task.{Task}
 use Rattle.fond_cover.specs.declared.item.Item.{Item}
 use Rattle.fond_cover.specs.Items.{First, NeedsLiteral}
 use Rattle.fond_cover.specs.Wider.{HaveWidened}
+use Rattle.fond_rules.proofs.Literals.{literal_within}
 use Rattle.fond_cover.proofs.Placed.{there}
 use Rattle.fond_cover.proofs.Widened.{widened_twice}
 use Rattle.fond_cover.proofs.widen.drop_each.Goals.{then-changed, else-changed}
@@ -51,3 +52,9 @@ returns-clause-same_cube g c =
     let before = there c.args.items.now at c.requires.there in
     let after = there c.loop-atom.items at (omega (arith, inv.widened.wider.counted, c.requires.there)) in
     ap length (inv.same after.0 after.1) ∙ inv.widened.over at after.0 after.1 ∙ sym (ap length (c.requires.same before.0 before.1) ∙ c.requires.over at before.0 before.1)
+
+pub returns-clause-needed : goal.returns-clause-needed
+returns-clause-needed g c = λ is atom item has sign at.
+    let inv = c.loop-atom.invariant in
+    let below : atom < c.loop-atom.atom = omega (arith, literal_within item.cube atom sign at, inv.widened.over c.args.at item has, c.loop-atom-test.false, c.len-atom-end.ensures) in
+    inv.needed is atom item below has sign at
