@@ -14,11 +14,10 @@ lowered_twice b = grind (arith, nat_tests)
 
 pub lowered_name : (bytes : List ℕ) → IsLeaf bytes → IsName (map lower bytes)
 lowered_name bytes leaf =
-    let long = length-map bytes lower in
-    (
+    let long = length-map bytes lower in (
       (
         omega (arith, long, leaf.0),
-        λ k d small. subst (λ b. IsTrue (is_leaf_byte b)) (sym (get_or-map lower bytes k d d (omega (arith, long, small)))) (lowered_byte (get_or bytes k d) (leaf.1 k d (omega (arith, long, small))))
+        λ k d small. subst (λ b. IsTrue (is_leaf_byte b)) (sym (get_or-map lower bytes k d d (omega (arith, long, small)))) (lowered_byte (get_or bytes k d) (leaf.1 k d (omega (arith, long, small)))),
       ),
-      λ k d small. subst (λ b. lower b ≡ b) (sym (get_or-map lower bytes k d d (omega (arith, long, small)))) (lowered_twice (get_or bytes k d))
+      λ k d small. subst (λ b. lower b ≡ b) (sym (get_or-map lower bytes k d d (omega (arith, long, small)))) (lowered_twice (get_or bytes k d)),
     )

@@ -1,4 +1,5 @@
-use Rattle.std.proofs.Common.{◌∙◌, below_more, arith}
+use Rattle.std.proofs.Common.{◌∙◌, ℕ, List, Option, length, ap, subst, below_more, arith}
+use Rattle.fond_kinds.specs.Forests.{IsWhole}
 use Rattle.fond_kinds.proofs.grower.grown.Goals as goal
 
 pub loop-start-preserved : goal.loop-start-preserved
@@ -16,3 +17,19 @@ loop-start-init c = record {
   empty = c.new-path.ensures.items;
   added = λ number early. absurd (omega arith);
 }
+
+pub returns : goal.returns
+returns c =
+    let grower = c.loop-start.grower in
+    let growing = c.loop-start.invariant.resting.growing in
+    let kept = c.loop-start.invariant.kept in
+    subst (λ (parents : List (Option ℕ)). IsWhole parents grower.links) kept record {
+      marks = grower.done.items;
+      is = growing.forest;
+      all = λ number low. c.loop-start.invariant.added number (omega (arith, low, ap length kept, c.loop-start-test.false));
+      within = growing.within;
+      ups = growing.ups;
+      times = growing.times;
+      roots = growing.roots;
+      jumps = growing.jumps;
+    }
