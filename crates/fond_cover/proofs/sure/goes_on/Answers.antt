@@ -1,12 +1,12 @@
 use Rattle.std.proofs.Common.{◌≡◌, ◌∙◌, ℕ, ◌<◌, Some, length, refl, sym, ap, subst}
 use Rattle.std.specs.Prelude.{slice_get, IsTrue}
 use Rattle.std.proofs.lemmas.Option.{same_Some}
+use Rattle.std.proofs.lemmas.Bool.{false≢true}
 use Rattle.fond_task.specs.Within.{is_act_within}
 use Rattle.fond_task.specs.declared.task.Act.{Act}
 use Rattle.fond_task.proofs.Found.{all_at}
 use Rattle.fond_cover.specs.Items.{First, LeadInto}
 use Rattle.fond_cover.proofs.Ruled.{of_act}
-use Rattle.std.proofs.lemmas.Bool.{false≢true}
 use Rattle.fond_cover.proofs.sure.goes_on.Goals as goal
 
 pub get-requires : goal.get-requires

@@ -1,6 +1,6 @@
-use Rattle.fond_cover.proofs.Placed.{altered_over}
 use Rattle.std.proofs.Common.{◌∙◌, sym, subst, Decides}
 use Rattle.std.proofs.lemmas.Option.{same_Some}
+use Rattle.fond_cover.proofs.Placed.{altered_over}
 use Rattle.fond_cover.specs.declared.item.Item.{Item}
 use Rattle.fond_cover.specs.declared.item.Way.{Way}
 use Rattle.fond_cover.specs.Altered.{altered}

@@ -2,9 +2,9 @@ use Rattle.std.proofs.Common.{refl, arith, ◌≡◌, ◌∙◌, ℕ, sym, ap, s
 use Rattle.std.specs.List.{list_all}
 use Rattle.std.proofs.lemmas.Bool.{and_parts, cases_lt, false≢true}
 use Rattle.std.proofs.lemmas.Option.{slice_get_within, same_Some}
+use Rattle.std.specs.Prelude.{slice_get}
 use Rattle.fond_task.specs.Within.{is_entry_within}
 use Rattle.fond_task.proofs.Found.{all_at}
-use Rattle.std.specs.Prelude.{slice_get}
 use Rattle.fond_task.specs.Images.{image}
 use Rattle.fond_task.specs.Layers.{CubeView}
 use Rattle.fond_cover.specs.Items.{LiesInItem}

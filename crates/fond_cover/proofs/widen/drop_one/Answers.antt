@@ -1,9 +1,9 @@
 use Rattle.std.proofs.Common.{true, refl, sym, subst, ◌∙◌, ap}
+use Rattle.std.specs.Prelude.{slice_get}
+use Rattle.std.proofs.lemmas.Option.{same_Some}
 use Rattle.fond_cover.specs.Wider.{HaveWidened}
 use Rattle.fond_cover.proofs.Placed.{there, got_same}
 use Rattle.fond_cover.proofs.Widened.{widened_drop, widened_none}
-use Rattle.std.specs.Prelude.{slice_get}
-use Rattle.std.proofs.lemmas.Option.{same_Some}
 use Rattle.fond_state.specs.Cubes.{without_literal}
 use Rattle.fond_cover.specs.declared.item.Item.{Item}
 use Rattle.fond_cover.specs.Items.{with_cube}

@@ -68,3 +68,11 @@ lies_in_some-requires c = subst (λ atoms. AreOver atoms c.args.earlier.now) (sy
 
 pub has_around-leads-requires : goal.has_around-leads-requires
 has_around-leads-requires c = subst (λ atoms. IsOver atoms c.args.layer.now) (sym c.image_of.ensures.same_length) c.requires.layer_over
+
+pub loop-outcome-init : goal.loop-outcome-init
+loop-outcome-init c = record {
+  long = c.requires.long;
+  misses = λ k d small. absurd (omega (arith, small));
+  some_tried = (λ e. absurd (false≢true e), λ some. absurd (omega (arith, some.2)));
+  each_tried = (λ e k d small. absurd (omega (arith, small)), λ each. refl);
+}
