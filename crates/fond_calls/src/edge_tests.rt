@@ -72,13 +72,14 @@ fn a_pen_fails_at_a_full_sink(rt: HostRuntime) -> Result<(), Fail> {
     Ok(())
 }
 
-/// What a shelf of the host appends to a text from a file of this name, which has another text.
+/// A text with what a shelf of the host appends to it from a file of this name, which has another text.
 fn appended(rt: HostRuntime, name: &str, text: &str) -> Result<Vec<u8>, Fail> {
     let alloc = rt.alloc();
     let mut into = Vec::from_slice(alloc, b"old ")?;
     let word = Word::copy(alloc, name.as_bytes())?;
     fs::write(&rt, name, text)?;
-    let found = HostShelf::new(rt).fetch(alloc, &word, &mut into);
+    let mut shelf = HostShelf::new(rt);
+    let found = shelf.fetch(alloc, &word, &mut into);
     fs::remove_file(&rt, name)?;
     found?;
     Ok(into)
@@ -96,7 +97,8 @@ fn fails(rt: HostRuntime, name: &[u8]) -> Result<bool, Fail> {
     let alloc = rt.alloc();
     let mut into = Vec::new(alloc);
     let word = Word::copy(alloc, name)?;
-    let found = HostShelf::new(rt).fetch(alloc, &word, &mut into);
+    let mut shelf = HostShelf::new(rt);
+    let found = shelf.fetch(alloc, &word, &mut into);
     Ok(found == Err(FetchFault::Failed) && into.is_empty())
 }
 
