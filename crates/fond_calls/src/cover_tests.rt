@@ -1,11 +1,11 @@
 use crate::coin::ground_coin;
-use fond_cover::conditions::Conditions;
-use fond_cover::item::{Item, ItemNumbers, Way};
-use fond_cover::items::Items;
-use fond_cover::lean::lean_item;
-use fond_cover::pad::CoverPad;
-use fond_cover::sure::{are_sure, sure_item};
-use fond_cover::widen::widen;
+use fond_policy::conditions::Conditions;
+use fond_policy::item::{Item, ItemNumbers, Way};
+use fond_policy::items::Items;
+use fond_policy::lean::lean_item;
+use fond_policy::pad::CoverPad;
+use fond_policy::sure::{are_sure, sure_item};
+use fond_policy::widen::widen;
 use fond_rules::rules::Rules;
 use fond_state::cube::Cube;
 use fond_task::rule::{Rule, Target, Targets};

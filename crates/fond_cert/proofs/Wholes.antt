@@ -8,7 +8,7 @@ use Rattle.fond_task.specs.declared.task.Task.{Task}
 use Rattle.fond_task.specs.Layers.{CubeView}
 use Rattle.fond_task.specs.declared.rule.Pair.{Pair}
 use Rattle.fond_task.specs.declared.rule.Rule.{Rule}
-use Rattle.fond_cover.specs.declared.item.Item.{Item}
+use Rattle.fond_policy.specs.declared.item.Item.{Item}
 use Rattle.fond_cert.specs.declared.draft.Draft.{Draft}
 use Rattle.fond_cert.specs.declared.code.TheConstants.{OUT_OF_FORM}
 use Rattle.fond_cert.specs.declared.due.Due.{Due}

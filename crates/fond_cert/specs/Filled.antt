@@ -3,8 +3,8 @@ use Rattle.std.specs.Prelude.{◌≡◌, List, [], ◌∷◌, ◌++◌, Some, No
 use Rattle.fond_task.specs.declared.rule.Pair.{Pair}
 use Rattle.fond_task.specs.declared.rule.Rule.{Rule}
 use Rattle.fond_task.specs.declared.rule.Targets.TheVariants.{One, All}
-use Rattle.fond_cover.specs.declared.item.Item.{Item}
-use Rattle.fond_cover.specs.declared.item.Way.TheVariants.{Goal as ToGoal, Rule as ByRule}
+use Rattle.fond_policy.specs.declared.item.Item.{Item}
+use Rattle.fond_policy.specs.declared.item.Way.TheVariants.{Goal as ToGoal, Rule as ByRule}
 use Rattle.fond_cert.specs.declared.values.LineValues.{LineValues}
 use Rattle.fond_cert.specs.Spellings.{Meaning, Meanings}
 use Rattle.fond_form.specs.declared.table.LineKind.{LineKind}

@@ -4,7 +4,7 @@ use Rattle.fond_task.specs.declared.task.Task.{Task}
 use Rattle.fond_task.specs.declared.rule.Pair.{Pair}
 use Rattle.fond_task.specs.declared.rule.Rule.{Rule}
 use Rattle.fond_rules.specs.Belongs.{HasTarget}
-use Rattle.fond_cover.specs.declared.item.Item.{Item}
+use Rattle.fond_policy.specs.declared.item.Item.{Item}
 use Rattle.fond_policy.specs.Belongs.{HasNumber}
 use Rattle.fond_policy.specs.Sizes.{IsSmallPair, AreSmallTargets, IsSmallWay}
 

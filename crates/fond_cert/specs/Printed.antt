@@ -12,9 +12,9 @@ use Rattle.fond_task.specs.declared.rule.Targets.{Targets}
 use Rattle.fond_task.specs.declared.rule.Targets.TheVariants.{One, All}
 use Rattle.fond_task.specs.declared.rule.Pair.{Pair}
 use Rattle.fond_task.specs.declared.rule.Rule.{Rule}
-use Rattle.fond_cover.specs.declared.item.Item.{Item}
-use Rattle.fond_cover.specs.declared.item.Way.{Way}
-use Rattle.fond_cover.specs.declared.item.Way.TheVariants.{Goal as ToGoal, Rule as ByRule}
+use Rattle.fond_policy.specs.declared.item.Item.{Item}
+use Rattle.fond_policy.specs.declared.item.Way.{Way}
+use Rattle.fond_policy.specs.declared.item.Way.TheVariants.{Goal as ToGoal, Rule as ByRule}
 use Rattle.fond_form.specs.Lines.{group_text, spaced, sign_text, literals_text}
 use Rattle.fond_form.specs.Forms.{Line, line_text}
 use Rattle.fond_cert.specs.declared.due.Group.{Group}

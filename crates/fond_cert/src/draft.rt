@@ -1,7 +1,7 @@
 //! The parts of a certificate that were read so far.
 
-use fond_cover::items::Items;
 use fond_layers::layers::{Layer, Layers};
+use fond_policy::items::Items;
 use fond_rules::pairs::Pairs;
 use fond_rules::rules::Rules;
 

@@ -18,10 +18,10 @@ use crate::item::{cube_of, fair_of, goal_item_of, pair_of, rule_item_of, unfair_
 use crate::reading::read_line;
 use crate::task_index::TaskIndex;
 use crate::values::LineValues;
-use fond_cover::item::Item;
-use fond_cover::items::Items;
 use fond_form::table::LineKind;
 use fond_layers::layers::{Layer, Layers};
+use fond_policy::item::Item;
+use fond_policy::items::Items;
 use fond_rules::pairs::Pairs;
 use fond_rules::rules::Rules;
 use fond_state::cube::Cube;

@@ -8,7 +8,7 @@ ghost use Rattle.fond_task.specs.declared.task.Task.{Task};
 ghost use Rattle.std.specs.Prelude.{◌≡◌, ◌≢◌, None};
 
 use crate::values::LineValues;
-use fond_cover::item::{Item, Way};
+use fond_policy::item::{Item, Way};
 use fond_state::cube::Cube;
 use fond_task::rule::{Pair, Rule, Targets};
 use std::alloc::Global;

@@ -16,13 +16,13 @@ use crate::put::{
     put_act, put_cube, put_item_numbers, put_number, put_spaced, put_target, put_targets,
 };
 use crate::text_sink::TextSink;
-use fond_cover::item::{Item, Way};
-use fond_cover::items::Items;
 use fond_edge::pen::Pen;
 use fond_edge::send::WriteFault;
 use fond_edge::sink::Sink;
 use fond_layers::layers::{Layer, Layers};
 use fond_policy::cert::Cert;
+use fond_policy::item::{Item, Way};
+use fond_policy::items::Items;
 use fond_rules::pairs::Pairs;
 use fond_rules::rules::Rules;
 use fond_state::cube::Cube;

@@ -9,9 +9,9 @@ ghost use Rattle.std.specs.Fmt.{decimal};
 ghost use Rattle.std.specs.Prelude.{◌++◌, ◌<◌, codes, length, map};
 
 use crate::names::{put_action, put_atom};
-use fond_cover::item::ItemNumbers;
 use fond_edge::pen::Pen;
 use fond_edge::sink::Sink;
+use fond_policy::item::ItemNumbers;
 use fond_state::cube::Cube;
 use fond_task::rule::{Target, TargetList};
 use fond_task::task::{Labels, Task};

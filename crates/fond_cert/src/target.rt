@@ -16,10 +16,10 @@ ghost use Rattle.std.specs.Str.Parse.{digits_value};
 use crate::code::{TOO_LARGE, UNKNOWN_ACTION};
 use crate::error::LineError;
 use crate::task_index::TaskIndex;
-use fond_cover::item::ItemNumbers;
 use fond_form::part::Part;
 use fond_form::scan::after;
 use fond_form::word::{number, word};
+use fond_policy::item::ItemNumbers;
 use fond_task::rule::{Target, TargetList};
 use std::alloc::Global;
 

@@ -4,7 +4,7 @@ ghost use Rattle.fond_cert.specs.Filled.{no_values};
 ghost use Rattle.fond_task.specs.declared.rule.Target.{Target};
 ghost use Rattle.std.specs.Prelude.{◌≡◌, ◌<◌, ◌^◌, ℕ, Some, slice_get};
 
-use fond_cover::item::ItemNumbers;
+use fond_policy::item::ItemNumbers;
 use fond_state::cube::Cube;
 use fond_task::rule::{Target, TargetList};
 use fond_text::list::List;

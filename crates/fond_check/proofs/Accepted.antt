@@ -14,7 +14,7 @@ use Rattle.fond_layers.specs.declared.fault.Spot.TheVariants.{Goal, NotSure}
 use Rattle.fond_policy.specs.declared.cert.Cert.{Cert}
 use Rattle.fond_policy.specs.declared.cert.Cert.TheVariants.{Policy, Refusal, Covered}
 use Rattle.fond_policy.specs.Parts.{ArePartsSure, IsRight, IsRightCover}
-use Rattle.fond_cover.specs.declared.item.Item.{Item}
+use Rattle.fond_policy.specs.declared.item.Item.{Item}
 use Rattle.fond_check.specs.Verdicts.{IsCoverVerdict, IsFirstBadLayer, IsPartFault, IsPolicyVerdict, IsRefusalVerdict, IsVerdict}
 use Rattle.fond_check.specs.declared.verdict.Verdict.{Verdict}
 use Rattle.fond_check.specs.declared.verdict.Verdict.TheVariants.{Accepted, Rule as BadRule, Pair as BadPair, LayerGoal, LayerAct, NoRule, Count, Outside, Item as BadItem, Start as BadStart}

@@ -12,9 +12,9 @@ use Rattle.fond_layers.specs.Faults.{IsSpot}
 use Rattle.fond_layers.specs.declared.fault.Spot.{Spot}
 use Rattle.fond_layers.specs.declared.fault.Spot.TheVariants.{Goal, NotSure}
 use Rattle.fond_policy.specs.Counts.{IsMiscounted, IsUnruled}
-use Rattle.fond_cover.specs.declared.item.Item.{Item}
-use Rattle.fond_cover.specs.Covers.{IsIn}
-use Rattle.fond_cover.specs.Items.{firsts_of, IsSureItem, AreSureItems}
+use Rattle.fond_policy.specs.declared.item.Item.{Item}
+use Rattle.fond_policy.specs.Covers.{IsIn}
+use Rattle.fond_policy.specs.Items.{firsts_of, IsSureItem, AreSureItems}
 use Rattle.fond_policy.specs.Parts.{AreSurePairs, AreSureBefore, ArePartsSure, AreLean, AreAllLean, IsRightCover}
 use Rattle.fond_policy.specs.declared.cert.Cert.{Cert}
 use Rattle.fond_policy.specs.declared.cert.Cert.TheVariants.{Policy as PolicyCert, Refusal as RefusalCert, Covered as CoveredCert}

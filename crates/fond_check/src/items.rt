@@ -1,15 +1,15 @@
 //! The first item of a certificate that is not sure, and whether a state lies in an item.
 
 ghost use Rattle.fond_check.specs.Verdicts.{IsFirstBadItem};
-ghost use Rattle.fond_cover.specs.Covers.{IsIn};
-ghost use Rattle.fond_cover.specs.Items.{firsts_of, AreItemsOver, AreSureItems};
+ghost use Rattle.fond_policy.specs.Covers.{IsIn};
+ghost use Rattle.fond_policy.specs.Items.{firsts_of, AreItemsOver, AreSureItems};
 ghost use Rattle.fond_rules.specs.Belongs.{BelongTo};
 ghost use Rattle.std.specs.Prelude.{◌≡◌, length, Decides, MatchOption};
 
-use fond_cover::conditions::Conditions;
-use fond_cover::items::Items;
-use fond_cover::pad::CoverPad;
-use fond_cover::sure::sure_item;
+use fond_policy::conditions::Conditions;
+use fond_policy::items::Items;
+use fond_policy::pad::CoverPad;
+use fond_policy::sure::sure_item;
 use fond_rules::rules::Rules;
 use fond_state::state::State;
 use fond_task::task::Task;

@@ -1,7 +1,7 @@
 //! Whether all pairs, rules and items of a certificate are lean.
 
 ghost use Rattle.fond_policy.specs.Parts.{AreAllLean, AreLean};
-ghost use Rattle.fond_cover.specs.Items.{firsts_of, AreItemsOver, AreLeanItems};
+ghost use Rattle.fond_policy.specs.Items.{firsts_of, AreItemsOver, AreLeanItems};
 ghost use Rattle.fond_task.specs.Rules.{IsLeanPair, IsLeanRule};
 ghost use Rattle.fond_task.specs.declared.rule.Pair.{Pair};
 ghost use Rattle.fond_task.specs.declared.rule.Rule.{Rule};
@@ -10,11 +10,11 @@ ghost use Rattle.fond_rules.specs.Belongs.{ArePairsOver, BelongTo};
 ghost use Rattle.std.specs.Prelude.{◌≡◌, ℕ, length, slice_get, Some, Contains, Decides};
 
 use crate::parts::is_lean_pair;
-use fond_cover::conditions::Conditions;
-use fond_cover::items::Items;
-use fond_cover::lean::lean_item;
-use fond_cover::pad::CoverPad;
 use fond_layers::layers::Layers;
+use fond_policy::conditions::Conditions;
+use fond_policy::items::Items;
+use fond_policy::lean::lean_item;
+use fond_policy::pad::CoverPad;
 use fond_rules::pad::Pad;
 use fond_rules::pairs::Pairs;
 use fond_rules::rules::Rules;

@@ -4,8 +4,8 @@ use Rattle.fond_task.specs.declared.task.Task.{Task}
 use Rattle.fond_cert.specs.Faults.{IsCertFault}
 use Rattle.fond_check.specs.Verdicts.{IsVerdict}
 use Rattle.fond_check.specs.declared.verdict.Verdict.{Verdict}
-use Rattle.fond_cover.specs.declared.item.Item.{Item}
-use Rattle.fond_cover.specs.Items.{firsts_of, AreLeanItems}
+use Rattle.fond_policy.specs.declared.item.Item.{Item}
+use Rattle.fond_policy.specs.Items.{firsts_of, AreLeanItems}
 use Rattle.fond_policy.specs.declared.cert.Cert.{Cert}
 use Rattle.fond_policy.specs.declared.cert.Cert.TheVariants.{Policy, Covered}
 use Rattle.fond_policy.specs.Parts.{IsRight, IsRightCover}

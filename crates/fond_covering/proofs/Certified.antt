@@ -11,13 +11,13 @@ use Rattle.fond_task.specs.declared.task.Task.{Task}
 use Rattle.fond_task.specs.Within.{is_act_within, is_entry_within, is_form_within}
 use Rattle.fond_task.proofs.Found.{all_at}
 use Rattle.fond_task.specs.declared.rule.Rule.{Rule}
-use Rattle.fond_cover.specs.declared.item.Item.{Item}
-use Rattle.fond_cover.specs.declared.item.Way.{Way}
-use Rattle.fond_cover.specs.declared.item.Way.TheVariants.{Goal, Rule as ByRule}
-use Rattle.fond_cover.specs.Covers.{IsIn}
-use Rattle.fond_cover.specs.Items.{firsts_of, AreItemsOver, AreLeanItems, IsSureWay}
-use Rattle.fond_cover.specs.Wider.{AreWider}
-use Rattle.fond_cover.proofs.Ruled.{rule_of}
+use Rattle.fond_policy.specs.declared.item.Item.{Item}
+use Rattle.fond_policy.specs.declared.item.Way.{Way}
+use Rattle.fond_policy.specs.declared.item.Way.TheVariants.{Goal, Rule as ByRule}
+use Rattle.fond_policy.specs.Covers.{IsIn}
+use Rattle.fond_policy.specs.Items.{firsts_of, AreItemsOver, AreLeanItems, IsSureWay}
+use Rattle.fond_policy.specs.Wider.{AreWider}
+use Rattle.fond_policy.proofs.Ruled.{rule_of}
 use Rattle.fond_policy.specs.Belongs.{HasNumber}
 use Rattle.fond_policy.specs.Sizes.{IsSmallWay}
 use Rattle.fond_covering.specs.Coverings.{IsCovering, IsSureCovering}

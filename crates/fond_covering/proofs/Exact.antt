@@ -18,12 +18,12 @@ use Rattle.fond_task.proofs.Found.{all_at}
 use Rattle.fond_task.specs.declared.rule.Rule.{Rule}
 use Rattle.fond_task.specs.Layers.{CubeView}
 use Rattle.fond_rules.specs.Select.{selected_rule}
-use Rattle.fond_cover.specs.declared.item.Item.{Item}
-use Rattle.fond_cover.specs.declared.item.Way.{Way}
-use Rattle.fond_cover.specs.declared.item.Way.TheVariants.{Goal, Rule as ByRule}
-use Rattle.fond_cover.specs.Covers.{IsIn}
-use Rattle.fond_cover.specs.Items.{First, first_of, firsts_of, AreFirstsOver, AreItemsOver, AreSureItems, IsFirstOn, IsSureWay, LeadInto}
-use Rattle.fond_cover.proofs.Ruled.{rule_of, first_at}
+use Rattle.fond_policy.specs.declared.item.Item.{Item}
+use Rattle.fond_policy.specs.declared.item.Way.{Way}
+use Rattle.fond_policy.specs.declared.item.Way.TheVariants.{Goal, Rule as ByRule}
+use Rattle.fond_policy.specs.Covers.{IsIn}
+use Rattle.fond_policy.specs.Items.{First, first_of, firsts_of, AreFirstsOver, AreItemsOver, AreSureItems, IsFirstOn, IsSureWay, LeadInto}
+use Rattle.fond_policy.proofs.Ruled.{rule_of, first_at}
 use Rattle.fond_covering.specs.Full.{AreFullItems, GoesFrom, IsFullWay}
 
 -- the full cube of a state has a literal of each atom, of its truth value

@@ -2,9 +2,9 @@
 use Rattle.std.specs.Prelude.{◌≡◌, ℕ, ◌<◌, ◌^◌, List, All, length}
 use Rattle.fond_task.specs.declared.task.Task.{Task}
 use Rattle.fond_task.specs.declared.rule.Rule.{Rule}
-use Rattle.fond_cover.specs.declared.item.Item.{Item}
-use Rattle.fond_cover.specs.Covers.{IsIn}
-use Rattle.fond_cover.specs.Items.{firsts_of, AreItemsOver, AreLeanItems, AreSureItems}
+use Rattle.fond_policy.specs.declared.item.Item.{Item}
+use Rattle.fond_policy.specs.Covers.{IsIn}
+use Rattle.fond_policy.specs.Items.{firsts_of, AreItemsOver, AreLeanItems, AreSureItems}
 use Rattle.fond_policy.specs.Belongs.{Belongs, BelongAsItems}
 use Rattle.fond_policy.specs.Sizes.{HasSmallNumbers, IsSmallWay}
 use Rattle.fond_task.specs.Certificates.{IsRightPolicy}

@@ -8,9 +8,9 @@ use Rattle.fond_task.specs.Steps.{next_state}
 use Rattle.fond_task.specs.declared.rule.Rule.{Rule}
 use Rattle.fond_task.specs.Policies.{IsGoal}
 use Rattle.fond_rules.specs.Select.{selected_rule}
-use Rattle.fond_cover.specs.declared.item.Item.{Item}
-use Rattle.fond_cover.specs.declared.item.Way.{Way}
-use Rattle.fond_cover.specs.declared.item.Way.TheVariants.{Goal, Rule as ByRule}
+use Rattle.fond_policy.specs.declared.item.Item.{Item}
+use Rattle.fond_policy.specs.declared.item.Way.{Way}
+use Rattle.fond_policy.specs.declared.item.Way.TheVariants.{Goal, Rule as ByRule}
 
 -- numbers are those of the states after the outcomes of an action from a state, in order
 pub record AreNextNumbers (states : List (List Bool)) (state : List Bool) (act : Act) (numbers : List ℕ) : Type 0 where

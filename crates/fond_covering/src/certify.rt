@@ -4,10 +4,10 @@ ghost use Rattle.fond_covering.specs.Coverings.{IsSureCovering};
 ghost use Rattle.fond_rules.specs.Belongs.{BelongTo};
 ghost use Rattle.std.specs.Prelude.{Decides, IfOk};
 
-use fond_cover::conditions::Conditions;
-use fond_cover::items::Items;
-use fond_cover::pad::CoverPad;
-use fond_cover::sure::are_sure;
+use fond_policy::conditions::Conditions;
+use fond_policy::items::Items;
+use fond_policy::pad::CoverPad;
+use fond_policy::sure::are_sure;
 use fond_rules::rules::Rules;
 use fond_task::task::Task;
 use fond_text::fault::NoMemory;

@@ -1,6 +1,6 @@
 //! What is found.
 
-use fond_cover::items::Items;
+use fond_policy::items::Items;
 
 /// Items that cover the states that rules reach, and the number of the one in which the initial state lies.
 #[derive(Drop)]

@@ -11,8 +11,8 @@ ghost use Rattle.fond_task.specs.declared.task.Act.{Act};
 ghost use Rattle.std.specs.Prelude.{◌≡◌, ◌<◌, ◌^◌, List, Bool, true, Some, None, length, slice_get, Contains, IfOk, IfSome};
 
 use crate::covering::Covering;
-use fond_cover::item::{Item, ItemNumbers, Way};
-use fond_cover::items::Items;
+use fond_policy::item::{Item, ItemNumbers, Way};
+use fond_policy::items::Items;
 use fond_policy::walk::walk_states;
 use fond_rules::pairs::Pairs;
 use fond_rules::rules::Rules;

@@ -1,7 +1,7 @@
 //! Proposals of covers.
 
 use crate::sketch::{Looked, Sketch};
-use fond_cover::items::Items;
+use fond_policy::items::Items;
 use fond_rules::rules::Rules;
 use fond_task::task::Task;
 use fond_text::fault::NoMemory;

@@ -6,10 +6,10 @@ use Rattle.fond_task.specs.declared.task.Act.{Act}
 use Rattle.fond_task.specs.declared.task.Task.{Task}
 use Rattle.fond_task.specs.Layers.{CubeView}
 use Rattle.fond_regress.specs.Stable.{DoesStay, IsHopeless}
-use Rattle.fond_cover.specs.declared.item.Item.{Item}
-use Rattle.fond_cover.specs.declared.item.Way.{Way}
-use Rattle.fond_cover.specs.declared.item.Way.TheVariants.{Goal, Rule as ByRule}
-use Rattle.fond_cover.specs.Items.{First, IsLeanItem, IsSureWay, LeadInto, LiesInItem, dropped}
+use Rattle.fond_policy.specs.declared.item.Item.{Item}
+use Rattle.fond_policy.specs.declared.item.Way.{Way}
+use Rattle.fond_policy.specs.declared.item.Way.TheVariants.{Goal, Rule as ByRule}
+use Rattle.fond_policy.specs.Items.{First, IsLeanItem, IsSureWay, LeadInto, LiesInItem, dropped}
 use Rattle.fond_ground.proofs.Zips.{zip-length}
 use Rattle.fond_laws.specs.Alike.{IsSameAct, IsSameEntry, IsSameTask}
 use Rattle.fond_laws.proofs.SameActs.{same_image, sym_task}

@@ -26,9 +26,9 @@ use Rattle.fond_policy.specs.Belongs.{BelongAsItems, BelongAsLayers, BelongAsPai
 use Rattle.fond_policy.specs.declared.cert.Cert.{Cert}
 use Rattle.fond_policy.specs.declared.cert.Cert.TheVariants.{Policy, Refusal, Covered}
 use Rattle.fond_policy.specs.Parts.{AreAllLean, AreLean, ArePartsSure, IsRight}
-use Rattle.fond_cover.specs.declared.item.Item.{Item}
-use Rattle.fond_cover.specs.Covers.{IsIn}
-use Rattle.fond_cover.specs.Items.{AreItemsOver, firsts_of}
+use Rattle.fond_policy.specs.declared.item.Item.{Item}
+use Rattle.fond_policy.specs.Covers.{IsIn}
+use Rattle.fond_policy.specs.Items.{AreItemsOver, firsts_of}
 use Rattle.fond_ast.specs.Patterns.{IsUnfairWith}
 use Rattle.fond_regress.specs.Stable.{IsHopeless}
 use Rattle.fond_ground.proofs.Zips.{zip-length}

@@ -13,7 +13,7 @@ use Rattle.fond_policy.specs.Belongs.{Belongs}
 use Rattle.fond_cert.specs.Spellings.{spelling}
 use Rattle.fond_policy.specs.declared.cert.Cert.{Cert}
 use Rattle.fond_policy.specs.Parts.{AreAllLean, AreLean, IsRight}
-use Rattle.fond_cover.specs.declared.item.Item.{Item}
+use Rattle.fond_policy.specs.declared.item.Item.{Item}
 use Rattle.fond_regress.specs.Stable.{IsHopeless}
 
 -- two forms have the same value on every cube

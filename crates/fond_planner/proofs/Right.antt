@@ -19,7 +19,7 @@ use Rattle.fond_rules.specs.Belongs.{HasTarget}
 use Rattle.fond_policy.specs.Belongs.{BelongAsRules}
 use Rattle.fond_policy.specs.Sizes.{AreSmallTargets, IsSmallPair, IsSmallTarget}
 use Rattle.fond_policy.specs.declared.cert.Cert.TheVariants.{Refusal, Covered}
-use Rattle.fond_cover.specs.declared.item.Item.{Item}
+use Rattle.fond_policy.specs.declared.item.Item.{Item}
 use Rattle.fond_covering.specs.Coverings.{IsCovering}
 use Rattle.fond_policy.proofs.Walking.{few_outcomes}
 use Rattle.fond_policy.specs.Parts.{AreSureRules}

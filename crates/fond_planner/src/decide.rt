@@ -12,12 +12,12 @@ ghost use Rattle.std.specs.Prelude.{◌≡◌, ◌<◌, ◌≤◌, ◌^◌, None
 use crate::planner::Planner;
 use crate::source::Source;
 use crate::walk::Round;
-use fond_cover::items::Items;
 use fond_covering::cover::{cover_by_states, take_items};
 use fond_covering::covering::Covering;
 use fond_draft::draft::Draft;
 use fond_layers::layers::{Layer, Layers};
 use fond_policy::cert::Cert;
+use fond_policy::items::Items;
 use fond_regress::estimate::{Guess, estimate};
 use fond_rules::rules::Rules;
 use fond_state::cube::Cube;

@@ -14,8 +14,8 @@ ghost use Rattle.std.specs.Prelude.{◌≡◌, ◌≤◌, true, length, IfOk, On
 use crate::planner::Planner;
 use crate::source::Source;
 use crate::walk::{Step, first_step};
-use fond_cover::items::Items;
 use fond_covering::sketch::{Edge, Looked, Sketch};
+use fond_policy::items::Items;
 use fond_policy::walk::one_state;
 use fond_store::store::Store;
 use fond_task::step::apply_into;

@@ -7,8 +7,8 @@ use Rattle.fond_task.specs.Layers.{CubeView}
 use Rattle.fond_task.specs.Policies.{selected}
 use Rattle.fond_task.specs.Solutions.{IsSolution}
 use Rattle.fond_task.proofs.Ranks.{solution_by}
-use Rattle.fond_cover.specs.declared.item.Item.{Item}
-use Rattle.fond_cover.proofs.Closed.{items_ruled}
+use Rattle.fond_policy.specs.declared.item.Item.{Item}
+use Rattle.fond_policy.proofs.Closed.{items_ruled}
 use Rattle.fond_policy.specs.Parts.{IsRightCover}
 
 pub covers_solve : (task : Task) (layers : List (List CubeView)) (pairs : List Pair) (rules : List Rule) (items : List Item) (start : ℕ) → IsRightCover task layers pairs rules items start → IsSolution task (selected rules)

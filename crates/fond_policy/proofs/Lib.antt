@@ -1,4 +1,9 @@
+pub mod Ruled
+pub mod Closed
+pub mod Placed
+pub mod Widened
+pub mod Beside
 pub mod Covered
-pub mod Firsts
+pub mod Beginning
 pub mod Walking
 pub mod Counted

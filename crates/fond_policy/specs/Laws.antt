@@ -6,7 +6,7 @@ use Rattle.fond_task.specs.declared.rule.Rule.{Rule}
 use Rattle.fond_task.specs.Layers.{CubeView}
 use Rattle.fond_task.specs.Policies.{selected}
 use Rattle.fond_task.specs.Solutions.{IsSolution}
-use Rattle.fond_cover.specs.declared.item.Item.{Item}
+use Rattle.fond_policy.specs.declared.item.Item.{Item}
 use Rattle.fond_policy.specs.Parts.{IsRightCover}
 
 -- the rules of a correct policy certificate with a cover are a solution

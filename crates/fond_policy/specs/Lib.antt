@@ -1,3 +1,7 @@
+pub mod Items
+pub mod Altered
+pub mod Wider
+pub mod Covers
 pub mod Belongs
 pub mod Sizes
 pub mod Parts

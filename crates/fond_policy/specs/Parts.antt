@@ -6,9 +6,9 @@ use Rattle.fond_task.specs.declared.rule.Rule.{Rule}
 use Rattle.fond_task.specs.Layers.{CubeView, AreSureLayers, IsSurePair}
 use Rattle.fond_task.specs.Rules.{IsSureRule, IsLeanRule, IsLeanPair}
 use Rattle.fond_task.specs.Certificates.{IsRightPolicy, IsRightRefusal}
-use Rattle.fond_cover.specs.declared.item.Item.{Item}
-use Rattle.fond_cover.specs.Covers.{IsIn}
-use Rattle.fond_cover.specs.Items.{firsts_of, AreSureItems, AreLeanItems}
+use Rattle.fond_policy.specs.declared.item.Item.{Item}
+use Rattle.fond_policy.specs.Covers.{IsIn}
+use Rattle.fond_policy.specs.Items.{firsts_of, AreSureItems, AreLeanItems}
 use Rattle.fond_policy.specs.declared.cert.Cert.{Cert}
 use Rattle.fond_policy.specs.declared.cert.Cert.TheVariants.{Policy, Refusal, Covered}
 

@@ -5,8 +5,8 @@ use Rattle.fond_task.specs.declared.rule.Target.{Target}
 use Rattle.fond_task.specs.declared.rule.Target.TheVariants.{Goal, Rule as ToRule}
 use Rattle.fond_task.specs.declared.rule.Targets.{Targets}
 use Rattle.fond_task.specs.declared.rule.Targets.TheVariants.{One, All}
-use Rattle.fond_cover.specs.declared.item.Way.{Way}
-use Rattle.fond_cover.specs.declared.item.Way.TheVariants.{Goal as ToGoal, Rule as ByRule}
+use Rattle.fond_policy.specs.declared.item.Way.{Way}
+use Rattle.fond_policy.specs.declared.item.Way.TheVariants.{Goal as ToGoal, Rule as ByRule}
 use Rattle.fond_policy.specs.declared.cert.Cert.{Cert}
 use Rattle.fond_policy.specs.declared.cert.Cert.TheVariants.{Policy, Refusal, Covered}
 

@@ -1,6 +1,6 @@
 //! Certificates.
 
-use fond_cover::items::Items;
+use crate::items::Items;
 use fond_layers::layers::Layers;
 use fond_rules::pairs::Pairs;
 use fond_rules::rules::Rules;

@@ -8,7 +8,7 @@ use Rattle.fond_task.specs.declared.rule.Pair.{Pair}
 use Rattle.fond_task.specs.declared.rule.Rule.{Rule}
 use Rattle.fond_task.specs.Layers.{CubeView}
 use Rattle.fond_task.specs.Certificates.{IsRightRefusal}
-use Rattle.fond_cover.specs.declared.item.Item.{Item}
+use Rattle.fond_policy.specs.declared.item.Item.{Item}
 use Rattle.fond_policy.specs.declared.cert.Cert.TheVariants.{Refusal, Covered}
 use Rattle.fond_policy.specs.Parts.{AreAllLean, IsRightCover}
 use Rattle.fond_regress.specs.Stable.{IsHopeless}

@@ -1,8 +1,8 @@
 use Rattle.std.proofs.Common.{List, Decides, false, sym, subst, arith}
 use Rattle.std.proofs.lemmas.Bool.{false≢true}
-use Rattle.fond_cover.proofs.Ruled.{firsts_belong}
-use Rattle.fond_cover.specs.Items.{Belong, First, IsSureItem, firsts_of}
-use Rattle.fond_policy.proofs.Firsts.{before_all, element_at}
+use Rattle.fond_policy.proofs.Ruled.{firsts_belong}
+use Rattle.fond_policy.specs.Items.{Belong, First, IsSureItem, firsts_of}
+use Rattle.fond_policy.proofs.Beginning.{before_all, element_at}
 use Rattle.fond_check.proofs.items.first_bad_item.Goals as goal
 
 pub sure_item-requires-clause-belong : goal.sure_item-requires-clause-belong

@@ -2,7 +2,7 @@ use Rattle.std.proofs.Common.{sym, ◌∙◌, subst}
 use Rattle.fond_state.proofs.Tested.{lies_in-Decides}
 use Rattle.fond_state.specs.Cubes.{LiesIn}
 use Rattle.fond_task.proofs.Lists.{same_numbered}
-use Rattle.fond_cover.specs.declared.item.Item.{Item}
+use Rattle.fond_policy.specs.declared.item.Item.{Item}
 use Rattle.fond_check.proofs.items.is_in_item.Goals as goal
 
 pub returns : goal.returns

@@ -1,8 +1,8 @@
 use Rattle.std.proofs.Common.{List, Decides, false, refl, sym, subst, arith}
 use Rattle.std.proofs.lemmas.Bool.{false≢true}
-use Rattle.fond_cover.proofs.Ruled.{firsts_belong}
-use Rattle.fond_cover.specs.Items.{Belong, First, IsLeanItem, firsts_of}
-use Rattle.fond_policy.proofs.Firsts.{before_all, element_at}
+use Rattle.fond_policy.proofs.Ruled.{firsts_belong}
+use Rattle.fond_policy.specs.Items.{Belong, First, IsLeanItem, firsts_of}
+use Rattle.fond_policy.proofs.Beginning.{before_all, element_at}
 use Rattle.fond_check.proofs.lean.are_items_lean.Goals as goal
 
 pub lean_item-requires-clause-belong : goal.lean_item-requires-clause-belong

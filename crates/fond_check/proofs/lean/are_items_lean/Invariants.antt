@@ -1,6 +1,6 @@
 use Rattle.std.proofs.Common.{◌≡◌, length}
-use Rattle.fond_cover.specs.Items.{firsts_of, IsLeanItem}
-use Rattle.fond_policy.proofs.Firsts.{Before}
+use Rattle.fond_policy.specs.Items.{firsts_of, IsLeanItem}
+use Rattle.fond_policy.proofs.Beginning.{Before}
 use Rattle.fond_check.proofs.lean.are_items_lean.Given as goal
 
 -- the items so far are lean

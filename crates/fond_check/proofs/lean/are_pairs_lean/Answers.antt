@@ -1,6 +1,6 @@
 use Rattle.std.proofs.Common.{◌∙◌, refl, arith}
 use Rattle.fond_task.specs.Rules.{IsLeanPair}
-use Rattle.fond_policy.proofs.Firsts.{before_more, among_all}
+use Rattle.fond_policy.proofs.Beginning.{before_more, among_all}
 use Rattle.fond_check.proofs.lean.are_pairs_lean.Goals as goal
 
 pub loop-at-preserved : goal.loop-at-preserved

@@ -1,6 +1,6 @@
 use Rattle.std.proofs.Common.{◌∙◌, refl, arith}
 use Rattle.fond_task.specs.Rules.{IsLeanRule}
-use Rattle.fond_policy.proofs.Firsts.{before_more, before_all}
+use Rattle.fond_policy.proofs.Beginning.{before_more, before_all}
 use Rattle.fond_check.proofs.lean.are_rules_lean.Goals as goal
 
 pub loop-at-preserved : goal.loop-at-preserved

@@ -1,6 +1,6 @@
 use Rattle.std.proofs.Common.{◌≡◌, length}
 use Rattle.fond_task.specs.Rules.{IsLeanRule}
-use Rattle.fond_policy.proofs.Firsts.{Before}
+use Rattle.fond_policy.proofs.Beginning.{Before}
 use Rattle.fond_check.proofs.lean.are_rules_lean.Given as goal
 
 -- the rules so far are lean

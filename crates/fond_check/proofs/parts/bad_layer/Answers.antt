@@ -1,7 +1,7 @@
 use Rattle.std.proofs.Common.{◌∙◌, List, take, sym, subst, arith}
 use Rattle.fond_task.specs.Layers.{CubeView, AreSureLayers}
 use Rattle.fond_task.proofs.Stacked.{AreSureLayers-none, AreSureLayers-push}
-use Rattle.fond_policy.proofs.Firsts.{take_next, take_all, element_at}
+use Rattle.fond_policy.proofs.Beginning.{take_next, take_all, element_at}
 use Rattle.fond_check.proofs.parts.bad_layer.Goals as goal
 
 pub loop-at-init : goal.loop-at-init

@@ -1,6 +1,6 @@
 use Rattle.std.proofs.Common.{◌≡◌, length}
 use Rattle.fond_task.specs.Layers.{IsSurePair}
-use Rattle.fond_policy.proofs.Firsts.{Before}
+use Rattle.fond_policy.proofs.Beginning.{Before}
 use Rattle.fond_check.proofs.parts.first_bad_pair.Given as goal
 
 -- the pairs so far are sure

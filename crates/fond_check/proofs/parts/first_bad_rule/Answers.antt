@@ -1,7 +1,7 @@
 use Rattle.std.proofs.Common.{◌∙◌, refl, arith}
 use Rattle.std.proofs.lemmas.Bool.{false≢true}
 use Rattle.fond_task.specs.Rules.{IsSureRule}
-use Rattle.fond_policy.proofs.Firsts.{before_more, before_all}
+use Rattle.fond_policy.proofs.Beginning.{before_more, before_all}
 use Rattle.fond_check.proofs.parts.first_bad_rule.Goals as goal
 
 pub returns-then-not-sure_rule-clause-first : goal.returns-then-not-sure_rule-clause-first

@@ -1,6 +1,6 @@
 use Rattle.std.proofs.Common.{◌≡◌, length}
 use Rattle.fond_task.specs.Rules.{IsSureRule}
-use Rattle.fond_policy.proofs.Firsts.{Before}
+use Rattle.fond_policy.proofs.Beginning.{Before}
 use Rattle.fond_check.proofs.parts.first_bad_rule.Given as goal
 
 -- the rules so far are sure

@@ -4,9 +4,9 @@ use Rattle.std.proofs.lemmas.Option.{slice_get_within}
 use Rattle.fond_state.specs.Cubes.{lies_in}
 use Rattle.fond_state.proofs.Tested.{lies_in-Decides}
 use Rattle.fond_task.proofs.Lists.{same_numbered}
-use Rattle.fond_cover.proofs.Ruled.{firsts_belong}
-use Rattle.fond_cover.specs.declared.item.Item.{Item}
-use Rattle.fond_cover.specs.Items.{AreItemsOver, AreSureItems, Belong}
+use Rattle.fond_policy.proofs.Ruled.{firsts_belong}
+use Rattle.fond_policy.specs.declared.item.Item.{Item}
+use Rattle.fond_policy.specs.Items.{AreItemsOver, AreSureItems, Belong}
 use Rattle.fond_covering.proofs.certify.passes.Goals as goal
 
 pub are_sure-requires-clause-belong : goal.are_sure-requires-clause-belong

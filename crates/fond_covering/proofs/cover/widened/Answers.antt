@@ -1,6 +1,6 @@
 use Rattle.std.proofs.Common.{sym, subst}
-use Rattle.fond_cover.proofs.Ruled.{firsts_belong}
-use Rattle.fond_cover.specs.Items.{AreLeanItems, Belong, firsts_of}
+use Rattle.fond_policy.proofs.Ruled.{firsts_belong}
+use Rattle.fond_policy.specs.Items.{AreLeanItems, Belong, firsts_of}
 use Rattle.fond_covering.proofs.Certified.{lean_covering}
 use Rattle.fond_covering.proofs.cover.widened.Goals as goal
 

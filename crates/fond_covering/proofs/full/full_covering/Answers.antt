@@ -2,9 +2,9 @@ use Rattle.std.proofs.Common.{◌≡◌, ℕ, List, Bool, Some, length, slice_ge
 use Rattle.fond_task.specs.Policies.{selected}
 use Rattle.fond_task.proofs.Lists.{Contains_numbered}
 use Rattle.fond_task.proofs.Reached.{reached_long}
-use Rattle.fond_cover.specs.Items.{AreFirstsOver}
-use Rattle.fond_cover.proofs.Ruled.{firsts_belong}
-use Rattle.fond_cover.specs.Items.{firsts_of}
+use Rattle.fond_policy.specs.Items.{AreFirstsOver}
+use Rattle.fond_policy.proofs.Ruled.{firsts_belong}
+use Rattle.fond_policy.specs.Items.{firsts_of}
 use Rattle.fond_covering.proofs.Exact.{full_over, full_starts, full_sure}
 use Rattle.fond_covering.proofs.full.full_covering.Goals as goal
 

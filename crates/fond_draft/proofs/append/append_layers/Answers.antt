@@ -1,7 +1,7 @@
 use Rattle.std.proofs.Common.{ℕ, suc, drop, take, length, sym, subst, arith}
 use Rattle.std.proofs.lemmas.List.Elements.{All-contains}
 use Rattle.fond_policy.proofs.Counted.{split_at}
-use Rattle.fond_policy.proofs.Firsts.{take_all, take_next}
+use Rattle.fond_policy.proofs.Beginning.{take_all, take_next}
 use Rattle.fond_task.proofs.Lists.{Contains_numbered}
 use Rattle.fond_task.specs.Layers.{IsSureLayer}
 use Rattle.fond_layers.specs.Over.{IsOver}

@@ -1,6 +1,6 @@
 use Rattle.std.proofs.Common.{◌∙◌, ◌+◌, List, [], ◌∷◌, ◌++◌, take, refl, sym, ap, subst}
 use Rattle.std.proofs.lemmas.Bool.{false≢true}
-use Rattle.fond_policy.proofs.Firsts.{take_next}
+use Rattle.fond_policy.proofs.Beginning.{take_next}
 use Rattle.fond_task.specs.Layers.{CubeView}
 use Rattle.fond_draft.specs.Appends.{AreFresh}
 use Rattle.fond_draft.proofs.Appended.{fresh_more, fresh_same}

@@ -1,4 +1,0 @@
-pub mod Items
-pub mod Altered
-pub mod Wider
-pub mod Covers
