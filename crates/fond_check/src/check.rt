@@ -1,14 +1,14 @@
 //! Checking a certificate.
 
 ghost use Rattle.fond_policy.specs.Belongs.{Belongs, BelongAsItems, BelongAsLayers, BelongAsPairs, BelongAsRules};
-ghost use Rattle.fond_policy.specs.Parts.{ArePartsSure};
+ghost use Rattle.fond_policy.specs.Parts.{AreAllLean, ArePartsSure};
 ghost use Rattle.fond_task.specs.Layers.{CubeView};
 ghost use Rattle.fond_task.specs.declared.rule.Pair.{Pair};
 ghost use Rattle.fond_policy.specs.Covers.{IsIn};
 ghost use Rattle.fond_policy.specs.Items.{firsts_of, AreSureItems};
 ghost use Rattle.fond_check.specs.Verdicts.{IsCoverVerdict, IsPartFault, IsPolicyVerdict, IsRefusalVerdict, IsVerdict, of_spot};
 ghost use Rattle.fond_policy.specs.Walks.{IsWalked};
-ghost use Rattle.std.specs.Prelude.{◌≡◌, List, length, IfOk, MatchOption};
+ghost use Rattle.std.specs.Prelude.{◌≡◌, List, length, Decides, IfOk, MatchOption};
 
 use crate::items::{first_bad_item, is_in_item};
 use crate::lean::{are_all_lean, are_lean};
@@ -98,6 +98,27 @@ fn part_fault(
     Ok(None)
 }
 
+/// The verdict on a policy whose layers, pairs and rules are sure, with a reach number.
+fn check_reach(
+    alloc: Global,
+    t: &Task,
+    layers: &Layers,
+    pairs: &Pairs,
+    rules: &Rules,
+    reach: u64,
+    pad: &mut Pad,
+) -> Result<Verdict, NoMemory>
+    requires layers_belong { BelongAsLayers t.now layers.now }
+    requires pairs_belong { BelongAsPairs t.now pairs.now }
+    requires rules_belong { BelongAsRules t.now rules.now }
+    requires sure { ArePartsSure t.now layers.now pairs.now rules.now }
+    requires pad { pad.old ≡ length t.now.atoms }
+    ensures { IfOk result (IsPolicyVerdict t.now layers.now pairs.now rules.now reach) }
+{
+    let walked = walk(alloc, t, pairs, rules, reach)?;
+    Ok(reach_verdict(t, layers, pairs, rules, reach, walked, pad))
+}
+
 /// The verdict on a policy with a reach number.
 fn check_policy(
     alloc: Global,
@@ -113,11 +134,10 @@ fn check_policy(
     ensures { IfOk result (IsPolicyVerdict t.now layers.now pairs.now rules.now reach) }
 {
     let mut pad = Pad::new(alloc, t.atoms.len() as u32)?;
-    if let Some(fault) = part_fault(alloc, t, layers, pairs, rules, &mut pad)? {
-        return Ok(fault);
+    match part_fault(alloc, t, layers, pairs, rules, &mut pad)? {
+        Some(fault) => Ok(fault),
+        None => check_reach(alloc, t, layers, pairs, rules, reach, &mut pad),
     }
-    let walked = walk(alloc, t, pairs, rules, reach)?;
-    Ok(reach_verdict(t, layers, pairs, rules, reach, walked, &mut pad))
 }
 
 /// The verdict for the first item that is not sure, or for the start item, if the initial state does not lie in it.
@@ -144,6 +164,80 @@ fn item_fault(
     None
 }
 
+/// Whether all pairs, rules and items are lean. Lists the literals of the conditions of the rules in the pad.
+fn decide_lean(
+    t: &Task,
+    layers: &Layers,
+    pairs: &Pairs,
+    rules: &Rules,
+    items: &Items,
+    pad: &mut Pad,
+    cover_pad: &mut CoverPad,
+) -> Result<bool, NoMemory>
+    requires layers_belong { BelongAsLayers t.now layers.now }
+    requires pairs_belong { BelongAsPairs t.now pairs.now }
+    requires rules_belong { BelongAsRules t.now rules.now }
+    requires items_belong { BelongAsItems t.now items.now }
+    requires pad { pad.old ≡ length t.now.atoms }
+    requires cover_pad { cover_pad.old ≡ length t.now.atoms }
+    ensures { IfOk result (λ lean. Decides lean (AreAllLean t.now layers.now pairs.now rules.now items.now)) }
+{
+    cover_pad.index(&Conditions::new(rules))?;
+    Ok(are_all_lean(t, layers, pairs, rules, items, pad, cover_pad))
+}
+
+/// The verdict on a policy whose layers, pairs and rules are sure, with a cover. The pads are overwritten.
+fn cover_verdict(
+    t: &Task,
+    layers: &Layers,
+    pairs: &Pairs,
+    rules: &Rules,
+    items: &Items,
+    start: u32,
+    pad: &mut Pad,
+    cover_pad: &mut CoverPad,
+) -> Result<Verdict, NoMemory>
+    requires layers_belong { BelongAsLayers t.now layers.now }
+    requires pairs_belong { BelongAsPairs t.now pairs.now }
+    requires rules_belong { BelongAsRules t.now rules.now }
+    requires items_belong { BelongAsItems t.now items.now }
+    requires sure { ArePartsSure t.now layers.now pairs.now rules.now }
+    requires pad { pad.old ≡ length t.now.atoms }
+    requires cover_pad { cover_pad.old ≡ length t.now.atoms }
+    ensures { IfOk result (IsCoverVerdict t.now layers.now pairs.now rules.now items.now start) }
+{
+    match item_fault(t, rules, items, start, cover_pad) {
+        Some(fault) => Ok(fault),
+        None => {
+            let lean = decide_lean(t, layers, pairs, rules, items, pad, cover_pad)?;
+            Ok(Verdict::Accepted { lean })
+        }
+    }
+}
+
+/// The verdict as `cover_verdict` gives it, with a pad of its own for the items.
+fn check_items(
+    alloc: Global,
+    t: &Task,
+    layers: &Layers,
+    pairs: &Pairs,
+    rules: &Rules,
+    items: &Items,
+    start: u32,
+    pad: &mut Pad,
+) -> Result<Verdict, NoMemory>
+    requires layers_belong { BelongAsLayers t.now layers.now }
+    requires pairs_belong { BelongAsPairs t.now pairs.now }
+    requires rules_belong { BelongAsRules t.now rules.now }
+    requires items_belong { BelongAsItems t.now items.now }
+    requires sure { ArePartsSure t.now layers.now pairs.now rules.now }
+    requires pad { pad.old ≡ length t.now.atoms }
+    ensures { IfOk result (IsCoverVerdict t.now layers.now pairs.now rules.now items.now start) }
+{
+    let mut cover_pad = CoverPad::new(alloc, t.atoms.len() as u32)?;
+    cover_verdict(t, layers, pairs, rules, items, start, pad, &mut cover_pad)
+}
+
 /// The verdict on a policy with a cover.
 fn check_cover(
     alloc: Global,
@@ -161,17 +255,10 @@ fn check_cover(
     ensures { IfOk result (IsCoverVerdict t.now layers.now pairs.now rules.now items.now start) }
 {
     let mut pad = Pad::new(alloc, t.atoms.len() as u32)?;
-    if let Some(fault) = part_fault(alloc, t, layers, pairs, rules, &mut pad)? {
-        return Ok(fault);
+    match part_fault(alloc, t, layers, pairs, rules, &mut pad)? {
+        Some(fault) => Ok(fault),
+        None => check_items(alloc, t, layers, pairs, rules, items, start, &mut pad),
     }
-    let mut cover_pad = CoverPad::new(alloc, t.atoms.len() as u32)?;
-    if let Some(fault) = item_fault(t, rules, items, start, &mut cover_pad) {
-        return Ok(fault);
-    }
-    cover_pad.index(&Conditions::new(rules))?;
-    Ok(Verdict::Accepted {
-        lean: are_all_lean(t, layers, pairs, rules, items, &mut pad, &mut cover_pad),
-    })
 }
 
 /// The verdict on a refusal.
