@@ -141,6 +141,25 @@ fn full_items(
     Ok(items)
 }
 
+/// The cover by the full cubes of the states, which are all that the rules reach.
+fn covering_of(
+    alloc: Global,
+    t: &Task,
+    pairs: &Pairs,
+    rules: &Rules,
+    states: &Store,
+) -> Result<Covering, NoMemory>
+    requires belong { BelongTo t.now rules.now }
+    requires sure { AreSureRules t.now pairs.now rules.now }
+    requires ruled { HasAllRuled t.now rules.now }
+    requires walk { IsWalk t.now rules.now states.now (length states.now) }
+    ensures { IfOk result (λ covering. IsSureCovering t.now rules.now covering.items covering.start) }
+{
+    let items = full_items(alloc, t, pairs, rules, states)?;
+    let start = number_of(states, &t.init);
+    Ok(Covering { items, start })
+}
+
 /// The cover whose items are the full cubes of the states that the rules reach, in the order of a walk, or nothing if no rule holds
 /// in one of them that is no goal. Takes time and memory in their number times that of the atoms; memory is said to have run out
 /// after 2^32 - 1 states.
@@ -159,7 +178,6 @@ pub(crate) fn full_covering(
     if !ruled {
         return Ok(None);
     }
-    let items = full_items(alloc, t, pairs, rules, &states)?;
-    let start = number_of(&states, &t.init);
-    Ok(Some(Covering { items, start }))
+    let covering = covering_of(alloc, t, pairs, rules, &states)?;
+    Ok(Some(covering))
 }

@@ -31,6 +31,13 @@ fn fill_up(words: &mut Vec<u64>, count: usize) -> Result<(), NoMemory> {
     Ok(())
 }
 
+/// Adds the bits of other words, as far as both slices go.
+fn add_bits(words: &mut [u64], others: &[u64]) {
+    for (word, other) in words.iter_mut().zip(others.iter()) {
+        *word |= *other;
+    }
+}
+
 impl Opposed {
     /// No rules, over this many atoms, in this many words.
     pub(crate) fn new(alloc: Global, atoms: u32, width: u32) -> Result<Opposed, NoMemory> {
@@ -96,11 +103,8 @@ impl Opposed {
     /// Keeps out the rules that the literal of an atom in the state keeps from holding.
     fn keep_out(&mut self, atom: u32, state: &[u64]) {
         let sign = has(state, atom);
-        let Some(row) = self.rows.get(place(Literal { atom, sign })) else {
-            return;
-        };
-        for (word, others) in self.out.iter_mut().zip(row.iter()) {
-            *word |= *others;
+        if let Some(row) = self.rows.get(place(Literal { atom, sign })) {
+            add_bits(&mut self.out, row);
         }
     }
 

@@ -7,18 +7,27 @@ use fond_task::task::Task;
 use fond_text::fault::NoMemory;
 use std::alloc::Global;
 
-/// A sketch for these rules, which has not begun.
-fn sketch_of(alloc: Global, t: &Task, rules: &Rules) -> Result<Sketch, NoMemory> {
-    let mut sketch = Sketch::new(alloc, t)?;
+/// Adds the rules to a sketch.
+fn add_rules(sketch: &mut Sketch, rules: &Rules) -> Result<(), NoMemory> {
     for number in 0..rules.len() {
         let rule = rules.get(number);
         sketch.add_rule(&rule.cond, rule.act)?;
     }
+    Ok(())
+}
+
+/// A sketch for these rules, which has not begun.
+fn sketch_of(alloc: Global, t: &Task, rules: &Rules) -> Result<Box<Sketch>, NoMemory> {
+    let mut sketch = Sketch::new(alloc, t)?;
+    add_rules(&mut sketch, rules)?;
     Ok(sketch)
 }
 
-/// Follows a sketch that has begun until no edge is left, and gives its items.
+/// Follows a sketch until no edge is left, and gives its items.
 fn follow(alloc: Global, t: &Task, sketch: &mut Sketch) -> Result<Option<Items>, NoMemory> {
+    if !sketch.begin(t)? {
+        return Ok(None);
+    }
     for _ in 0..u64::MAX {
         let Some(edge) = sketch.next() else {
             return sketch.items(alloc);
@@ -35,8 +44,5 @@ fn follow(alloc: Global, t: &Task, sketch: &mut Sketch) -> Result<Option<Items>,
 /// rules.
 pub(crate) fn propose(alloc: Global, t: &Task, rules: &Rules) -> Result<Option<Items>, NoMemory> {
     let mut sketch = sketch_of(alloc, t, rules)?;
-    if !sketch.begin(t)? {
-        return Ok(None);
-    }
     follow(alloc, t, &mut sketch)
 }

@@ -1,7 +1,7 @@
 //! What must be known before an outcome, so that some atoms are known after it.
 
 use crate::reason::{explain, is_decided, is_true};
-use fond_moves::index::{Literal, has, put_bit};
+use fond_moves::index::{Literal, has, put_bit, size, word_at};
 use fond_task::task::{Entry, Outcome};
 
 /// Whether the entry gives the atom of the literal its value, if its condition is true.
@@ -69,6 +69,20 @@ fn explain_after(outcome: &Outcome, literal: Literal, state: &[u64], known: &mut
     }
 }
 
+/// Notes which atoms the outcome may change.
+fn touch(outcome: &Outcome, touched: &mut [u64]) {
+    for entry in outcome {
+        put_bit(touched, entry.atom, true);
+    }
+}
+
+/// Makes the asked atoms known that the outcome leaves alone.
+fn know_untouched(asked: &[u64], touched: &[u64], known: &mut [u64]) {
+    for (i, word) in known.iter_mut().enumerate() {
+        *word |= word_at(asked, size(i)) & !word_at(touched, size(i));
+    }
+}
+
 /// Makes atoms of the state known such that the asked ones are known after the outcome, which leads to `next`. `touched` has
 /// no atom, before and afterwards. Takes time in the width of a state, and for each asked atom that an entry may change in the
 /// number of entries.
@@ -80,14 +94,8 @@ pub(crate) fn regress(
     touched: &mut [u64],
     known: &mut [u64],
 ) {
-    for entry in outcome {
-        put_bit(touched, entry.atom, true);
-    }
-    for (i, word) in known.iter_mut().enumerate() {
-        if let (Some(wanted), Some(changed)) = (asked.get(i), touched.get(i)) {
-            *word |= *wanted & !*changed;
-        }
-    }
+    touch(outcome, touched);
+    know_untouched(asked, touched, known);
     for entry in outcome {
         let atom = entry.atom;
         if has(touched, atom) && has(asked, atom) {

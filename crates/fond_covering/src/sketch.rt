@@ -136,19 +136,20 @@ impl Scratch {
 
 impl Sketch {
     /// A sketch without rules and nodes. Takes time and memory in the size of the task.
-    pub fn new(alloc: Global, t: &Task) -> Result<Sketch, NoMemory> {
+    pub fn new(alloc: Global, t: &Task) -> Result<Box<Sketch>, NoMemory> {
         let moves = Moves::new(alloc, t)?;
         let choices = Choices::new(alloc, moves.atoms, moves.width)?;
         let scratch = Scratch::new(alloc, moves.width)?;
         let nodes = Nodes::new(alloc, moves.width);
-        Ok(Sketch {
+        let sketch = Sketch {
             moves,
             choices,
             nodes,
             edges: Edges::new(alloc),
             scratch,
             work: 0,
-        })
+        };
+        Ok(Box::new(alloc, sketch)?)
     }
 
     /// Adds a rule after the others.

@@ -193,6 +193,25 @@ fn walk_on(
     })
 }
 
+/// Walks on as `walk_on` does, with a scratch of its own.
+fn walk_from(
+    alloc: Global,
+    t: &Task,
+    pairs: &Pairs,
+    rules: &Rules,
+    bound: u64,
+    states: &mut Store,
+) -> Result<Walked, NoMemory>
+    requires belong { BelongTo t.now rules.now }
+    requires sure { AreSureRules t.now pairs.now rules.now }
+    requires first { states.old ≡ t.now.init ∷ [] }
+    ensures walked { IfOk result (IsWalked t.now rules.now bound) }
+    ensures whole { IfOk result (IsWholeWalk t.now rules.now states.new) }
+{
+    let mut scratch = scratch_of(alloc, t)?;
+    walk_on(alloc, t, pairs, rules, bound, &mut scratch, states)
+}
+
 /// Walks through the states that the rules reach, until they are more than the bound. Selects the rule of each state
 /// once. Takes memory for the states that are reached, at most 256 more than the bound.
 pub fn walk(
@@ -206,9 +225,8 @@ pub fn walk(
     requires sure { AreSureRules t.now pairs.now rules.now }
     ensures { IfOk result (IsWalked t.now rules.now bound) }
 {
-    let mut scratch = scratch_of(alloc, t)?;
     let mut states = one_state(alloc, &t.init)?;
-    walk_on(alloc, t, pairs, rules, bound, &mut scratch, &mut states)
+    walk_from(alloc, t, pairs, rules, bound, &mut states)
 }
 
 /// The states that the rules reach, in the order of a breadth-first walk from the initial state, and whether a rule holds in each
@@ -225,9 +243,8 @@ pub fn walk_states(
     ensures states { IfOk result (λ r. IsWalk t.now rules.now r.0 (length r.0)) }
     ensures ruled { IfOk result (λ r. MatchBool r.1 (HasAllRuled t.now rules.now) (HasUnruled t.now rules.now)) }
 {
-    let mut scratch = scratch_of(alloc, t)?;
     let mut states = one_state(alloc, &t.init)?;
-    match walk_on(alloc, t, pairs, rules, u64::MAX, &mut scratch, &mut states)? {
+    match walk_from(alloc, t, pairs, rules, u64::MAX, &mut states)? {
         Walked::All { unruled, .. } => Ok((states, unruled.is_none())),
         Walked::More => Err(NoMemory),
     }

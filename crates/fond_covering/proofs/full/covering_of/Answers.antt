@@ -6,17 +6,17 @@ use Rattle.fond_policy.specs.Items.{AreFirstsOver}
 use Rattle.fond_policy.proofs.Ruled.{firsts_belong}
 use Rattle.fond_policy.specs.Items.{firsts_of}
 use Rattle.fond_covering.proofs.Exact.{full_over, full_starts, full_sure}
-use Rattle.fond_covering.proofs.full.full_covering.Goals as goal
+use Rattle.fond_covering.proofs.full.covering_of.Goals as goal
 
-pub returns-clause-found : goal.returns-clause-found
-returns-clause-found c =
+pub returns : goal.returns
+returns c =
     let task = c.args.t.now in
     let rules = c.args.rules.now in
-    let states = c.in_ok-states.states in
+    let states = c.args.states.now in
     let items = c.in_ok-items.items in
     let told = c.in_ok-items.ensures in
     let over : AreFirstsOver (length task.atoms) (firsts_of rules) = λ number first at. (firsts_belong task rules c.requires.belong number first at).0 in
-    let long : (number : ℕ) (state : List Bool) → slice_get states number ≡ Some state → length state ≡ length task.atoms = λ number state at. reached_long task (selected rules) state (c.in_ok-states.ensures.states.reached state (Contains_numbered states number state at)) in
+    let long : (number : ℕ) (state : List Bool) → slice_get states number ≡ Some state → length state ≡ length task.atoms = λ number state at. reached_long task (selected rules) state (c.requires.walk.reached state (Contains_numbered states number state at)) in
     record {
       few = told.few;
       over = full_over task rules states items over long told.counted told.full;
