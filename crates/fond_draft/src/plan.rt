@@ -3,7 +3,7 @@
 ghost use Rattle.fond_draft.specs.Plans.{IsPlan};
 ghost use Rattle.fond_explicit.specs.Answers.{AreWinning, ChoiceView};
 ghost use Rattle.fond_text.specs.Lists.{AreDistinct};
-ghost use Rattle.std.specs.Prelude.{◌≡◌, List, Bool, length, map, IfOk};
+ghost use Rattle.std.specs.Prelude.{◌≡◌, [], List, Bool, length, map, IfOk, OnOk};
 
 use fond_explicit::answer::Choices;
 use fond_store::store::Store;
@@ -18,6 +18,22 @@ pub struct Plan {
     pub states: Store,
 }
 
+/// Adds the states of distinct choices to an empty store, each under the number of its choice. Reports `NoMemory` past 2^32 - 2
+/// choices.
+fn add_states(alloc: Global, choices: &Choices, states: &mut Store) -> Result<(), NoMemory>
+    requires distinct { AreDistinct (map (λ (choice : ChoiceView). choice.state) choices.now) }
+    requires empty { states.old ≡ [] }
+    ensures { OnOk result (states.new ≡ map (λ (choice : ChoiceView). choice.state) choices.now) }
+{
+    for number in 0..choices.len() {
+        if states.len() >= u32::MAX - 1 {
+            return Err(NoMemory);
+        }
+        states.add(choices.get(number).state.copy(alloc)?)?;
+    }
+    Ok(())
+}
+
 /// The states of distinct choices, each under the number of its choice. Reports `NoMemory` past 2^32 - 2
 /// choices.
 fn states_of(alloc: Global, choices: &Choices) -> Result<Store, NoMemory>
@@ -25,12 +41,7 @@ fn states_of(alloc: Global, choices: &Choices) -> Result<Store, NoMemory>
     ensures { IfOk result (λ states. states ≡ map (λ (choice : ChoiceView). choice.state) choices.now) }
 {
     let mut states = Store::new(alloc);
-    for number in 0..choices.len() {
-        if states.len() >= u32::MAX - 1 {
-            return Err(NoMemory);
-        }
-        states.add(choices.get(number).state.copy(alloc)?)?;
-    }
+    add_states(alloc, choices, &mut states)?;
     Ok(states)
 }
 

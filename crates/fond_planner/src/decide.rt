@@ -168,6 +168,20 @@ fn hopeless_refusal(alloc: Global, t: &Task, cube: Cube) -> Result<Cert, NoMemor
     Ok(Cert::Refusal { layers })
 }
 
+/// What is decided about a task whose initial state is not hopeless, when the making of a policy ends so with this draft.
+fn decision_of(t: &Task, budget: u32, draft: Draft, end: End) -> Decision
+    requires draft { IsDraft t.now draft }
+    requires end { IsEnd t.now budget draft end }
+    requires hope { ¬ IsHopeless t.now t.now.init }
+    ensures { IsDecision t.now budget result }
+{
+    match end {
+        End::Policy(covering) => Decision::Certified(policy_of(t, draft, covering)),
+        End::Refusal => Decision::Certified(refusal_of(t, draft)),
+        End::Past => Decision::Undecided,
+    }
+}
+
 /// Decides a task whose initial state is not hopeless.
 fn decide_by_rounds<S: Source>(alloc: Global, t: &Task, budget: u32) -> Result<Decision, NoMemory>
     requires few { budget ≤ 1000000 }
@@ -175,11 +189,8 @@ fn decide_by_rounds<S: Source>(alloc: Global, t: &Task, budget: u32) -> Result<D
     ensures { IfOk result (IsDecision t.now budget) }
 {
     let mut planner = Planner::<S>::new(alloc, t, quick_budget(t, budget))?;
-    match planner.finish(alloc, t, budget)? {
-        End::Policy(covering) => Ok(Decision::Certified(policy_of(t, planner.draft, covering))),
-        End::Refusal => Ok(Decision::Certified(refusal_of(t, planner.draft))),
-        End::Past => Ok(Decision::Undecided),
-    }
+    let end = planner.finish(alloc, t, budget)?;
+    Ok(decision_of(t, budget, planner.draft, end))
 }
 
 /// Decides a task within a budget of opened states: a correct and lean certificate of a policy, or a correct one of

@@ -53,17 +53,11 @@ pub(crate) enum Sketched {
     Past,
 }
 
-/// A sketch without rules and nodes, in a box.
-fn new_sketch(alloc: Global, t: &Task) -> Result<Box<Sketch>, NoMemory> {
-    let sketch = Sketch::new(alloc, t)?;
-    Ok(Box::new(alloc, sketch)?)
-}
-
 /// A trail that has not begun: its only state is the initial one.
 fn trail_of(alloc: Global, t: &Task) -> Result<Trail, NoMemory>
     ensures { IfOk result (IsTrail t.now) }
 {
-    let sketch = new_sketch(alloc, t)?;
+    let sketch = Sketch::new(alloc, t)?;
     let states = one_state(alloc, &t.init)?;
     let step = first_step(alloc, t)?;
     Ok(Trail {

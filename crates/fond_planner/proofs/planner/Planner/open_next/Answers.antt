@@ -1,7 +1,15 @@
-use Rattle.std.proofs.Common.{sym, subst}
+use Rattle.std.proofs.Common.{◌∙◌, ℕ, sym, subst}
+use Rattle.fond_layers.specs.Over.{AreOver}
 use Rattle.fond_explicit.specs.Answers.{IsReachable}
-use Rattle.fond_draft.proofs.Turned.{turn_next}
+use Rattle.fond_draft.proofs.Turned.{turn_next, turn_there}
 use Rattle.fond_planner.proofs.planner.Planner.open_next.Goals as goal
+
+pub get-requires : goal.get-requires
+get-requires g c = turn_there c.args.t.now c.args.turn.now c.requires.turn
+
+pub dead-requires : goal.dead-requires
+dead-requires g c =
+    subst (λ (n : ℕ). AreOver n c.args.self.now.draft.layers) (sym (c.first_open.ensures.same_length ∙ c.requires.next_long)) c.requires.planner.draft.over
 
 pub returns-clause-reachable : goal.returns-clause-reachable
 returns-clause-reachable g c =

@@ -18,6 +18,26 @@ overflow_cast-step-in-loop-outcome g c =
 pub apply_into-requires-clause-long : goal.apply_into-requires-clause-long
 apply_into-requires-clause-long g c = ap length c.loop-outcome.invariant.state ∙ reachable_long c.args.t.now c.args.t.now.init c.args.t.now.init_long c.args.step.now.state c.requires.outset.reachable
 
+pub get-requires : goal.get-requires
+get-requires g c = slice_get_within c.args.t.now.acts c.args.step.now.act c.requires.outset.act c.requires.outset.has_act
+
+pub apply_into-requires-clause-out_long : goal.apply_into-requires-clause-out_long
+apply_into-requires-clause-out_long g c = c.loop-outcome.invariant.long ∙ c.requires.outset.long
+
+pub apply_into-requires-clause-outcome_there : goal.apply_into-requires-clause-outcome_there
+apply_into-requires-clause-outcome_there g c = λ a at.
+    let here : slice_get c.args.t.now.acts c.loop-outcome.step.act ≡ Some c.get.result.now = ap (slice_get c.args.t.now.acts) c.loop-outcome.invariant.act ∙ c.get.ensures in
+    let same : c.get.result.now ≡ a = same_Some c.get.result.now a (sym here ∙ at) in
+    subst (λ (a : Act). c.loop-outcome.outcome < length a.outcomes) same (omega (arith, c.loop-outcome-test.true, c.len-outcome-end.ensures))
+
+pub apply_into-requires-clause-applicable : goal.apply_into-requires-clause-applicable
+apply_into-requires-clause-applicable g c = λ a at.
+    let inv = c.loop-outcome.invariant in
+    let outset = c.requires.outset in
+    let same : outset.act ≡ a = same_Some outset.act a (sym (ap (slice_get c.args.t.now.acts) inv.act ∙ outset.has_act) ∙ at) in
+    subst (λ (a : Act). is_true c.loop-outcome.step.state a.pre ≡ true) same
+    (subst (λ (s : List Bool). is_true s outset.act.pre ≡ true) (sym inv.state) outset.applicable)
+
 pub apply_into-requires-clause-there : goal.apply_into-requires-clause-there
 apply_into-requires-clause-there g c =
     subst (λ (n : ℕ). n < length c.args.t.now.acts) (sym c.loop-outcome.invariant.act) (slice_get_within c.args.t.now.acts c.args.step.now.act c.requires.outset.act c.requires.outset.has_act)

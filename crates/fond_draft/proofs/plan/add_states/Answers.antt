@@ -3,7 +3,7 @@ use Rattle.std.proofs.lemmas.List.{append-nil}
 use Rattle.fond_text.specs.Lists.{AreDistinct}
 use Rattle.fond_explicit.specs.Answers.{ChoiceView}
 use Rattle.fond_draft.proofs.Listed.{added_state, drop_past, drop_step, new_state}
-use Rattle.fond_draft.proofs.plan.states_of.Goals as goal
+use Rattle.fond_draft.proofs.plan.add_states.Goals as goal
 
 pub loop-number-preserved : goal.loop-number-preserved
 loop-number-preserved c =
@@ -14,7 +14,7 @@ loop-number-preserved c =
     let whole : c.loop-number.states ++ own.state ∷ rest ≡ map f choices =
     ap (λ xs. c.loop-number.states ++ map f xs) (sym (drop_step choices c.loop-number.number own c.get.ensures)) ∙ c.loop-number.invariant in
     added_state c.loop-number.states own.state c.in_ok-copy.field-0 c.in_ok-add.field-0 c.add.new.self rest c.in_ok-copy.ensures
-    (new_state c.loop-number.states own.state rest (subst AreDistinct (sym whole) c.requires)) c.in_ok-add.ensures.ok
+    (new_state c.loop-number.states own.state rest (subst AreDistinct (sym whole) c.requires.distinct)) c.in_ok-add.ensures.ok
     ∙ whole
 
 pub returns : goal.returns

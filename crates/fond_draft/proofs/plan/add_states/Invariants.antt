@@ -1,6 +1,6 @@
 use Rattle.std.proofs.Common.{◌≡◌, ◌++◌, drop, map}
 use Rattle.fond_explicit.specs.Answers.{ChoiceView}
-use Rattle.fond_draft.proofs.plan.states_of.Given as goal
+use Rattle.fond_draft.proofs.plan.add_states.Given as goal
 
 -- the states so far are those of the choices so far
 abbrev pub invariant-loop-number : goal.invariant-loop-number
