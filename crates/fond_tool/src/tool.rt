@@ -2,6 +2,7 @@
 
 ghost use Rattle.fond_tool.specs.Jobs.{JobReply};
 ghost use Rattle.fond_tool.specs.Ends.{ToolReply, Ends};
+ghost use Rattle.fond_commands.specs.Fetches.{Reads};
 ghost use Rattle.fond_commands.specs.Words.{AskForNone, Say, command_of, file_count};
 ghost use Rattle.std.specs.Prelude.{◌≡◌, ◌≤◌, ℕ, List, length, IfOk};
 
@@ -46,6 +47,19 @@ fn answer<S: Shelf>(alloc: Global, words: &[Word], shelf: &mut S) -> Result<Answ
     }
 }
 
+/// Writes an answer to the sink, and returns how that ended.
+fn send_answer<K: Sink>(answer: &Answer, sink: &mut K) -> Status
+    ensures ends { (words : List (List ℕ)) (reads : Reads) → ToolReply words reads answer.now
+        → Ends words reads (record { old = K.written sink.old; new = K.written sink.new; before = K.faults sink.old; after = K.faults sink.new }) result }
+    ensures took_no_memory { ¬ result ≡ Status.NoMemory }
+    ensures counted { K.faults sink.old ≤ K.faults sink.new }
+{
+    match answer.send(sink) {
+        Ok(()) => answer.ending().status(),
+        Err(_) => Status::WriteFault,
+    }
+}
+
 /// Does what the words ask, writes the answer to the sink, and returns how it ended. docs/COMMANDS.md lists the words,
 /// the texts and the statuses.
 ///
@@ -73,10 +87,7 @@ pub fn run_tool<S: Shelf, K: Sink>(
     ensures sink_counted { K.faults sink.old ≤ K.faults sink.new }
 {
     match answer(alloc, words, shelf) {
-        Ok(answer) => match answer.send(sink) {
-            Ok(()) => answer.ending().status(),
-            Err(_) => Status::WriteFault,
-        },
+        Ok(answer) => send_answer(&answer, sink),
         Err(NoMemory) => Status::NoMemory,
     }
 }
