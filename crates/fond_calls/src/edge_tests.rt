@@ -1,74 +1,37 @@
 use fond_edge::host_shelf::HostShelf;
 use fond_edge::host_sink::HostSink;
-use fond_edge::lists::{Calls, ShelfFiles};
-use fond_edge::memory_shelf::MemoryShelf;
+use fond_edge::lists::Calls;
 use fond_edge::memory_sink::MemorySink;
 use fond_edge::pen::Pen;
-use fond_edge::send::send;
-use fond_edge::shelf::{FetchFault, Shelf, ShelfFile};
+use fond_edge::send::{WriteFault, send};
+use fond_edge::shelf::{FetchFault, Shelf};
 use fond_edge::sink::Sink;
-use fond_text::bytes::Bytes;
+use fond_text::fault::NoMemory;
 use fond_text::word::Word;
+use std::alloc::Global;
 use std::fs;
 use std::fs::File;
 use std::test::Fail;
 
-#[test]
-fn a_shelf_in_memory_gives_its_file(rt: HostRuntime) -> Result<(), Fail> {
-    let alloc = rt.alloc();
-    let name = Word::copy(alloc, b"a")?;
-    let mut files = ShelfFiles::new(alloc);
-    files.push(ShelfFile {
-        name: Word::copy(alloc, b"a")?,
-        bytes: Bytes::copy(alloc, b"one")?,
-    })?;
-    let mut shelf = MemoryShelf::new(files, Calls::new(alloc));
-    let mut into = Vec::new(alloc);
-    shelf.fetch(alloc, &name, &mut into)?;
-    assert_eq!(rt; into.as_slice(), b"one".as_slice());
-    Ok(())
+/// Whether a pen can write a piece twice into a sink with this room, and how many bytes it writes.
+fn penned(alloc: Global, room: usize, piece: &[u8]) -> Result<(bool, usize), NoMemory> {
+    let mut sink = MemorySink::new(alloc, room, 1000, Calls::new(alloc))?;
+    let could = put_twice(&mut sink, piece).is_ok();
+    Ok((could, sink.bytes().len()))
 }
 
-#[test]
-fn a_sink_in_memory_takes_a_text(rt: HostRuntime) -> Result<(), Fail> {
-    let mut sink = MemorySink::new(rt.alloc(), 5, 2, Calls::new(rt.alloc()))?;
-    send(&mut sink, b"abc")?;
-    assert_eq!(rt; sink.bytes(), b"abc".as_slice());
-    Ok(())
-}
-
-#[test]
-fn a_pen_writes_what_was_put(rt: HostRuntime) -> Result<(), Fail> {
-    let mut sink = MemorySink::new(rt.alloc(), 5, 2, Calls::new(rt.alloc()))?;
+/// Puts a piece twice.
+fn put_twice(sink: &mut MemorySink, piece: &[u8]) -> Result<(), WriteFault> {
     let mut pen = Pen::new();
-    pen.put(&mut sink, b"abc")?;
-    pen.put(&mut sink, b"de")?;
-    pen.finish(&mut sink)?;
-    assert_eq!(rt; sink.bytes(), b"abcde".as_slice());
-    Ok(())
+    pen.put(sink, piece)?;
+    pen.put(sink, piece)?;
+    pen.finish(sink)
 }
 
 #[test]
 fn a_pen_writes_more_than_it_collects(rt: HostRuntime) -> Result<(), Fail> {
-    let mut sink = MemorySink::new(rt.alloc(), 6000, 1000, Calls::new(rt.alloc()))?;
-    let mut pen = Pen::new();
-    pen.put(&mut sink, &[b'a'; 3000])?;
-    pen.put(&mut sink, &[b'b'; 3000])?;
-    pen.finish(&mut sink)?;
-    assert_eq!(rt; sink.bytes().len(), 6000);
-    assert!(rt; sink.bytes().starts_with(&[b'a'; 3000]));
-    assert!(rt; sink.bytes().ends_with(&[b'b'; 3000]));
-    Ok(())
-}
-
-#[test]
-fn a_pen_fails_at_a_full_sink(rt: HostRuntime) -> Result<(), Fail> {
-    let mut sink = MemorySink::new(rt.alloc(), 2000, 1000, Calls::new(rt.alloc()))?;
-    let mut pen = Pen::new();
-    pen.put(&mut sink, &[b'a'; 3000])?;
-    assert!(rt; pen.put(&mut sink, &[b'b'; 3000]).is_err());
-    assert!(rt; pen.put(&mut sink, b"c").is_err());
-    assert_eq!(rt; sink.bytes(), [b'a'; 2000].as_slice());
+    assert!(rt; penned(rt.alloc(), 10000, &[b'a'; 5000])? == (true, 10000));
+    assert!(rt; penned(rt.alloc(), 9000, &[b'a'; 5000])? == (false, 9000));
     Ok(())
 }
 

@@ -1,44 +1,45 @@
-use crate::coin::ground_coin;
 use fond_layers::layers::{Layer, Layers};
 use fond_state::cube::Cube;
+use fond_text::fault::NoMemory;
+use std::alloc::Global;
 use std::test::Fail;
 
-#[test]
-fn a_layer_is_added(rt: HostRuntime) -> Result<(), Fail> {
-    let alloc = rt.alloc();
-    let mut layers = Layers::new(alloc);
-    layers.add_raw(Layer::new(alloc))?;
-    assert_eq!(rt; layers.len(), 1);
-    Ok(())
+/// The cube of one atom that is true.
+fn heads(alloc: Global) -> Result<Cube, NoMemory> {
+    let mut cube = Cube::new(alloc, 1)?;
+    cube.put_literal(0, true);
+    Ok(cube)
 }
 
-#[test]
-fn a_layer_of_no_cubes_is_sure(rt: HostRuntime) -> Result<(), Fail> {
-    let alloc = rt.alloc();
-    let coin = ground_coin(alloc)?;
-    let mut image = Cube::new(alloc, coin.atoms.len() as u32)?;
+/// A layer of the cube without literals over one atom.
+fn wide_layer(alloc: Global) -> Result<Layers, NoMemory> {
+    let mut layer = Layer::new(alloc);
+    layer.push(Cube::new(alloc, 1)?)?;
     let mut layers = Layers::new(alloc);
-    assert!(rt; layers.push(&coin, Layer::new(alloc), &mut image).is_ok());
-    assert_eq!(rt; layers.len(), 1);
-    Ok(())
+    layers.add_raw(layer)?;
+    Ok(layers)
+}
+
+/// Whether layers over one atom have a cube around this one.
+fn have_around(layers: &Layers, cube: &Cube) -> Option<bool> {
+    if layers.are_over(cube.len()) {
+        Some(layers.has_around(cube))
+    } else {
+        None
+    }
 }
 
 #[test]
 fn a_cube_lies_in_layers_that_have_a_wider_one(rt: HostRuntime) -> Result<(), Fail> {
-    let alloc = rt.alloc();
-    let mut heads = Cube::new(alloc, 1)?;
-    heads.put_literal(0, true);
-    let mut layer = Layer::new(alloc);
-    layer.push(Cube::new(alloc, 1)?)?;
-    let mut layers = Layers::new(alloc);
-    if !layers.are_over(heads.len()) {
-        return Err(Fail::from("no layers are over any atoms"));
-    }
-    assert!(rt; !layers.has_around(&heads));
-    layers.add_raw(layer)?;
-    if !layers.are_over(heads.len()) {
-        return Err(Fail::from("the layer is over one atom"));
-    }
-    assert!(rt; layers.has_around(&heads));
+    let heads = heads(rt.alloc())?;
+    let layers = wide_layer(rt.alloc())?;
+    assert!(rt; have_around(&layers, &heads) == Some(true));
+    Ok(())
+}
+
+#[test]
+fn no_cube_lies_in_no_layers(rt: HostRuntime) -> Result<(), Fail> {
+    let heads = heads(rt.alloc())?;
+    assert!(rt; have_around(&Layers::new(rt.alloc()), &heads) == Some(false));
     Ok(())
 }

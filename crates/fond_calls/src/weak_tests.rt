@@ -1,4 +1,4 @@
-use crate::coin::{ground_coin, ground_of, task_of};
+use crate::coin::{ground_coin, ground_task};
 use fond_layers::layers::Layers;
 use fond_rules::pairs::Pairs;
 use fond_task::task::Task;
@@ -14,8 +14,7 @@ const SWAP_P: &[u8] = b"(define (problem s) (:domain swap) (:init (p)) (:goal (a
 
 /// The ground task in which one of two atoms is true, and the goal is both.
 fn ground_swap(alloc: Global) -> Result<Box<Task>, FrontError> {
-    let task = task_of(alloc, SWAP, SWAP_P)?;
-    ground_of(alloc, &task)
+    ground_task(alloc, SWAP, SWAP_P)
 }
 
 /// What is found out about the initial state, with no layers and pairs.

@@ -1,8 +1,0 @@
-use Rattle.std.proofs.Common.{refl}
-use Rattle.fond_calls.proofs.cover_tests.widened.Goals as goal
-
-pub are_sure-requires-clause-belong : goal.are_sure-requires-clause-belong
-are_sure-requires-clause-belong c = c.if-not-belong_to.ensures.0 refl
-
-pub widen-requires-clause-belong : goal.widen-requires-clause-belong
-widen-requires-clause-belong c = c.if-not-belong_to.ensures.0 refl
