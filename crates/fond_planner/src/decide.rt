@@ -10,11 +10,11 @@ ghost use Rattle.fond_regress.specs.Stable.{IsHopeless, IsHopelessBy};
 ghost use Rattle.std.specs.Prelude.{◌≡◌, ◌<◌, ◌≤◌, ◌^◌, None, All, length, IfOk, IfSome, OnOk};
 
 use crate::planner::Planner;
-use crate::source::Source;
 use crate::walk::Round;
 use fond_covering::cover::{cover_by_states, take_items};
 use fond_covering::covering::Covering;
 use fond_draft::draft::Draft;
+use fond_draft::source::Source;
 use fond_layers::layers::{Layer, Layers};
 use fond_policy::cert::Cert;
 use fond_policy::items::Items;

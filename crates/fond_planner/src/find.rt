@@ -13,10 +13,10 @@ ghost use Rattle.fond_task.specs.Policies.{IsGoal};
 ghost use Rattle.std.specs.Prelude.{◌≡◌, ◌≤◌, None, true, length, IfOk, IfSome, OnOk};
 
 use crate::planner::Planner;
-use crate::source::{Effort, Source};
 use fond_draft::draft::Draft;
 use fond_draft::make::make_rules;
 use fond_draft::plan::{Plan, plan_of};
+use fond_draft::source::{Effort, Source};
 use fond_explicit::answer::{Choices, Solved};
 use fond_explicit::solve::solve_by;
 use fond_layers::layers::Layers;

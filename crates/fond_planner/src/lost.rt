@@ -5,7 +5,7 @@ ghost use Rattle.fond_task.specs.Certificates.{LiesInLayers};
 ghost use Rattle.std.specs.Prelude.{◌≡◌, true, length, IfOk, OnOk};
 
 use crate::planner::Planner;
-use crate::source::{Effort, Source};
+use fond_draft::source::{Effort, Source};
 use fond_layers::layers::{Layer, Layers};
 use fond_state::state::State;
 use fond_task::hint::LayerHint;

@@ -6,9 +6,9 @@ ghost use Rattle.fond_draft.specs.Plans.{ArePlans};
 ghost use Rattle.fond_task.specs.Certificates.{LiesInLayers};
 ghost use Rattle.std.specs.Prelude.{◌≡◌, true, length, IfOk, OnOk};
 
-use crate::source::{Effort, Source};
 use fond_draft::draft::Draft;
 use fond_draft::plan::Plan;
+use fond_draft::source::{Effort, Source};
 use fond_explicit::act_index::ActIndex;
 use fond_explicit::filing::index_of;
 use fond_state::cube::Cube;

@@ -8,9 +8,9 @@ ghost use Rattle.fond_explicit.specs.Answers.{IsReachable};
 ghost use Rattle.std.specs.Prelude.{◌≡◌, true, length, IfOk, IfSome, OnOk};
 
 use crate::planner::Planner;
-use crate::source::{Effort, Source};
 use fond_draft::make::add_rule;
 use fond_draft::replay::replay;
+use fond_draft::source::{Effort, Source};
 use fond_draft::turn::{first_open, is_ready};
 use fond_explicit::answer::{Choices, Pick};
 use fond_state::state::State;

@@ -12,9 +12,9 @@ ghost use Rattle.fond_regress.specs.Barred.{IsBarred};
 ghost use Rattle.std.specs.Prelude.{◌≡◌, ◌≤◌, true, length, IfOk, OnOk};
 
 use crate::planner::Planner;
-use crate::source::Source;
 use crate::walk::{Step, first_step};
 use fond_covering::sketch::{Edge, Looked, Sketch};
+use fond_draft::source::Source;
 use fond_policy::items::Items;
 use fond_policy::walk::one_state;
 use fond_store::store::Store;

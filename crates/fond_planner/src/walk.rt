@@ -18,8 +18,8 @@ ghost use Rattle.std.specs.Prelude.{◌≡◌, ◌<◌, ◌≤◌, false, true, 
 use crate::find::Found;
 use crate::planner::Planner;
 use crate::sketched::Sketched;
-use crate::source::Source;
 use fond_draft::draft::Draft;
+use fond_draft::source::Source;
 use fond_layers::layers::Layers;
 use fond_policy::items::Items;
 use fond_policy::walk::one_state;

@@ -17,9 +17,9 @@ use fond_commands::answer::{Answer, line};
 use fond_commands::rejection::Rejection;
 use fond_commands::status::Ending;
 use fond_commands::task_files::{TaskFiles, read_files};
-use fond_decide::decide::decide;
 use fond_front::texts::TaskTexts;
-use fond_planner::decide::Decision;
+use fond_guess::guide::Guide;
+use fond_planner::decide::{Decision, decide_with};
 use fond_policy::cert::Cert;
 use fond_task::task::Task;
 use fond_text::fault::NoMemory;
@@ -60,7 +60,7 @@ fn decision_answer(alloc: Global, game: Box<Task>, budget: u32) -> Result<Answer
     requires { budget ≤ 1000000 }
     ensures { IfOk result (λ answer. (decision : Decision) × IsDecision game.value budget decision × (answer ≡ decision_reply game.value budget decision)) }
 {
-    match decide(alloc, &game, budget)? {
+    match decide_with::<Guide>(alloc, &game, budget)? {
         Decision::Certified(cert) => Ok(cert_answer(game, cert)),
         Decision::Undecided => undecided(alloc, budget),
     }

@@ -1,9 +1,9 @@
 //! The searching engine as a source of hints: it is told what is new in a draft before it is asked.
 
+use crate::engine::Engine;
 use fond_draft::draft::Draft;
-use fond_guess::engine::Engine;
+use fond_draft::source::{Effort, Source};
 use fond_layers::layers::{Layer, Layers};
-use fond_planner::source::{Effort, Source};
 use fond_state::cube::Cube;
 use fond_state::state::State;
 use fond_task::hint::{Hint, LayerHint};

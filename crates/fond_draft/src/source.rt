@@ -1,6 +1,6 @@
-//! Where a planner learns of plans and of layers.
+//! Where a planner learns of plans and of layers for its draft.
 
-use fond_draft::draft::Draft;
+use crate::draft::Draft;
 use fond_layers::layers::Layers;
 use fond_state::cube::Cube;
 use fond_state::state::State;
