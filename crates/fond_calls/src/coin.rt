@@ -1,4 +1,4 @@
-//! Small tasks: a coin that is flipped until it shows heads, and the coin at its goal.
+//! A small task: a coin that is flipped until it shows heads.
 
 use fond_ast::task::LiftedTask;
 use fond_front::task::read_task;
@@ -12,8 +12,6 @@ const DOMAIN: &[u8] =
     b"(define (domain coin) (:predicates (heads)) (:action flip :effect (oneof (heads) (and))))";
 
 const PROBLEM: &[u8] = b"(define (problem c) (:domain coin) (:goal (heads)))";
-
-const WON: &[u8] = b"(define (problem c) (:domain coin) (:init (heads)) (:goal (heads)))";
 
 /// The task of a domain and a problem without unfair schemas. Tasks are in boxes, since the time that the proof of a test
 /// takes grows with the fields of the values that it owns.
@@ -37,9 +35,4 @@ pub fn ground_task(alloc: Global, domain: &[u8], problem: &[u8]) -> Result<Box<T
 /// The ground task of the coin: the atom `(heads)` and the action `(flip)`.
 pub fn ground_coin(alloc: Global) -> Result<Box<Task>, FrontError> {
     ground_task(alloc, DOMAIN, PROBLEM)
-}
-
-/// The ground task of the coin at its goal.
-pub fn ground_won(alloc: Global) -> Result<Box<Task>, FrontError> {
-    ground_task(alloc, DOMAIN, WON)
 }

@@ -17,11 +17,7 @@ mod explicit_tests;
 #[cfg(test)]
 mod law_tests;
 #[cfg(test)]
-mod layers_tests;
-#[cfg(test)]
 mod reader_tests;
-#[cfg(test)]
-mod states_tests;
 #[cfg(test)]
 mod text_tests;
 #[cfg(test)]
