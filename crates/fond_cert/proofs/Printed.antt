@@ -1,11 +1,10 @@
 -- What is printed is how certificates are written.
-use Rattle.std.proofs.Common.{◌≡◌, ℕ, ◌+◌, ◌<◌, ◌≤◌, length, zero, suc, Bool, List, [], ◌∷◌, ◌++◌, Option, Some, None, map, codes, refl, sym, ap, ◌∙◌, arith, append_assoc, drop, get_or}
+use Rattle.std.proofs.Common.{◌≡◌, ℕ, ◌≤◌, length, zero, suc, Bool, List, [], ◌∷◌, ◌++◌, Option, Some, None, map, codes, refl, sym, ap, ◌∙◌, arith, append_assoc, drop}
 use Rattle.std.specs.Prelude.{slice_get}
 use Rattle.std.specs.Fmt.{decimal}
 use Rattle.std.specs.List.{filter_map, flat_map, enumerate_from, cons_option}
 use Rattle.std.specs.Option.{option_map, option_map_or}
 use Rattle.std.proofs.lemmas.Grind.{flat_map-append}
-use Rattle.std.proofs.lemmas.List.{at_drop_more}
 use Rattle.fond_text.specs.declared.atom.Atom.{Atom}
 use Rattle.fond_task.specs.declared.task.Act.{Act}
 use Rattle.fond_task.specs.declared.task.Labels.{Labels}
@@ -54,10 +53,6 @@ cube_text_is task cube = cube_items_text task.labels cube (enumerate_from 0 task
 
 pub act_text_is : (task : Task) (n : ℕ) (act : Act) → slice_get task.acts n ≡ Some act → action_text task.labels act.ground ≡ group_text (act_leaves task n)
 act_text_is task n act e = action_leaves_text task.labels act.ground ∙ ap (λ o. group_text (option_map_or (λ (a : Act). action_leaves task.labels a.ground) o [])) (sym e)
-
--- a text of the items from this one on
-pub next_of : {X : Type 0} (F : List X → List ℕ) (xs : List X) (i : ℕ) (x : X) → i < length xs → x ≡ get_or xs i x → F (drop i xs) ≡ F (x ∷ drop (i + 1) xs)
-next_of F xs i x lt at = at_drop_more F xs i x lt ∙ ap (λ y. F (y ∷ drop (i + 1) xs)) (sym at)
 
 -- a text of the items past the last one
 pub none_of : {X : Type 0} (F : List X → List ℕ) (xs : List X) (i : ℕ) → length xs ≤ i → F (drop i xs) ≡ F []

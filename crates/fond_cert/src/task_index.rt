@@ -8,6 +8,7 @@ use fond_store::index::TextIndex;
 use fond_task::task::Task;
 use fond_task::text::{put_action, put_atom};
 use fond_text::fault::NoMemory;
+use fond_text::text::Text;
 use std::alloc::Global;
 use std::marker::Model;
 
@@ -44,9 +45,10 @@ fn act_numbers(alloc: Global, task: &Task) -> Result<TextIndex, NoMemory>
 {
     let mut numbers = TextIndex::new(alloc);
     for i in 0..task.acts.len() {
-        let mut text = Vec::new(alloc);
-        put_action(&task.labels, &task.acts.get(i).ground, &mut text)?;
-        numbers.insert(text, i as u32)?;
+        let mut text = Text::new(alloc);
+        put_action(&task.labels, &task.acts.get(i).ground, &mut text);
+        let bytes = text.finish()?;
+        numbers.insert(bytes, i as u32)?;
     }
     Ok(numbers)
 }
@@ -57,9 +59,10 @@ fn atom_numbers(alloc: Global, task: &Task) -> Result<TextIndex, NoMemory>
 {
     let mut numbers = TextIndex::new(alloc);
     for i in 0..task.atoms.len() {
-        let mut text = Vec::new(alloc);
-        put_atom(&task.labels, task.atoms.get(i), &mut text)?;
-        numbers.insert(text, i as u32)?;
+        let mut text = Text::new(alloc);
+        put_atom(&task.labels, task.atoms.get(i), &mut text);
+        let bytes = text.finish()?;
+        numbers.insert(bytes, i as u32)?;
     }
     Ok(numbers)
 }

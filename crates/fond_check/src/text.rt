@@ -2,8 +2,9 @@
 
 ghost use Rattle.fond_check.specs.Texts.{accepted_text, numbered_text, cube_text, verdict_text as text_of};
 ghost use Rattle.fond_task.specs.Texts.{state_text};
+ghost use Rattle.fond_text.specs.Text.{Adds};
 ghost use Rattle.std.specs.Fmt.{decimal};
-ghost use Rattle.std.specs.Prelude.{◌≡◌, ◌++◌, codes, IfOk, OnOk};
+ghost use Rattle.std.specs.Prelude.{◌≡◌, ◌++◌, codes, IfOk};
 
 use crate::verdict::Verdict;
 use fond_policy::cert::Cert;
@@ -11,7 +12,7 @@ use fond_state::state::State;
 use fond_task::task::Task;
 use fond_task::text::{put_action, put_state};
 use fond_text::fault::NoMemory;
-use fond_text::number::put_number;
+use fond_text::text::Text;
 use std::alloc::Global;
 
 /// The line for a certificate that is accepted.
@@ -27,70 +28,77 @@ fn accepted_line(cert: &Cert, lean: bool) -> &'static [u8]
     }
 }
 
-/// Appends the text of the action of this number, or nothing if there is none.
-fn put_numbered(task: &Task, act: u32, out: &mut Vec<u8>) -> Result<(), NoMemory>
-    ensures ok { OnOk result (out.new.items ≡ out.old.items ++ numbered_text task.now act) }
+/// Adds the text of the action of this number, or nothing if there is none.
+fn put_numbered(task: &Task, act: u32, text: &mut Text)
+    ensures { Adds text.old text.new (numbered_text task.now act) }
 {
     if (act as usize) < task.acts.len() {
-        put_action(&task.labels, &task.acts.get(act as usize).ground, out)?;
+        put_action(&task.labels, &task.acts.get(act as usize).ground, text);
     }
-    Ok(())
 }
 
-/// The line for a cube that is not sure, up to what is wrong with it.
-fn cube_words(alloc: Global, layer: u32, cube: u32) -> Result<Vec<u8>, NoMemory>
-    ensures { IfOk result (λ text. text.items ≡ cube_text layer cube) }
+/// Adds the line for a cube that is not sure, up to what is wrong with it.
+fn put_cube(layer: u32, cube: u32, text: &mut Text)
+    ensures { Adds text.old text.new (cube_text layer cube) }
 {
-    let mut text = Vec::from_slice(alloc, b"rejected V3 layer ")?;
-    put_number(&mut text, u64::from(layer))?;
-    text.extend_from_slice(b" cube ")?;
-    put_number(&mut text, u64::from(cube))?;
-    text.extend_from_slice(b" ")?;
-    Ok(text)
+    text.add(b"rejected V3 layer ");
+    text.add_number(layer as u64);
+    text.add(b" cube ");
+    text.add_number(cube as u64);
+    text.add(b" ");
 }
 
-/// The line for a cube on which an action is wrong.
-fn act_line(
-    alloc: Global,
-    task: &Task,
-    layer: u32,
-    cube: u32,
-    act: u32,
-) -> Result<Vec<u8>, NoMemory>
-    ensures { IfOk result (λ text. text.items ≡ cube_text layer cube ++ numbered_text task.now act ++ codes "\n") }
+/// Adds the line for a cube on which an action is wrong.
+fn put_act(task: &Task, layer: u32, cube: u32, act: u32, text: &mut Text)
+    ensures { Adds text.old text.new (cube_text layer cube ++ numbered_text task.now act ++ codes "\n") }
 {
-    let mut text = cube_words(alloc, layer, cube)?;
-    put_numbered(task, act, &mut text)?;
-    text.extend_from_slice(b"\n")?;
-    Ok(text)
+    put_cube(layer, cube, text);
+    put_numbered(task, act, text);
+    text.add(b"\n");
 }
 
-/// The line for a cube on which the goal may be true.
-fn goal_line(alloc: Global, layer: u32, cube: u32) -> Result<Vec<u8>, NoMemory>
-    ensures { IfOk result (λ text. text.items ≡ cube_text layer cube ++ codes "goal\n") }
+/// Adds the line for a cube on which the goal may be true.
+fn put_goal(layer: u32, cube: u32, text: &mut Text)
+    ensures { Adds text.old text.new (cube_text layer cube ++ codes "goal\n") }
 {
-    let mut text = cube_words(alloc, layer, cube)?;
-    text.extend_from_slice(b"goal\n")?;
-    Ok(text)
+    put_cube(layer, cube, text);
+    text.add(b"goal\n");
 }
 
-/// The line of these words and a number.
-fn numbered_line(alloc: Global, words: &[u8], number: u64) -> Result<Vec<u8>, NoMemory>
-    ensures { IfOk result (λ text. text.items ≡ words.now ++ decimal number ++ codes "\n") }
+/// Adds the line of these words and a number.
+fn put_line(words: &[u8], number: u64, text: &mut Text)
+    ensures { Adds text.old text.new (words.now ++ decimal number ++ codes "\n") }
 {
-    let mut text = Vec::from_slice(alloc, words)?;
-    put_number(&mut text, number)?;
-    text.extend_from_slice(b"\n")?;
-    Ok(text)
+    text.add(words);
+    text.add_number(number);
+    text.add(b"\n");
 }
 
-/// The lines for a state in which no rule holds.
-fn state_lines(alloc: Global, task: &Task, state: &State) -> Result<Vec<u8>, NoMemory>
-    ensures { IfOk result (λ text. text.items ≡ codes "rejected V4\n" ++ state_text task.now state.now) }
+/// Adds the lines for a state in which no rule holds.
+fn put_unruled(task: &Task, state: &State, text: &mut Text)
+    ensures { Adds text.old text.new (codes "rejected V4\n" ++ state_text task.now state.now) }
 {
-    let mut text = Vec::from_slice(alloc, b"rejected V4\n")?;
-    put_state(task, state, &mut text)?;
-    Ok(text)
+    text.add(b"rejected V4\n");
+    put_state(task, state, text);
+}
+
+/// Adds the text of a verdict on a certificate.
+fn put_verdict(task: &Task, cert: &Cert, verdict: &Verdict, text: &mut Text)
+    ensures { Adds text.old text.new (text_of task.now cert.now verdict.now) }
+{
+    match verdict {
+        Verdict::Accepted { lean } => text.add(accepted_line(cert, *lean)),
+        Verdict::LayerGoal { layer, cube } => put_goal(*layer, *cube, text),
+        Verdict::LayerAct { layer, cube, act } => put_act(task, *layer, *cube, *act, text),
+        Verdict::Pair { at } => put_line(b"rejected V2 pair ", *at, text),
+        Verdict::Rule { at } => put_line(b"rejected V1 rule ", *at as u64, text),
+        Verdict::Count { more: true } => text.add(b"rejected V5 more\n"),
+        Verdict::Count { more: false } => text.add(b"rejected V5 fewer\n"),
+        Verdict::NoRule { state } => put_unruled(task, state, text),
+        Verdict::Outside => text.add(b"rejected V6\n"),
+        Verdict::Item { at } => put_line(b"rejected V7 item ", *at as u64, text),
+        Verdict::Start => text.add(b"rejected V8\n"),
+    }
 }
 
 /// The text of a verdict on a certificate, in lines (docs/CERTIFICATES.md).
@@ -102,17 +110,7 @@ pub fn verdict_text(
 ) -> Result<Vec<u8>, NoMemory>
     ensures { IfOk result (λ text. text.items ≡ text_of task.now cert.now verdict.now) }
 {
-    match verdict {
-        Verdict::Accepted { lean } => Ok(Vec::from_slice(alloc, accepted_line(cert, *lean))?),
-        Verdict::LayerGoal { layer, cube } => goal_line(alloc, *layer, *cube),
-        Verdict::LayerAct { layer, cube, act } => act_line(alloc, task, *layer, *cube, *act),
-        Verdict::Pair { at } => numbered_line(alloc, b"rejected V2 pair ", *at),
-        Verdict::Rule { at } => numbered_line(alloc, b"rejected V1 rule ", u64::from(*at)),
-        Verdict::Count { more: true } => Ok(Vec::from_slice(alloc, b"rejected V5 more\n")?),
-        Verdict::Count { more: false } => Ok(Vec::from_slice(alloc, b"rejected V5 fewer\n")?),
-        Verdict::NoRule { state } => state_lines(alloc, task, state),
-        Verdict::Outside => Ok(Vec::from_slice(alloc, b"rejected V6\n")?),
-        Verdict::Item { at } => numbered_line(alloc, b"rejected V7 item ", u64::from(*at)),
-        Verdict::Start => Ok(Vec::from_slice(alloc, b"rejected V8\n")?),
-    }
+    let mut text = Text::new(alloc);
+    put_verdict(task, cert, verdict, &mut text);
+    text.finish()
 }

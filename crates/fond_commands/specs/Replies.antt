@@ -26,14 +26,15 @@ file_word Domain = codes "domain"
 file_word Problem = codes "problem"
 file_word Side = codes "side"
 
+-- the words for a file with a fault: `refused FILE LINE COLUMN CODE`
+abbrev pub fault_words : Fault → List ℕ
+fault_words fault = codes "refused " ++ file_word fault.file ++ codes " " ++ decimal fault.place.line ++ codes " " ++ decimal fault.place.column ++ codes " F" ++ decimal fault.code
+
 -- the refusal of a file with a fault
 abbrev pub fault_reply : Fault → Reply
-fault_reply fault =
-    line_reply
-    (codes "refused " ++ file_word fault.file ++ codes " " ++ decimal fault.place.line ++ codes " " ++ decimal fault.place.column ++ codes " F" ++ decimal fault.code)
-    Refused
+fault_reply fault = line_reply (fault_words fault) Refused
 
--- the rejection of an action that names no action of the task
+-- the rejection of an action that names no ground action with fitting objects
 abbrev pub action_reply : Reply
 action_reply = line_reply (codes "rejected C3 at 0") Rejected
 

@@ -1,7 +1,8 @@
 //! Rejections: why a command does not do its job, and the answer to that.
 
 ghost use Rattle.fond_commands.specs.Rejections.{reply_to};
-ghost use Rattle.fond_commands.specs.Replies.{file_word, fault_reply, cert_reply, script_reply};
+ghost use Rattle.fond_commands.specs.Replies.{file_word, fault_words, fault_reply, cert_reply, script_reply};
+ghost use Rattle.fond_text.specs.Text.{Adds};
 ghost use Rattle.std.specs.Prelude.{◌≡◌, Some, IfOk};
 
 use crate::answer::{Answer, line};
@@ -9,8 +10,8 @@ use crate::status::Ending;
 use fond_cert::error::CertError;
 use fond_exec::script::ScriptError;
 use fond_text::fault::{Fault, FrontError, NoMemory};
-use fond_text::number::put_number;
 use fond_text::place::FileKind;
+use fond_text::text::Text;
 use std::alloc::Global;
 
 /// Why a command does not do its job.
@@ -88,18 +89,27 @@ fn file_word(file: FileKind) -> &'static [u8]
     }
 }
 
+/// Adds the words for a fault of a file.
+fn put_fault(fault: Fault, text: &mut Text)
+    ensures { Adds text.old text.new (fault_words fault) }
+{
+    text.add(b"refused ");
+    text.add(file_word(fault.file));
+    text.add(b" ");
+    text.add_number(fault.place.line as u64);
+    text.add(b" ");
+    text.add_number(fault.place.column as u64);
+    text.add(b" F");
+    text.add_number(fault.code as u64);
+}
+
 /// The refusal of a file with a fault.
 fn fault_answer(alloc: Global, fault: Fault) -> Result<Answer, NoMemory>
     ensures { IfOk result (λ answer. answer ≡ fault_reply fault) }
 {
-    let mut words = Vec::from_slice(alloc, b"refused ")?;
-    words.extend_from_slice(file_word(fault.file))?;
-    words.extend_from_slice(b" ")?;
-    put_number(&mut words, u64::from(fault.place.line))?;
-    words.extend_from_slice(b" ")?;
-    put_number(&mut words, u64::from(fault.place.column))?;
-    words.extend_from_slice(b" F")?;
-    put_number(&mut words, u64::from(fault.code))?;
+    let mut text = Text::new(alloc);
+    put_fault(fault, &mut text);
+    let words = text.finish()?;
     line(alloc, &words, Ending::Refused)
 }
 
@@ -107,10 +117,12 @@ fn fault_answer(alloc: Global, fault: Fault) -> Result<Answer, NoMemory>
 fn cert_answer(alloc: Global, code: u8, byte: u64) -> Result<Answer, NoMemory>
     ensures { IfOk result (λ answer. answer ≡ cert_reply code byte) }
 {
-    let mut words = Vec::from_slice(alloc, b"rejected C")?;
-    put_number(&mut words, u64::from(code))?;
-    words.extend_from_slice(b" at ")?;
-    put_number(&mut words, byte)?;
+    let mut text = Text::new(alloc);
+    text.add(b"rejected C");
+    text.add_number(code as u64);
+    text.add(b" at ");
+    text.add_number(byte);
+    let words = text.finish()?;
     line(alloc, &words, Ending::Rejected)
 }
 
@@ -118,8 +130,10 @@ fn cert_answer(alloc: Global, code: u8, byte: u64) -> Result<Answer, NoMemory>
 fn script_answer(alloc: Global, byte: u64) -> Result<Answer, NoMemory>
     ensures { IfOk result (λ answer. answer ≡ script_reply byte) }
 {
-    let mut words = Vec::from_slice(alloc, b"rejected S1 at ")?;
-    put_number(&mut words, byte)?;
+    let mut text = Text::new(alloc);
+    text.add(b"rejected S1 at ");
+    text.add_number(byte);
+    let words = text.finish()?;
     line(alloc, &words, Ending::Rejected)
 }
 

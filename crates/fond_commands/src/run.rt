@@ -31,9 +31,8 @@ fn script_answer(
     requires { BelongTo task.now rules.now }
     ensures { IfOk result (IsTraceReply as_recorded task.now rules.now numbers.now) }
 {
-    let mut text = Vec::new(alloc);
-    let is_goal = trace(alloc, task, rules, numbers, &mut text)?;
-    Ok(trace_answer(text, is_goal))
+    let traced = trace(alloc, task, rules, numbers)?;
+    Ok(trace_answer(traced))
 }
 
 /// The trace of the certificate's rules over the script in a task, or why there is none.

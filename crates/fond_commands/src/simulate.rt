@@ -15,7 +15,7 @@ use crate::task_files::{TaskFiles, read_files};
 use crate::traced::{rules_of, trace_answer};
 use fond_cert::read::read_cert;
 use fond_demo::words::draw_words;
-use fond_exec::simulate::simulate as put_simulation;
+use fond_exec::simulate::simulate as simulated;
 use fond_front::texts::TaskTexts;
 use fond_rules::rules::Rules;
 use fond_task::task::Task;
@@ -34,9 +34,8 @@ fn drawn_answer(
     ensures { IfOk result (IsTraceReply by_remainder task.now rules.now (drawn_words seed steps)) }
 {
     let words = draw_words(alloc, seed, steps)?;
-    let mut text = Vec::new(alloc);
-    let is_goal = put_simulation(alloc, task, rules, &words, &mut text)?;
-    Ok(trace_answer(text, is_goal))
+    let traced = simulated(alloc, task, rules, &words)?;
+    Ok(trace_answer(traced))
 }
 
 /// The trace of the certificate's rules over drawn words in a task, or why there is none.

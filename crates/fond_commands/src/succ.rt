@@ -17,6 +17,7 @@ use fond_succ::successors::put_successors;
 use fond_task::task::Task;
 use fond_text::atom::GroundAction;
 use fond_text::fault::NoMemory;
+use fond_text::text::Text;
 use fond_tree::tree::Tree;
 use std::alloc::Global;
 
@@ -30,9 +31,11 @@ fn successors(
     requires { IsGroundOf task.now game.now }
     ensures { IfOk result (AnswersAction task.now action.now) }
 {
-    let mut text = Vec::from_slice(alloc, b"applicable yes\n")?;
+    let mut text = Text::new(alloc);
+    text.add(b"applicable yes\n");
     if put_successors(alloc, task, game, action, &mut text)? {
-        Ok(Answer::new(text, Ending::Done))
+        let bytes = text.finish()?;
+        Ok(Answer::new(bytes, Ending::Done))
     } else {
         line(alloc, b"applicable no", Ending::Done)
     }

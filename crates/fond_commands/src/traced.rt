@@ -6,6 +6,7 @@ ghost use Rattle.std.specs.Prelude.{◌≡◌};
 
 use crate::answer::Answer;
 use crate::status::Ending;
+use fond_exec::trace::Traced;
 use fond_policy::cert::Cert;
 use fond_rules::rules::Rules;
 use std::alloc::Global;
@@ -21,14 +22,14 @@ pub fn rules_of(alloc: Global, cert: Cert) -> Rules
     }
 }
 
-/// The answer of the text of a trace, which ends at a goal or not.
-pub fn trace_answer(text: Vec<u8>, is_goal: bool) -> Answer
-    ensures { result ≡ record { text = text.items; ending = trace_ending is_goal } }
+/// The answer of a trace: its text, and whether it ends at a goal.
+pub fn trace_answer(traced: Traced) -> Answer
+    ensures { result ≡ record { text = traced.text.items; ending = trace_ending traced.is_goal } }
 {
-    let ending = if is_goal {
+    let ending = if traced.is_goal {
         Ending::Done
     } else {
         Ending::Stopped
     };
-    Answer::new(text, ending)
+    Answer::new(traced.text, ending)
 }

@@ -1,11 +1,13 @@
 //! The three texts of the task.
 
 ghost use Rattle.fond_demo.specs.Demos.{demo_domain, demo_problem, demo_side};
-ghost use Rattle.std.specs.Prelude.{◌≡◌, ◌≤◌, ◌++◌, IfOk, OnOk};
+ghost use Rattle.fond_text.specs.Text.{Adds};
+ghost use Rattle.std.specs.Prelude.{◌≡◌, ◌≤◌, IfOk};
 
-use crate::problem::put_problem;
+use crate::problem::problem_text;
 use fond_text::bytes::Bytes;
 use fond_text::fault::NoMemory;
+use fond_text::text::Text;
 use std::alloc::Global;
 
 /// The texts of a task.
@@ -16,28 +18,34 @@ pub struct DemoFiles {
     pub side: Bytes,
 }
 
-/// Appends the text of the domain.
-fn put_domain(out: &mut Vec<u8>) -> Result<(), NoMemory>
-    ensures { OnOk result (out.new.items ≡ out.old.items ++ demo_domain) }
+/// Adds the text of the domain.
+fn put_domain(text: &mut Text)
+    ensures { Adds text.old text.new demo_domain }
 {
-    out.extend_from_slice(b"(define (domain demo) (:types place lamp) (:constants l0 - lamp)\n")?;
-    out.extend_from_slice(
+    text.add(b"(define (domain demo) (:types place lamp) (:constants l0 - lamp)\n");
+    text.add(
         b"(:predicates (at ?p - place) (easy ?p ?q - place) (hard ?p ?q - place) (lit ?l - lamp))\n",
-    )?;
-    out.extend_from_slice(
+    );
+    text.add(
         b"(:action walk :parameters (?p ?q - place) :precondition (and (at ?p) (easy ?p ?q))\n",
-    )?;
-    out.extend_from_slice(b" :effect (oneof (and (not (at ?p)) (at ?q)) (and)))\n")?;
-    out.extend_from_slice(
+    );
+    text.add(b" :effect (oneof (and (not (at ?p)) (at ?q)) (and)))\n");
+    text.add(
         b"(:action carry :parameters (?p ?q - place) :precondition (and (at ?p) (hard ?p ?q))\n",
-    )?;
-    out.extend_from_slice(
+    );
+    text.add(
         b" :effect (oneof (and (not (at ?p)) (at ?q)) (and (not (at ?p)) (at ?q) (lit l0))))\n",
-    )?;
-    out.extend_from_slice(
-        b"(:action press :parameters (?l - lamp) :effect (oneof (lit ?l) (not (lit ?l)))))\n",
-    )?;
-    Ok(())
+    );
+    text.add(b"(:action press :parameters (?l - lamp) :effect (oneof (lit ?l) (not (lit ?l)))))\n");
+}
+
+/// The text of the domain.
+fn domain_text(alloc: Global) -> Result<Vec<u8>, NoMemory>
+    ensures { IfOk result (λ text. text.items ≡ demo_domain) }
+{
+    let mut text = Text::new(alloc);
+    put_domain(&mut text);
+    text.finish()
 }
 
 /// The texts of the task of this size: a row of so many steps, of which an opponent has a hand in about half, and at most 12
@@ -48,13 +56,11 @@ pub fn demo_files(alloc: Global, size: u64) -> Result<DemoFiles, NoMemory>
     ensures problem { IfOk result (λ files. files.problem ≡ demo_problem size) }
     ensures side { IfOk result (λ files. files.side ≡ demo_side) }
 {
-    let mut domain = Vec::new(alloc);
-    put_domain(&mut domain)?;
-    let mut problem = Vec::new(alloc);
-    put_problem(alloc, size, &mut problem)?;
+    let domain = domain_text(alloc)?;
+    let problem = problem_text(alloc, size)?;
     Ok(DemoFiles {
-        domain: Bytes::copy(alloc, &domain)?,
-        problem: Bytes::copy(alloc, &problem)?,
+        domain: Bytes::of(domain),
+        problem: Bytes::of(problem),
         side: Bytes::copy(alloc, b"carry\n")?,
     })
 }

@@ -1,30 +1,22 @@
 //! What is shown of the task.
 
 ghost use Rattle.fond_demo.specs.Demos.{shown_text};
-ghost use Rattle.std.specs.Prelude.{◌≡◌, ◌++◌, OnOk};
+ghost use Rattle.fond_text.specs.Text.{Adds};
 
-use fond_text::fault::NoMemory;
-use fond_text::number::put_number;
+use fond_text::text::Text;
 
-/// Appends a certificate between the lines of `demo`: the size, how many atoms and actions the task has, and what `check` says of
+/// Adds a certificate between the lines of `demo`: the size, how many atoms and actions the task has, and what `check` says of
 /// it.
-pub fn put_shown(
-    size: u64,
-    atoms: u64,
-    actions: u64,
-    cert: &[u8],
-    out: &mut Vec<u8>,
-) -> Result<(), NoMemory>
-    ensures { OnOk result (out.new.items ≡ out.old.items ++ shown_text size atoms actions cert.now) }
+pub fn put_shown(size: u64, atoms: u64, actions: u64, cert: &[u8], text: &mut Text)
+    ensures { Adds text.old text.new (shown_text size atoms actions cert.now) }
 {
-    out.extend_from_slice(b"demo ")?;
-    put_number(out, size)?;
-    out.extend_from_slice(b"\natoms ")?;
-    put_number(out, atoms)?;
-    out.extend_from_slice(b"\nactions ")?;
-    put_number(out, actions)?;
-    out.extend_from_slice(b"\n")?;
-    out.extend_from_slice(cert)?;
-    out.extend_from_slice(b"accepted policy lean\n")?;
-    Ok(())
+    text.add(b"demo ");
+    text.add_number(size);
+    text.add(b"\natoms ");
+    text.add_number(atoms);
+    text.add(b"\nactions ");
+    text.add_number(actions);
+    text.add(b"\n");
+    text.add(cert);
+    text.add(b"accepted policy lean\n");
 }

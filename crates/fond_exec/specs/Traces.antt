@@ -33,7 +33,7 @@ stepping task rules = record {
 abbrev pub Trace : Pick → Task → List Rule → List Bool → List ℕ → List ℕ → List Bool → Type 0
 Trace pick task rules = TraceOf (stepping task rules) pick
 
--- bytes are followed by the trace from the initial state and by the state in which it ends, and it is told whether that is a goal
-abbrev pub AppendsTrace : Pick → Task → List Rule → List ℕ → List ℕ → List ℕ → Bool → Type 0
-AppendsTrace pick task rules words before after is_goal =
-    (text : List ℕ) × (last : List Bool) × Trace pick task rules task.init words text last × (after ≡ before ++ (text ++ state_text task last)) × (is_goal ≡ is_true last task.goal)
+-- a text is the trace from the initial state, followed by the state in which it ends, and the flag is true exactly if that is a goal
+abbrev pub IsTraceText : Pick → Task → List Rule → List ℕ → List ℕ → Bool → Type 0
+IsTraceText pick task rules words text is_goal =
+    (lines : List ℕ) × (last : List Bool) × Trace pick task rules task.init words lines last × (text ≡ lines ++ state_text task last) × (is_goal ≡ is_true last task.goal)

@@ -1,5 +1,5 @@
 -- Adding the states to which the outcomes of an action lead.
-use Rattle.std.proofs.Common.{◌≡◌, ℕ, ◌+◌, ◌≤◌, ◌∙◌, ◌⊎◌, inl, inr, Bool, true, false, List, [], ◌∷◌, ◌++◌, map, fold, drop, length, Some, slice_get, refl, sym, ap, subst, arith, length-append, append_assoc}
+use Rattle.std.proofs.Common.{◌≡◌, ℕ, ◌+◌, ◌≤◌, ◌∙◌, ◌⊎◌, inl, inr, Bool, true, false, List, [], ◌∷◌, ◌++◌, map, fold, drop, length, Some, slice_get, refl, sym, ap, subst, arith, length-append}
 use Rattle.std.specs.Prelude.{◌&&◌, nat_le, nat_lt, Contains, if◌then◌else◌}
 use Rattle.std.specs.Bool.{beq}
 use Rattle.std.specs.Cmp.{booleans_Decides}
@@ -61,7 +61,6 @@ one_more init outcomes k entries old new whole at is before =
     ap (λ states. fold added states (map (next_state init) (drop (k + 1) outcomes))) is ∙ sym (ap (λ rest. fold added old (map (next_state init) rest)) split) ∙ before
 
 -- one more text
-pub text_more : {X : Type 0} (text : X → List ℕ) (xs : List X) (i : ℕ) (x : X) (out next whole : List ℕ) → slice_get xs i ≡ Some x → next ≡ out ++ text x → out ++ flat_map text (drop i xs) ≡ whole → next ++ flat_map text (drop (i + 1) xs) ≡ whole
-text_more text xs i x out next whole at is before =
-    let split : drop i xs ≡ x ∷ drop (i + 1) xs = at_drop_more (λ rest. rest) xs i x (slice_get_within xs i x at) ∙ ap (λ y. y ∷ drop (i + 1) xs) (get_or_from_slice_get xs i x x at) in
-    ap (λ front. front ++ flat_map text (drop (i + 1) xs)) is ∙ append_assoc out (text x) (flat_map text (drop (i + 1) xs)) ∙ sym (ap (λ rest. out ++ flat_map text rest) split) ∙ before
+pub text_more : {X : Type 0} (text : X → List ℕ) (xs : List X) (i : ℕ) (x : X) → slice_get xs i ≡ Some x → flat_map text (drop i xs) ≡ text x ++ flat_map text (drop (i + 1) xs)
+text_more text xs i x at =
+    at_drop_more (flat_map text) xs i x (slice_get_within xs i x at) ∙ ap (λ y. text y ++ flat_map text (drop (i + 1) xs)) (get_or_from_slice_get xs i x x at)

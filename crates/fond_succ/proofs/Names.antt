@@ -1,5 +1,5 @@
 -- The members of a node of leaves.
-use Rattle.std.proofs.Common.{◌≡◌, Bool, true, List, Some, is_some}
+use Rattle.std.proofs.Common.{◌≡◌, true, List, Some, is_some}
 use Rattle.std.specs.List.{list_all}
 use Rattle.std.proofs.lemmas.Bool.{and_parts}
 use Rattle.fond_tree.specs.declared.tree.Tree.{Tree}

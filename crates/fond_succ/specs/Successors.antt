@@ -1,6 +1,7 @@
 -- The successors of the initial state of a task by a ground action.
-use Rattle.std.specs.Prelude.{◌≡◌, ℕ, Bool, true, false, List, ◌++◌, Some, slice_get}
+use Rattle.std.specs.Prelude.{◌≡◌, ℕ, Bool, true, false, List, Option, Some, slice_get}
 use Rattle.std.specs.List.{flat_map}
+use Rattle.fond_text.specs.Text.{Adds}
 use Rattle.fond_text.specs.declared.atom.GroundAction.{GroundAction}
 use Rattle.fond_ast.specs.declared.task.LSchema.{LSchema}
 use Rattle.fond_ast.specs.declared.task.LiftedTask.{LiftedTask}
@@ -16,8 +17,8 @@ pub record IsSuccessorsText (task : LiftedTask) (action : GroundAction) (text : 
   pub numbered : slice_get task.schemas action.schema ≡ Some schema
   pub text_is : text ≡ flat_map (state_text task) (successors (initial task) action.objects schema.effect)
 
--- an answer to an action, and the text that was added with it: false and none if the action is not applicable in the initial
--- state, and otherwise true and the text of the successors
-abbrev pub AreSuccessors : LiftedTask → GroundAction → List ℕ → List ℕ → Bool → Type 0
+-- the answer is whether the action is applicable in the initial state: if not, the text is as before, and if so, that of the
+-- successors was added to it
+abbrev pub AreSuccessors : LiftedTask → GroundAction → Option (List ℕ) → Option (List ℕ) → Bool → Type 0
 AreSuccessors task action before after false = (¬ IsApplicable task (initial task) action) × (after ≡ before)
-AreSuccessors task action before after true = (text : List ℕ) × IsSuccessorsText task action text × (after ≡ before ++ text)
+AreSuccessors task action before after true = (text : List ℕ) × IsSuccessorsText task action text × Adds before after text

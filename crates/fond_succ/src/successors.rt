@@ -7,8 +7,9 @@ ghost use Rattle.fond_task.specs.Steps.{next_state};
 ghost use Rattle.fond_task.specs.Texts.{state_text};
 ghost use Rattle.fond_task.specs.Truth.{is_true};
 ghost use Rattle.fond_task.specs.declared.task.Act.{Act};
+ghost use Rattle.fond_text.specs.Text.{Adds};
 ghost use Rattle.std.specs.List.{flat_map};
-ghost use Rattle.std.specs.Prelude.{◌≡◌, ◌↔◌, ◌<◌, ◌++◌, ℕ, List, true, map, length, slice_get, Some, IfOk, IfSome, IfNone, OnOk, OnErr};
+ghost use Rattle.std.specs.Prelude.{◌≡◌, ◌↔◌, ◌<◌, ℕ, true, map, length, slice_get, Some, IfOk, IfSome, IfNone, OnOk, OnErr};
 
 use fond_ast::task::LiftedTask;
 use fond_store::store::Store;
@@ -18,6 +19,7 @@ use fond_task::text::put_state;
 use fond_task::truth::applicable;
 use fond_text::atom::GroundAction;
 use fond_text::fault::NoMemory;
+use fond_text::text::Text;
 use std::alloc::Global;
 
 /// Whether two ground actions are the same.
@@ -56,54 +58,40 @@ fn next_states(alloc: Global, game: &Task, number: u32) -> Result<Store, NoMemor
     Ok(states)
 }
 
-/// Appends the texts of states, in order.
-fn put_states(game: &Task, states: &Store, out: &mut Vec<u8>) -> Result<(), NoMemory>
-    ensures ok { OnOk result (out.new.items ≡ out.old.items ++ flat_map (state_text game.now) states.now) }
-    ensures grew { (more : List ℕ) × (out.new.items ≡ out.old.items ++ more) }
+/// Adds the texts of states, in order.
+fn put_states(game: &Task, states: &Store, text: &mut Text)
+    ensures { Adds text.old text.new (flat_map (state_text game.now) states.now) }
 {
     for i in 0..states.len() {
-        put_state(game, states.get(i), out)?;
+        put_state(game, states.get(i), text);
     }
+}
+
+/// Adds the texts of the successors of the initial state by an action of the ground task, or nothing if memory runs out.
+fn put_next_states(alloc: Global, game: &Task, number: u32, text: &mut Text) -> Result<(), NoMemory>
+    requires there { number < length game.now.acts }
+    requires applicable { (a : Act) → slice_get game.now.acts number ≡ Some a → is_true game.now.init a.pre ≡ true }
+    ensures ok { (a : Act) → slice_get game.now.acts number ≡ Some a → OnOk result (Adds text.old text.new (flat_map (state_text game.now) (once (map (next_state game.now.init) a.outcomes)))) }
+    ensures err { OnErr result (text.new ≡ text.old) }
+{
+    let states = next_states(alloc, game, number)?;
+    put_states(game, &states, text);
     Ok(())
 }
 
-/// Appends the texts of the successors of the initial state by an action of the ground task, or nothing if memory runs
-/// out.
-fn put_next_states(
-    alloc: Global,
-    game: &Task,
-    number: u32,
-    out: &mut Vec<u8>,
-) -> Result<(), NoMemory>
-    requires there { number < length game.now.acts }
-    requires applicable { (a : Act) → slice_get game.now.acts number ≡ Some a → is_true game.now.init a.pre ≡ true }
-    ensures ok { (a : Act) → slice_get game.now.acts number ≡ Some a → OnOk result (out.new.items ≡ out.old.items ++ flat_map (state_text game.now) (once (map (next_state game.now.init) a.outcomes))) }
-    ensures err { OnErr result (out.new.items ≡ out.old.items) }
-{
-    let states = next_states(alloc, game, number)?;
-    let before = out.len();
-    match put_states(game, &states, out) {
-        Ok(()) => Ok(()),
-        Err(e) => {
-            out.truncate(before);
-            Err(e)
-        }
-    }
-}
-
-/// Whether a ground action is applicable in the initial state, and if so, appends the text of its successors: each state to
-/// which it may lead, once, in the order of the first outcome that leads there. Takes time in the number of kept actions and
-/// in the size of the states.
+/// Whether a ground action is applicable in the initial state, and if so, adds the text of its successors: each state to which it
+/// may lead, once, in the order of the first outcome that leads there. Takes time in the number of kept actions and in the size
+/// of the states.
 pub fn put_successors(
     alloc: Global,
     task: &LiftedTask,
     game: &Task,
     action: &GroundAction,
-    out: &mut Vec<u8>,
+    text: &mut Text,
 ) -> Result<bool, NoMemory>
     requires { IsGroundOf task.now game.now }
-    ensures ok { IfOk result (AreSuccessors task.now action.now out.old.items out.new.items) }
-    ensures err { OnErr result (out.new.items ≡ out.old.items) }
+    ensures ok { IfOk result (AreSuccessors task.now action.now text.old text.new) }
+    ensures err { OnErr result (text.new ≡ text.old) }
 {
     let Some(number) = act_number(game, action) else {
         return Ok(false);
@@ -111,6 +99,6 @@ pub fn put_successors(
     if !applicable(game, &game.init, number) {
         return Ok(false);
     }
-    put_next_states(alloc, game, number, out)?;
+    put_next_states(alloc, game, number, text)?;
     Ok(true)
 }

@@ -1,4 +1,4 @@
-pub mod Grown
+pub mod Adding
 pub mod Digits
 pub mod Earliest
 pub mod Numerals

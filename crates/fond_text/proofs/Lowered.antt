@@ -1,5 +1,5 @@
 -- Leaves with their letters lowered are names.
-use Rattle.std.proofs.Common.{◌≡◌, ℕ, List, length, map, get_or, sym, subst, arith}
+use Rattle.std.proofs.Common.{◌≡◌, ℕ, List, map, get_or, sym, subst, arith}
 use Rattle.std.specs.Prelude.{IsTrue}
 use Rattle.std.proofs.lemmas.Bool.Decides.{nat_tests}
 use Rattle.std.proofs.lemmas.List.{length-map, get_or-map}

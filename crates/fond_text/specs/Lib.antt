@@ -5,4 +5,5 @@ pub mod Firsts
 pub mod Lists
 pub mod Name
 pub mod Places
+pub mod Text
 pub mod formers

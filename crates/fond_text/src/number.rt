@@ -1,9 +1,8 @@
 //! Numbers below 2^64 as texts: their decimal digits, without a sign or a leading zero.
 
 ghost use Rattle.std.specs.Fmt.{decimal};
-ghost use Rattle.std.specs.Prelude.{◌≡◌, ◌≢◌, ◌++◌, ◌^◌, ◌<◌, ℕ, MatchOption, OnOk, OnErr};
+ghost use Rattle.std.specs.Prelude.{◌≡◌, ◌≢◌, ◌^◌, ◌<◌, ℕ, MatchOption};
 
-use crate::fault::NoMemory;
 use std::marker::Model;
 
 /// The decimal digits of a number, kept at the end of an array of 20 bytes: no number below 2^64 has more.
@@ -60,13 +59,4 @@ pub fn read_number(b: &[u8]) -> Option<u64>
     } else {
         None
     }
-}
-
-/// Appends the digits of a number, or nothing if memory runs out.
-pub fn put_number(out: &mut Vec<u8>, n: u64) -> Result<(), NoMemory>
-    ensures ok { OnOk result (out.new.items ≡ out.old.items ++ decimal n) }
-    ensures err { OnErr result (out.new.items ≡ out.old.items) }
-{
-    out.extend_from_slice(Digits::of(n).bytes())?;
-    Ok(())
 }

@@ -19,6 +19,7 @@ use fond_demo::demo::demo_files;
 use fond_demo::show::put_shown;
 use fond_front::texts::TaskTexts;
 use fond_text::fault::{FrontError, NoMemory};
+use fond_text::text::Text;
 use std::alloc::Global;
 
 /// The budget of `demo`.
@@ -35,9 +36,10 @@ fn demo_answer(
     ensures { IfOk result (λ answer. answer ≡ record { text = shown_text size atoms actions planned.text; ending = IsDone }) }
 {
     let cert = planned.into_text(alloc)?;
-    let mut text = Vec::new(alloc);
-    put_shown(u64::from(size), atoms, actions, &cert, &mut text)?;
-    Ok(Answer::new(text, Ending::Done))
+    let mut text = Text::new(alloc);
+    put_shown(size as u64, atoms, actions, &cert, &mut text);
+    let bytes = text.finish()?;
+    Ok(Answer::new(bytes, Ending::Done))
 }
 
 /// The answer in the task of this size: its policy between the lines of `demo`, or what else `plan` answers.

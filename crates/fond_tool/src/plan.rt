@@ -23,7 +23,7 @@ use fond_planner::decide::{Decision, decide_with};
 use fond_policy::cert::Cert;
 use fond_task::task::Task;
 use fond_text::fault::NoMemory;
-use fond_text::number::put_number;
+use fond_text::text::Text;
 use std::alloc::Global;
 
 /// The ending after a certificate is printed.
@@ -50,8 +50,10 @@ fn cert_answer(game: Box<Task>, cert: Cert) -> Answer
 fn undecided(alloc: Global, budget: u32) -> Result<Answer, NoMemory>
     ensures { IfOk result (λ answer. answer ≡ line_reply (codes "undecided " ++ decimal budget) IsUndecided) }
 {
-    let mut words = Vec::from_slice(alloc, b"undecided ")?;
-    put_number(&mut words, u64::from(budget))?;
+    let mut text = Text::new(alloc);
+    text.add(b"undecided ");
+    text.add_number(budget as u64);
+    let words = text.finish()?;
     line(alloc, &words, Ending::Undecided)
 }
 

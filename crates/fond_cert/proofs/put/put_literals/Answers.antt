@@ -4,7 +4,8 @@ use Rattle.fond_text.specs.declared.atom.Atom.{Atom}
 use Rattle.fond_state.specs.Cubes.{literal_at}
 use Rattle.fond_cert.specs.Printed.{atom_literal_text}
 use Rattle.fond_cert.proofs.Adding.{adds_same, adding_all, adding_more, adding_none}
-use Rattle.fond_cert.proofs.Printed.{next_of, none_of}
+use Rattle.fond_task.proofs.Written.{next_of}
+use Rattle.fond_cert.proofs.Printed.{none_of}
 use Rattle.fond_cert.proofs.put.put_literals.Goals as goal
 
 pub loop-i-init : goal.loop-i-init

@@ -1,6 +1,7 @@
-use Rattle.std.proofs.Common.{◌++◌, ◌∙◌, ap, arith}
+use Rattle.std.proofs.Common.{arith}
 use Rattle.std.proofs.lemmas.Bool.Decides.{nat_tests}
 use Rattle.fond_task.specs.Texts.{action_text}
+use Rattle.fond_text.proofs.Adding.{whole_is}
 use Rattle.fond_store.proofs.Firsts.{has_all, has_more}
 use Rattle.fond_cert.proofs.task_index.act_numbers.Goals as goal
 
@@ -10,5 +11,5 @@ returns c = has_all (λ act. action_text c.args.task.now.labels act.ground) c.ar
 pub loop-i-preserved : goal.loop-i-preserved
 loop-i-preserved c =
     let labels = c.args.task.now.labels in
-    let written = c.in_ok-put_action.ensures.ok ∙ ap (λ front. front ++ action_text labels c.get.result.now.ground) c.new-text.ensures.items in
-    has_more (λ act. action_text labels act.ground) c.args.task.now.acts c.loop-i.numbers c.insert.new.self c.loop-i.i c.get.result.now c.put_action.new.out.items c.get.ensures written c.in_ok-insert.ensures.ok c.loop-i.invariant
+    let written = whole_is _ _ _ (rw c.new-text.ensures at c.put_action.ensures) c.in_ok-bytes.ensures.ok in
+    has_more (λ act. action_text labels act.ground) c.args.task.now.acts c.loop-i.numbers c.insert.new.self c.loop-i.i c.get.result.now c.in_ok-bytes.bytes.items c.get.ensures written c.in_ok-insert.ensures.ok c.loop-i.invariant

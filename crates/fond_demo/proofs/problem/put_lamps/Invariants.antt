@@ -1,6 +1,6 @@
-use Rattle.std.proofs.Common.{◌≡◌, ◌++◌}
+use Rattle.fond_text.specs.Text.{Adds}
 use Rattle.fond_demo.specs.Demos.{for_each, lamp_name}
 use Rattle.fond_demo.proofs.problem.put_lamps.Given as goal
 
 abbrev pub invariant-loop-number : goal.invariant-loop-number
-invariant-loop-number l = l.out.items ≡ l.initial.out.items ++ for_each l.number lamp_name
+invariant-loop-number l = Adds l.initial.text l.text (for_each l.number lamp_name)

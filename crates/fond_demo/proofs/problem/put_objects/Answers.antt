@@ -1,12 +1,9 @@
-use Rattle.std.proofs.Common.{◌++◌, ap, ◌∙◌}
+use Rattle.std.proofs.Common.{ap}
+use Rattle.fond_text.proofs.Adding.{adds_same, adds_then}
 use Rattle.fond_demo.specs.Demos.{for_each, lamp_name}
-use Rattle.fond_demo.proofs.Each.{both}
 use Rattle.fond_demo.proofs.problem.put_objects.Goals as goal
 
 pub returns : goal.returns
 returns c =
-    let start = c.args.out.now.items in
-    let last = c.extend_from_slice-2.new.self.items in
-    let places = both start _ c.put_places.new.out.items _ _ c.in_ok-extend_from_slice.ensures.items c.in_ok-put_places.ensures in
-    both start last c.put_lamps.new.out.items _ _ (both start _ last _ _ places c.in_ok-extend_from_slice-2.ensures.items)
-    (c.in_ok-put_lamps.ensures ∙ ap (λ count. last ++ for_each count lamp_name) c.min.ensures)
+    let three = adds_then _ _ _ _ _ (adds_then _ _ _ _ _ c.add.ensures c.put_places.ensures) c.add-2.ensures in
+    adds_then _ _ _ _ _ three (adds_same _ _ _ _ (ap (λ count. for_each count lamp_name) c.min.ensures) c.put_lamps.ensures)

@@ -1,6 +1,10 @@
+use Rattle.fond_text.proofs.Adding.{adds_nothing}
 use Rattle.fond_demo.specs.Demos.{place_name}
 use Rattle.fond_demo.proofs.Each.{one_more}
 use Rattle.fond_demo.proofs.problem.put_places.Goals as goal
 
+pub loop-number-init : goal.loop-number-init
+loop-number-init c = adds_nothing _
+
 pub loop-number-preserved : goal.loop-number-preserved
-loop-number-preserved c = one_more place_name c.loop-number.number c.args.out.now.items c.loop-number.out.items c.put_place.new.out.items c.loop-number.invariant c.in_ok-put_place.ensures
+loop-number-preserved c = one_more place_name c.loop-number.number _ _ _ c.loop-number.invariant c.put_place.ensures

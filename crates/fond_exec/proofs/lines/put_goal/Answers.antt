@@ -1,36 +1,6 @@
-use Rattle.std.proofs.Common.{◌++◌}
-use Rattle.std.specs.Prelude.{codes}
-use Rattle.std.specs.Fmt.{decimal}
-use Rattle.fond_text.proofs.Grown.{grew_more}
-use Rattle.fond_exec.proofs.Grown.{grew_none, grew_same, text_more}
+use Rattle.fond_text.proofs.Adding.{adds_then}
 use Rattle.fond_exec.proofs.lines.put_goal.Goals as goal
 
-pub returns-in_err-extend_from_slice-clause-grew : goal.returns-in_err-extend_from_slice-clause-grew
-returns-in_err-extend_from_slice-clause-grew c = grew_none _ _ c.in_err-extend_from_slice.ensures.items
-
-pub returns-in_err-put_number-clause-grew : goal.returns-in_err-put_number-clause-grew
-returns-in_err-put_number-clause-grew c =
-    let none = grew_none c.args.out.now.items _ (λ i. c.args.out.now.items) in
-    let one = grew_more _ _ _ _ none c.in_ok-extend_from_slice.ensures.items in
-    grew_same _ _ _ one c.in_err-put_number.ensures.err
-
-pub returns-in_err-extend_from_slice-2-clause-grew : goal.returns-in_err-extend_from_slice-2-clause-grew
-returns-in_err-extend_from_slice-2-clause-grew c =
-    let none = grew_none c.args.out.now.items _ (λ i. c.args.out.now.items) in
-    let one = grew_more _ _ _ _ none c.in_ok-extend_from_slice.ensures.items in
-    let two = grew_more _ _ _ _ one c.in_ok-put_number.ensures.ok in
-    grew_same _ _ _ two c.in_err-extend_from_slice-2.ensures.items
-
-pub returns-clause-grew : goal.returns-clause-grew
-returns-clause-grew c =
-    let none = grew_none c.args.out.now.items _ (λ i. c.args.out.now.items) in
-    let one = grew_more _ _ _ _ none c.in_ok-extend_from_slice.ensures.items in
-    let two = grew_more _ _ _ _ one c.in_ok-put_number.ensures.ok in
-    grew_more _ _ _ _ two c.in_ok-extend_from_slice-2.ensures.items
-
-pub returns-clause-ok : goal.returns-clause-ok
-returns-clause-ok c =
-    let start = codes "goal left " in
-    let two = text_more _ _ _ start (decimal c.args.left) c.in_ok-extend_from_slice.ensures.items c.in_ok-put_number.ensures.ok in
-    let text2 = start ++ decimal c.args.left in
-    text_more _ _ _ text2 (codes "\n") two c.in_ok-extend_from_slice-2.ensures.items
+pub returns : goal.returns
+returns c =
+    adds_then _ _ _ _ _ (adds_then _ _ _ _ _ c.add.ensures c.add_number.ensures) c.add-2.ensures

@@ -1,4 +1,4 @@
-use Rattle.std.proofs.Common.{◌≡◌, ◌+◌, ◌-◌, ◌<◌, ◌++◌, ◌∙◌, List, drop, get_or, length, slice_get, sym, ap, subst, arith}
+use Rattle.std.proofs.Common.{◌≡◌, ◌+◌, ◌-◌, ◌<◌, ◌∙◌, List, drop, get_or, length, slice_get, sym, ap, subst, arith}
 use Rattle.std.proofs.lemmas.List.{drop_more, length-drop}
 use Rattle.fond_task.specs.declared.task.Task.{Task}
 use Rattle.fond_task.specs.Truth.{is_true}
@@ -6,17 +6,17 @@ use Rattle.fond_task.specs.declared.rule.Rule.{Rule}
 use Rattle.fond_task.specs.Policies.{IsGoal}
 use Rattle.fond_exec.specs.Steps.{IsStuck, IsTaken}
 use Rattle.fond_state.specs.Traces.{by_remainder, goal_line}
+use Rattle.fond_text.proofs.Adding.{adds_same}
 use Rattle.fond_exec.specs.Traces.{step_line}
 use Rattle.fond_exec.proofs.Chosen.{counted_outcomes}
-use Rattle.fond_exec.proofs.Grown.{grew_after}
-use Rattle.fond_exec.proofs.Traced.{on_ok, at_end, at_done, at_stuck, none_left, went_on}
+use Rattle.fond_exec.proofs.Traced.{at_end, at_done, at_stuck, none_left, went_on}
 use Rattle.fond_exec.proofs.simulate.put_steps.Goals as goal
 
 pub step-requires-clause-chooser : goal.step-requires-clause-chooser
 step-requires-clause-chooser g c = rw (sym c.loop-at.invariant.pick) at c.requires.chooser
 
-pub returns-in-Done-clause-ok : goal.returns-in-Done-clause-ok
-returns-in-Done-clause-ok g c =
+pub returns-in-Done-clause-traced : goal.returns-in-Done-clause-traced
+returns-in-Done-clause-traced g c =
     let run = c.args.sim.now.run in
     let so_far = c.loop-at.invariant in
     let state = c.loop-at.sim.run.state in
@@ -24,11 +24,11 @@ returns-in-Done-clause-ok g c =
     let last = c.step.new.self.run.state in
     let is = subst (λ (t : Task). IsGoal t state × (last ≡ state)) so_far.task c.in-Done.ensures.step in
     let counted : length c.args.words.now - c.loop-at.at ≡ length left = sym (length-drop c.loop-at.at c.args.words.now) in
-    on_ok c.put_goal.result (λ put. at_done by_remainder run.task run.rules run.state c.args.words.now state left c.args.out.now.items c.loop-at.out.items so_far.so_far last c.put_goal.new.out.items is
-    (put ∙ ap (λ n. c.loop-at.out.items ++ goal_line n) counted)) c.put_goal.ensures.ok
+    at_done by_remainder run.task run.rules run.state c.args.words.now state left c.args.text.now c.loop-at.text so_far.so_far last c.put_goal.new.text is
+    (adds_same _ _ _ _ (ap goal_line counted) c.put_goal.ensures)
 
-pub returns-in-Stuck-clause-ok : goal.returns-in-Stuck-clause-ok
-returns-in-Stuck-clause-ok g c =
+pub returns-in-Stuck-clause-traced : goal.returns-in-Stuck-clause-traced
+returns-in-Stuck-clause-traced g c =
     let run = c.args.sim.now.run in
     let so_far = c.loop-at.invariant in
     let state = c.loop-at.sim.run.state in
@@ -38,8 +38,8 @@ returns-in-Stuck-clause-ok g c =
     let within : at < length words = c.loop-at-test.true in
     let is = subst (λ (t : Task). (¬ IsGoal t state) × IsStuck t run.rules state × (last ≡ state)) so_far.task
     (subst (λ (r : List Rule). (¬ IsGoal c.loop-at.sim.run.task state) × IsStuck c.loop-at.sim.run.task r state × (last ≡ state)) so_far.rules c.in-Stuck.ensures.step) in
-    on_ok c.put_stuck.result (λ put. at_stuck by_remainder run.task run.rules run.state words state (drop at words) c.args.out.now.items c.loop-at.out.items so_far.so_far
-    (get_or words at 0) (drop (at + 1) words) (drop_more words at 0 within) last c.put_stuck.new.out.items is put) c.put_stuck.ensures.ok
+    at_stuck by_remainder run.task run.rules run.state words state (drop at words) c.args.text.now c.loop-at.text so_far.so_far
+    (get_or words at 0) (drop (at + 1) words) (drop_more words at 0 within) last c.put_stuck.new.text is c.put_stuck.ensures
 
 pub loop-at-preserved : goal.loop-at-preserved
 loop-at-preserved g c =
@@ -64,31 +64,19 @@ loop-at-preserved g c =
       rules = c.in-Took.ensures.rules ∙ so_far.rules;
       pick = c.in-Took.ensures.pick ∙ so_far.pick;
       steps = c.in-Took.ensures.steps ∙ ap (λ n. n + 1) so_far.steps;
-      so_far = went_on by_remainder run.task run.rules run.state words here.state (drop at words) c.args.out.now.items c.loop-at.out.items so_far.so_far
-          (get_or words at 0) (drop (at + 1) words) (drop_more words at 0 within) rule act outcome last c.put_taken.new.out.items c.get.result.now moved.0 moved.1
+      so_far = went_on by_remainder run.task run.rules run.state words here.state (drop at words) c.args.text.now c.loop-at.text so_far.so_far
+          (get_or words at 0) (drop (at + 1) words) (drop_more words at 0 within) rule act outcome last c.put_taken.new.text c.get.result.now moved.0 moved.1
           (ap (λ (t : Task). slice_get t.acts act) c.requires.task ∙ c.get.ensures)
-          (c.in_ok-put_taken-in-Took.ensures.ok ∙ ap (λ (t : Task). c.loop-at.out.items ++ step_line t.labels rule c.get.result.now.ground outcome) (sym c.requires.task));
+          (adds_same _ _ _ _ (ap (λ (t : Task). step_line t.labels rule c.get.result.now.ground outcome) (sym c.requires.task)) c.put_taken.ensures);
     }
 
-pub returns-clause-ok : goal.returns-clause-ok
-returns-clause-ok g c =
+pub returns-clause-traced : goal.returns-clause-traced
+returns-clause-traced g c =
     let run = c.args.sim.now.run in
     let so_far = c.loop-at.invariant in
     let words = c.args.words.now in
     let at = c.loop-at.at in
     let is = c.done.ensures ∙ ap (λ (t : Task). is_true c.loop-at.sim.run.state t.goal) so_far.task in
     let none : length (drop at words) ≡ 0 = length-drop at words ∙ omega (arith, c.loop-at-test.false) in
-    on_ok c.put_end.result (λ put. at_end by_remainder run.task run.rules run.state words c.loop-at.sim.run.state (drop at words) c.args.out.now.items c.loop-at.out.items so_far.so_far
-    c.done.result c.put_end.new.out.items (none_left (drop at words) none) is put) c.put_end.ensures.ok
-
-pub returns-in_err-put_taken-in-Took-clause-grew : goal.returns-in_err-put_taken-in-Took-clause-grew
-returns-in_err-put_taken-in-Took-clause-grew g c = grew_after _ _ _ c.loop-at.invariant.so_far.front c.loop-at.invariant.so_far.written c.in_err-put_taken-in-Took.ensures.grew
-
-pub returns-in-Done-clause-grew : goal.returns-in-Done-clause-grew
-returns-in-Done-clause-grew g c = grew_after _ _ _ c.loop-at.invariant.so_far.front c.loop-at.invariant.so_far.written c.put_goal.ensures.grew
-
-pub returns-in-Stuck-clause-grew : goal.returns-in-Stuck-clause-grew
-returns-in-Stuck-clause-grew g c = grew_after _ _ _ c.loop-at.invariant.so_far.front c.loop-at.invariant.so_far.written c.put_stuck.ensures.grew
-
-pub returns-clause-grew : goal.returns-clause-grew
-returns-clause-grew g c = grew_after _ _ _ c.loop-at.invariant.so_far.front c.loop-at.invariant.so_far.written c.put_end.ensures.grew
+    at_end by_remainder run.task run.rules run.state words c.loop-at.sim.run.state (drop at words) c.args.text.now c.loop-at.text so_far.so_far
+    c.done.result c.put_end.new.text (none_left (drop at words) none) is c.put_end.ensures

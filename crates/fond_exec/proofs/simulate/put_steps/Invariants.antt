@@ -9,5 +9,5 @@ invariant-loop-at g l = record {
   rules : l.sim.run.rules ≡ l.initial.sim.run.rules;
   pick : l.sim.pick ≡ l.initial.sim.pick;
   steps : l.sim.steps ≡ l.at;
-  so_far : Progress by_remainder l.initial.sim.run.task l.initial.sim.run.rules l.initial.sim.run.state l.words l.sim.run.state (drop l.at l.words) l.initial.out.items l.out.items;
+  so_far : Progress by_remainder l.initial.sim.run.task l.initial.sim.run.rules l.initial.sim.run.state l.words l.sim.run.state (drop l.at l.words) l.initial.text l.text;
 }

@@ -1,0 +1,6 @@
+use Rattle.fond_text.proofs.Adding.{adds_then}
+use Rattle.fond_check.proofs.text.put_line.Goals as goal
+
+pub returns : goal.returns
+returns c =
+    adds_then _ _ _ _ _ (adds_then _ _ _ _ _ c.add.ensures c.add_number.ensures) c.add-2.ensures
