@@ -12,9 +12,7 @@ const POLICY: &[u8] = b"dualfond 1 policy\nrule (flip) fair 0 goal :\nreach 2\ne
 /// The text of the certificate that a text spells.
 fn printed(alloc: Global, task: &Task, text: &[u8]) -> Result<Vec<u8>, CertError> {
     let cert = read_cert(alloc, task, text)?;
-    let mut out = Vec::new(alloc);
-    print_cert(task, &cert, &mut out)?;
-    Ok(out)
+    Ok(print_cert(alloc, task, &cert)?)
 }
 
 #[test]

@@ -15,6 +15,5 @@ pub mod Meanings
 pub mod OwnLines
 pub mod OneFault
 pub mod OneCert
-pub mod Appending
 pub mod Adding
 pub mod Printed

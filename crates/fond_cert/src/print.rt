@@ -1,15 +1,17 @@
-//! Printing a certificate, into a pen or at the end of a text. A failure of the sink is remembered by the pen, so that the
-//! functions for the parts answer nothing. Loops over parts end as soon as the pen has failed.
+//! Printing a certificate, into a sink or as a text. A failure of the sink is remembered by the pen, so that the functions for
+//! the parts answer nothing. Loops over parts end as soon as the pen has failed.
 
 ghost use Rattle.fond_policy.specs.Belongs.{Belongs};
 ghost use Rattle.fond_cert.specs.Items.{IsPairOf, IsRuleOf};
 ghost use Rattle.fond_cert.specs.Printed.{fed, reach_text, start_text, chosen_text, places_text, cond_text, pair_text, rule_text, layer_text, way_text, item_text};
 ghost use Rattle.fond_cert.specs.Spellings.{cube_line, lines_text, spelling};
+ghost use Rattle.fond_edge.specs.Faults.{Rose};
 ghost use Rattle.fond_edge.specs.Pens.{flow, IsPut, IsLost, Adds};
+ghost use Rattle.fond_edge.specs.Written.{Appended, AppendedPart};
 ghost use Rattle.fond_task.specs.Layers.{CubeView};
 ghost use Rattle.std.specs.Fmt.{decimal};
 ghost use Rattle.std.specs.List.{flat_map};
-ghost use Rattle.std.specs.Prelude.{◌≡◌, ◌++◌, ℕ, List, All, codes, map, OnOk, OnErr};
+ghost use Rattle.std.specs.Prelude.{◌≡◌, ◌≤◌, List, All, codes, map, IfOk, OnOk, OnErr};
 
 use crate::listing::{Listing, put_all};
 use crate::put::{
@@ -29,7 +31,7 @@ use fond_state::cube::Cube;
 use fond_task::rule::{Pair, Rule, Targets};
 use fond_task::task::Task;
 use fond_text::fault::NoMemory;
-use std::mem;
+use std::alloc::Global;
 
 /// Adds the line of a cube.
 fn put_cube_line<K: Sink>(task: &Task, cube: &Cube, pen: &mut Pen, sink: &mut K)
@@ -326,9 +328,8 @@ fn put_lines<K: Sink>(task: &Task, cert: &Cert, pen: &mut Pen, sink: &mut K)
     }
 }
 
-/// Puts the text of a certificate into a pen. Takes time in the length of the text, and in the number of the task's atoms
-/// for each cube, pair, rule and item; no memory.
-pub fn send_cert<K: Sink>(
+/// Puts the text of a certificate into a pen, or tells that the pen has failed.
+fn put_cert<K: Sink>(
     task: &Task,
     cert: &Cert,
     pen: &mut Pen,
@@ -347,37 +348,32 @@ pub fn send_cert<K: Sink>(
     Ok(())
 }
 
-/// Appends the text of a certificate, or a part of it if memory runs out.
-fn append_cert(task: &Task, cert: &Cert, sink: &mut TextSink) -> Result<(), WriteFault>
+/// Writes the text of a certificate in pieces, or fails after a proper prefix of it. Takes time in the length of the text, and in
+/// the number of the task's atoms for each cube, pair, rule and item; no memory.
+pub fn send_cert<K: Sink>(task: &Task, cert: &Cert, sink: &mut K) -> Result<(), WriteFault>
     requires { Belongs task.now cert.now }
-    ensures ok { OnOk result (sink.new.text.items ≡ sink.old.text.items ++ spelling task.now cert.now) }
-    ensures part { OnErr result ((more : List ℕ) × (sink.new.text.items ≡ sink.old.text.items ++ more)) }
+    ensures ok { OnOk result (Appended (K.written sink.old) (K.written sink.new) (spelling task.now cert.now)) }
+    ensures part { OnErr result (AppendedPart (K.written sink.old) (K.written sink.new) (spelling task.now cert.now)) }
+    ensures counted { K.faults sink.old ≤ K.faults sink.new }
+    ensures rose { OnErr result (Rose (K.faults sink.old) (K.faults sink.new)) }
 {
     let mut pen = Pen::new();
-    send_cert(task, cert, &mut pen, sink)?;
+    put_cert(task, cert, &mut pen, sink)?;
     pen.finish(sink)
 }
 
-/// Appends the text of a certificate, or nothing if memory runs out. Takes time in the length of the text, and in the
-/// number of the task's atoms for each cube, pair, rule and item; no memory but for the text.
-pub fn print_cert(task: &Task, cert: &Cert, out: &mut Vec<u8>) -> Result<(), NoMemory>
+/// The text of a certificate. Takes time in the length of the text, and in the number of the task's atoms for each cube, pair,
+/// rule and item; no memory but for the text.
+pub fn print_cert(alloc: Global, task: &Task, cert: &Cert) -> Result<Vec<u8>, NoMemory>
     requires { Belongs task.now cert.now }
-    ensures ok { OnOk result (out.new.items ≡ out.old.items ++ spelling task.now cert.now) }
-    ensures err { OnErr result (out.new.items ≡ out.old.items) }
+    ensures { IfOk result (λ text. text.items ≡ spelling task.now cert.now) }
 {
-    let before = out.len();
-    let empty = Vec::new(*out.allocator());
     let mut sink = TextSink {
-        text: mem::replace(out, empty),
+        text: Vec::new(alloc),
         faults: 0,
     };
-    let outcome = append_cert(task, cert, &mut sink);
-    *out = sink.text;
-    match outcome {
-        Ok(()) => Ok(()),
-        Err(WriteFault) => {
-            out.truncate(before);
-            Err(NoMemory)
-        }
+    match send_cert(task, cert, &mut sink) {
+        Ok(()) => Ok(sink.text),
+        Err(WriteFault) => Err(NoMemory),
     }
 }

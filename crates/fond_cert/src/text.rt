@@ -7,7 +7,6 @@ ghost use Rattle.fond_policy.specs.Belongs.{Belongs};
 ghost use Rattle.std.specs.Prelude.{◌≡◌, ◌≤◌, IfOk, OnOk, OnErr};
 
 use crate::print::{print_cert, send_cert};
-use fond_edge::pen::Pen;
 use fond_edge::send::WriteFault;
 use fond_edge::sink::Sink;
 use fond_policy::cert::Cert;
@@ -51,17 +50,13 @@ impl CertText {
         ensures counted { K.faults sink.old ≤ K.faults sink.new }
         ensures rose { OnErr result (Rose (K.faults sink.old) (K.faults sink.new)) }
     {
-        let mut pen = Pen::new();
-        send_cert(&self.game, &self.cert, &mut pen, sink)?;
-        pen.finish(sink)
+        send_cert(&self.game, &self.cert, sink)
     }
 
     /// The text in memory.
     pub fn print(&self, alloc: Global) -> Result<Vec<u8>, NoMemory>
         ensures { IfOk result (λ text. text.items ≡ self.now) }
     {
-        let mut text = Vec::new(alloc);
-        print_cert(&self.game, &self.cert, &mut text)?;
-        Ok(text)
+        print_cert(alloc, &self.game, &self.cert)
     }
 }

@@ -1,5 +1,5 @@
 -- What `migrate` replies where it does not end with a refusal of its files.
-use Rattle.std.proofs.Common.{◌≡◌, ◌∙◌, ℕ, Bool, List, sym, ap, subst}
+use Rattle.std.proofs.Common.{◌≡◌, ◌∙◌, ℕ, Bool, List, Result, Ok, Err, IfOk, sym, ap, subst}
 use Rattle.fond_task.specs.declared.task.Task.{Task}
 use Rattle.fond_cert.specs.Spellings.{spelling}
 use Rattle.fond_check.specs.Verdicts.{IsVerdict}
@@ -60,3 +60,9 @@ covers game (Policy layers pairs rules reach) covered text may is spelled =
     )
 covers game (Refusal layers) covered text may is spelled = absurd may
 covers game (Covered layers pairs rules items start) covered text may is spelled = absurd may
+
+-- the text of a cover, if there is one
+pub covers_if : {T E : Type 0} (items : T → List ℕ) (game : Task) (cert covered : Cert) (r : Result T E) → MayBeCovered game cert → IsCoverOf game cert covered → IfOk r (λ text. items text ≡ spelling game covered) →
+    IfOk r (λ text. IsCoverText game cert (items text))
+covers_if items game cert covered (Ok text) may is spelled = covers game cert covered (items text) may is spelled
+covers_if items game cert covered (Err _) may is spelled = tt

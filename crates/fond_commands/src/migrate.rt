@@ -48,9 +48,7 @@ fn cover_text(alloc: Global, game: &Task, cert: Cert) -> Result<Vec<u8>, NoMemor
     ensures { IfOk result (λ text. IsCoverText game.now cert text.items) }
 {
     let covered = cover(alloc, game, cert)?;
-    let mut text = Vec::new(alloc);
-    print_cert(game, &covered, &mut text)?;
-    Ok(text)
+    print_cert(alloc, game, &covered)
 }
 
 /// The answer to a correct certificate, which has this text.

@@ -1,5 +1,5 @@
-use Rattle.fond_commands.proofs.Migrated.{covers}
+use Rattle.fond_commands.proofs.Migrated.{covers_if}
 use Rattle.fond_commands.proofs.migrate.cover_text.Goals as goal
 
 pub returns : goal.returns
-returns c = covers c.args.game.now c.args.cert c.in_ok-covered.covered _ c.requires c.in_ok-covered.ensures (rw c.new-text.ensures.items at c.in_ok-print_cert.ensures.ok)
+returns c = covers_if (λ text. text.items) c.args.game.now c.args.cert c.in_ok-covered.covered c.print_cert.result c.requires c.in_ok-covered.ensures c.print_cert.ensures
