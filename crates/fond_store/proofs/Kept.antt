@@ -1,17 +1,18 @@
 -- Sets whose test of equality decides it.
-use Rattle.std.proofs.Common.{◌≡◌, ℕ, zero, suc, ◌+◌, ◌<◌, List, [], ◌∷◌, ◌++◌, Bool, true, false, Option, Some, None, length, cond, get_or, slice_get, refl, sym, ap, ◌∙◌, subst, inl, inr, ⊎_elim, arith, true≢false}
-use Rattle.std.specs.Prelude.{◌||◌, Contains, MatchOption, position, if◌then◌else◌}
+use Rattle.std.proofs.Common.{◌≡◌, ℕ, zero, suc, ◌+◌, ◌<◌, List, [], ◌∷◌, ◌++◌, Bool, true, false, Option, Some, None, length, cond, get_or, slice_get, refl, sym, ap, ◌∙◌, subst, inl, inr, arith, true≢false}
+use Rattle.std.specs.Prelude.{◌||◌, ◌≤◌, ⊤, Contains, MatchOption, position, nat_lt, if◌then◌else◌}
 use Rattle.std.specs.Bool.{Decides, beq}
-use Rattle.std.specs.List.{IsDistinct, list_any, position_from}
+use Rattle.std.specs.List.{IsDistinct, list_any, position_from, position_or_len}
+use Rattle.std.specs.Map.{keys_of}
 use Rattle.std.specs.Cmp.{booleans_Decides}
 use Rattle.std.specs.Cmp.Lexicographic.{pointwise, pointwise_decides}
-use Rattle.std.proofs.lemmas.Bool.{cases_lt}
-use Rattle.std.proofs.Math.ListN.{get_or-append}
+use Rattle.std.proofs.lemmas.Bool.Decides.{nat_tests}
 use Rattle.std.proofs.lemmas.List.{length-append}
 use Rattle.std.proofs.lemmas.List.Elements.{All-from_recursion}
 use Rattle.std.proofs.lemmas.Iterator.Adapters.{position_from-zero}
 use Rattle.std.proofs.lemmas.Option.{slice_get_within, get_or_from_slice_get}
 use Rattle.indexmap.proofs.CallerLemmas.{Contains-list_any}
+use Rattle.indexmap.specs.IndexMap.{insert_entry}
 use Rattle.indexmap.specs.IndexSet.{insert_key}
 use Rattle.fond_text.specs.Lists.{AreDistinct}
 use Rattle.fond_store.specs.Stores.{Adds}
@@ -79,29 +80,59 @@ found states state =
     let P : Option ℕ → Type 0 = λ found. MatchOption found (¬ Contains states state) (λ n. slice_get states n ≡ Some state) in
     subst P (sym (position_from-zero (same state) states)) (place_zero states state _ (place_of 0 states state))
 
--- a state that is last and occurs nowhere before has the last number
-last_number : (states : List (List Bool)) (state : List Bool) (number : ℕ) → ¬ Contains states state → slice_get (states ++ state ∷ []) number ≡ Some state → number ≡ length states
-last_number states state number missing is = ⊎_elim
-    (λ small. absurd (missing (number, small, sym (get_or-append states (state ∷ []) state number small) ∙ get_or_from_slice_get (states ++ state ∷ []) number state state is)))
-    (λ large. omega (arith, slice_get_within (states ++ state ∷ []) number state is, length-append states (state ∷ [])))
-    (cases_lt number (length states))
+-- the first place of a state that is there has it
+number_found : (states : List (List Bool)) (state : List Bool) (number : ℕ) → Contains states state → number ≡ position_or_len (same state) states → slice_get states number ≡ Some state
+number_found states state number has first = by (nat_lt (position_or_len (same state) states) (length states)) (found states state)
+  where
+    by : (b : Bool) → MatchOption (cond b (Some (position_or_len (same state) states)) None) (¬ Contains states state) (λ n. slice_get states n ≡ Some state) → slice_get states number ≡ Some state
+    by true at = ap (slice_get states) first ∙ at
+    by false none = absurd (none has)
+
+-- a state that is not there has the number after the last
+number_last : (states : List (List Bool)) (state : List Bool) (number : ℕ) → ¬ Contains states state → number ≡ position_or_len (same state) states → number < length (states ++ state ∷ []) → number ≡ length states
+number_last states state number none first within = by (nat_lt (position_or_len (same state) states) (length states)) refl (found states state)
+  where
+    by : (b : Bool) → nat_lt (position_or_len (same state) states) (length states) ≡ b →
+        MatchOption (cond b (Some (position_or_len (same state) states)) None) (¬ Contains states state) (λ n. slice_get states n ≡ Some state) → number ≡ length states
+    by true small at = absurd (none (position_or_len (same state) states, slice_get_within states _ state at, get_or_from_slice_get states _ state state at))
+    by false large at =
+        let most : length states ≤ position_or_len (same state) states = grind (arith, nat_tests, large) in
+        omega (arith, most, first, within, length-append states (state ∷ []))
+
+-- the state that was added at the end has that number
+last_at : (states : List (List Bool)) (state : List Bool) (number : ℕ) → number ≡ length states → slice_get (states ++ state ∷ []) number ≡ Some state
+last_at [] state number is = ap (slice_get (state ∷ [])) is
+last_at (first ∷ states) state number is = ap (slice_get (first ∷ states ++ state ∷ [])) is ∙ last_at states state (length states) refl
+
+-- the keys of a map without values, after an insertion
+pub keys_after : (entries : List (List Bool × ⊤)) (state : List Bool) → keys_of (insert_entry same entries state tt) ≡ insert_key same (keys_of entries) state
+keys_after [] state = refl
+keys_after (entry ∷ entries) state = by (same state entry.0) (list_any (same state) (keys_of entries)) refl (keys_after entries state)
+  where
+    by : (here there : Bool) → list_any (same state) (keys_of entries) ≡ there → keys_of (insert_entry same entries state tt) ≡ (if there then keys_of entries else keys_of entries ++ state ∷ []) →
+        keys_of (if here then (entry.0, tt) ∷ entries else entry ∷ insert_entry same entries state tt)
+        ≡ (if here || there then entry.0 ∷ keys_of entries else (entry.0 ∷ keys_of entries) ++ state ∷ [])
+    by true there is later = refl
+    by false true is later = ap (λ states. entry.0 ∷ states) later
+    by false false is later = ap (λ states. entry.0 ∷ states) later
 
 -- what an insertion does
-pub adds : (old new : List (List Bool)) (state : List Bool) (number : ℕ) → new ≡ insert_key same old state →
-    (kept : List Bool) × (slice_get new number ≡ Some kept) × (same state kept ≡ true) → Adds old state number new
-adds old new state number keys stored = by (list_any (same state) old) refl
+pub adds : (old new : List (List Bool)) (state : List Bool) (number : ℕ) → new ≡ insert_key same old state → number ≡ position_or_len (same state) old → number < length new → Adds old state number new
+adds old new state number keys first within = by (list_any (same state) old) refl
   where
-    numbered : slice_get new number ≡ Some state
-    numbered = stored.1 ∙ ap (λ s. Some s) (sym ((decides state stored.0).0 stored.2))
-
     by : (b : Bool) → list_any (same state) old ≡ b → Adds old state number new
-    by true there = record {
-      numbered = numbered;
-      kept_or_last = inl (Contains-list_any same (λ x y. (decides x y).0) old state there, keys ∙ ap (λ b. if b then old else old ++ state ∷ []) there);
-    }
+    by true there =
+        let has : Contains old state = Contains-list_any same (λ x y. (decides x y).0) old state there in
+        let kept : new ≡ old = keys ∙ ap (λ b. if b then old else old ++ state ∷ []) there in
+        record {
+          numbered = ap (λ states. slice_get states number) kept ∙ number_found old state number has first;
+          kept_or_last = inl (has, kept);
+        }
     by false absent =
         let last : new ≡ old ++ state ∷ [] = keys ∙ ap (λ b. if b then old else old ++ state ∷ []) absent in
+        let none : ¬ Contains old state = missing old state absent in
+        let is : number ≡ length old = number_last old state number none first (subst (λ states. number < length states) last within) in
         record {
-          numbered = numbered;
-          kept_or_last = inr (missing old state absent, last_number old state number (missing old state absent) (ap (λ l. slice_get l number) (sym last) ∙ numbered), last);
+          numbered = ap (λ states. slice_get states number) last ∙ last_at old state number is;
+          kept_or_last = inr (none, is, last);
         }

@@ -1,5 +1,6 @@
 -- Lists with numbers, and texts with numbers.
-use Rattle.std.specs.Prelude.{ℕ, Bool, List, [], ◌∷◌, ◌++◌, Option, Some, None, if◌then◌else◌, nat_eq}
+use Rattle.std.specs.Prelude.{◌≡◌, ℕ, Bool, List, [], ◌∷◌, Option, Some, None, if◌then◌else◌, nat_eq}
+use Rattle.std.specs.Option.{option_or}
 use Rattle.std.specs.Cmp.Lexicographic.{pointwise}
 
 -- for any test of whether two elements are the same
@@ -9,18 +10,14 @@ module _ {X : Type 0} (same : X → X → Bool) where
   number_by [] list = None
   number_by (item ∷ items) list = if pointwise same item.0 list then Some item.1 else number_by items list
 
-  -- the lists with this list and number added at the end, unless a list is the same as this one
-  abbrev pub with_list : List (List X × ℕ) → List X → ℕ → List (List X × ℕ)
-  with_list items list number = unless (number_by items list)
-    where
-      unless : Option ℕ → List (List X × ℕ)
-      unless (Some other) = items
-      unless None = items ++ (list, number) ∷ []
+  -- a list is inserted with a number: it has this number from now on if it had none, and nothing else changes
+  abbrev pub Inserts : List (List X × ℕ) → List X → ℕ → List (List X × ℕ) → Type 0
+  Inserts old list number new = (other : List X) → number_by new other ≡ option_or (number_by old other) (if pointwise same list other then Some number else None)
 
 -- the number of a text in a list of texts with their numbers, if the text is there
 abbrev pub number_beside : List (List ℕ × ℕ) → List ℕ → Option ℕ
 number_beside = number_by nat_eq
 
--- the list with one more text and its number at the end, or the same list if the text is already there
-abbrev pub with_text : List (List ℕ × ℕ) → List ℕ → ℕ → List (List ℕ × ℕ)
-with_text = with_list nat_eq
+-- a text is inserted with a number: it has this number from now on if it had none, and nothing else changes
+abbrev pub InsertsText : List (List ℕ × ℕ) → List ℕ → ℕ → List (List ℕ × ℕ) → Type 0
+InsertsText = Inserts nat_eq

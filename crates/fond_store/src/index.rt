@@ -1,18 +1,18 @@
 //! Texts and lists of numbers, each with a number of its own, found by a hash.
 
-ghost use Rattle.fond_store.specs.Texts.{number_by, with_list};
+ghost use Rattle.fond_store.specs.Texts.{number_by, Inserts};
 ghost use Rattle.std.specs.Prelude.{◌≡◌, [], OnOk, OnErr};
 
 use fond_text::fault::NoMemory;
-use indexmap::IndexMap;
 use std::alloc::Global;
+use std::collections::HashMap;
 use std::hash::Hash;
 use std::marker::Model;
 
-/// Distinct lists, each with a number, in the order in which they were inserted.
+/// Distinct lists, each with a number. Contracts see an index as a list of them, in an order that is not promised.
 #[derive(Drop)]
 pub struct Index<T: Eq + Hash> {
-    numbers: IndexMap<Vec<T>, u32>,
+    numbers: HashMap<Vec<T>, u32>,
 }
 
 /// Distinct texts, each with a number.
@@ -35,14 +35,14 @@ impl<T: Eq + Hash + Drop> Index<T> {
         ensures { result ≡ [] }
     {
         Index {
-            numbers: IndexMap::new(alloc),
+            numbers: HashMap::new(alloc),
         }
     }
 
     /// Inserts a list with its number, or changes nothing if the list is already there. Takes time in the length of
     /// the list.
     pub fn insert(&mut self, list: Vec<T>, number: u32) -> Result<(), NoMemory>
-        ensures ok { OnOk result (self.new ≡ with_list T.eq self.old list.items number) }
+        ensures ok { OnOk result (Inserts T.eq self.old list.items number self.new) }
         ensures err { OnErr result (self.new ≡ self.old) }
     {
         if self.find(&list).is_some() {

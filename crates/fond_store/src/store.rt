@@ -6,24 +6,25 @@ ghost use Rattle.std.specs.Prelude.{◌≡◌, ◌<◌, ◌-◌, ◌^◌, [], le
 
 use fond_state::state::State;
 use fond_text::fault::NoMemory;
-use indexmap::IndexSet;
+use indexmap::IndexMap;
 use std::alloc::Global;
 use std::marker::Model;
 
 /// Fewer than 2^32 distinct states, in the order in which they were added. Contracts see a store as the list of them.
 #[derive(Drop)]
 pub struct Store {
-    states: IndexSet<State>,
+    states: IndexMap<State, ()>,
 }
 
 impl Model for Store {
     ghost use Rattle.std.specs.Prelude.{List, Bool, ◌<◌, ◌^◌, length};
+    ghost use Rattle.indexmap.specs.IndexMap.{keys};
 
     ghost Value = { List (List Bool) };
 
-    ghost view = { λ s. s.states.keys };
+    ghost view = { λ s. keys s.states };
 
-    ghost invariant = { λ s. length s.states.keys < 2 ^ 32 };
+    ghost invariant = { λ s. length s.states.entries < 2 ^ 32 };
 }
 
 impl Store {
@@ -32,7 +33,7 @@ impl Store {
         ensures { result ≡ [] }
     {
         Store {
-            states: IndexSet::new(alloc),
+            states: IndexMap::new(alloc),
         }
     }
 
@@ -42,7 +43,7 @@ impl Store {
         ensures ok { IfOk result (λ n. Adds self.old s n self.new) }
         ensures err { OnErr result (self.new ≡ self.old) }
     {
-        let (number, _) = self.states.insert_full(s)?;
+        let (number, _) = self.states.insert_full(s, ())?;
         Ok(number as u32)
     }
 
@@ -58,7 +59,8 @@ impl Store {
         requires { i < length self.now }
         ensures { slice_get self.now i ≡ Some result.now }
     {
-        &self.states.as_slice()[i as usize]
+        let (state, _) = self.states.get_index(i as usize).unwrap();
+        state
     }
 
     /// The number of states.

@@ -7,4 +7,4 @@ pub returns : goal.returns
 returns g c =
     let list = c.args.list.now in
     let same = g.T.PartialEq.eq in
-    c.copied.ensures ∙ c.get.ensures.value ∙ number_at same g.met.T.Eq.laws c.self.inside.numbers.entries list ∙ ap (λ items. number_by same items list) c.self.view_is
+    c.copied.ensures ∙ c.get.ensures.value ∙ number_at g.met.T.Eq.laws c.self.inside.numbers.entries list ∙ ap (λ items. number_by same items list) c.self.view_is
