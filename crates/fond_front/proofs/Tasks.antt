@@ -13,7 +13,7 @@ use Rattle.fond_tree.proofs.NoTree.{no_tree_has_a_fault_lem}
 use Rattle.fond_tree.specs.declared.tree.Tree.{Tree}
 use Rattle.fond_tree.specs.Faults.{Shape, OneTree, Forest, IsTextFault, IsFaultOf, IsForestFaultOf}
 use Rattle.fond_tree.specs.Spelling.{IsReadAs}
-use Rattle.fond_grammar.specs.Faults.{StandsInDomain, StandsInProblem}
+use Rattle.fond_tree.specs.FormFaults.{StandsInDomain, StandsInProblem}
 use Rattle.fond_names.specs.Faults.{StandsInNames}
 use Rattle.fond_names.specs.Names.{Declarations}
 use Rattle.fond_types.specs.Resolves.{IsResolved}

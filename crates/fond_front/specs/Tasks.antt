@@ -8,7 +8,7 @@ use Rattle.fond_text.specs.Faults.{AreClean, IsFirstAmong}
 use Rattle.fond_ast.specs.declared.task.LiftedTask.{LiftedTask}
 use Rattle.fond_tree.specs.Faults.{OneTree, Forest, IsTextFault}
 use Rattle.fond_tree.specs.Spelling.{IsReadAs, IsReadAsForest}
-use Rattle.fond_grammar.specs.Faults.{StandsInDomain, StandsInProblem}
+use Rattle.fond_tree.specs.FormFaults.{StandsInDomain, StandsInProblem}
 use Rattle.fond_reader.specs.Files.{IsDomainOf, IsProblemOf}
 use Rattle.fond_reader.specs.Sides.{IsSideOf, StandsInSide}
 use Rattle.fond_names.specs.Faults.{StandsInNames}

@@ -6,7 +6,7 @@ use Rattle.fond_tree.specs.Alike.{IsAlike}
 use Rattle.fond_tree.specs.declared.tree.Tree.{Tree}
 use Rattle.fond_tree.specs.Trees.{members_of, leaf_of}
 use Rattle.fond_ast.specs.declared.names.ReadAtom.{ReadAtom}
-use Rattle.fond_grammar.specs.Words.{is_name}
+use Rattle.fond_tree.specs.Words.{is_name}
 use Rattle.fond_reader.specs.Bodies.{is_atom}
 use Rattle.fond_reader.specs.Forms.{is_unit, is_form}
 use Rattle.fond_reader.proofs.ReadLeaves.{atom_there}

@@ -6,9 +6,9 @@ use Rattle.fond_text.specs.Lists.{each_passes}
 use Rattle.fond_text.specs.declared.place.Place.{Place}
 use Rattle.fond_tree.specs.declared.tree.Tree.{Tree}
 use Rattle.fond_tree.specs.Trees.{members_of, leaf_of, place_of}
-use Rattle.fond_grammar.specs.Roles.{is_term as is_term_leaf}
-use Rattle.fond_grammar.specs.Words.{is_word, is_name, is_variable}
-use Rattle.fond_grammar.proofs.Again.{word_is}
+use Rattle.fond_tree.specs.Roles.{is_term as is_term_leaf}
+use Rattle.fond_tree.specs.Words.{is_word, is_name, is_variable}
+use Rattle.fond_tree.proofs.Again.{word_is}
 use Rattle.fond_reader.specs.Bodies.{is_term, are_of_atom, is_atom}
 use Rattle.fond_reader.specs.Forms.{is_place, is_sorted, is_named}
 use Rattle.fond_reader.specs.Typed.{is_kind}

@@ -9,8 +9,8 @@ use Rattle.fond_tree.specs.declared.tree.Tree.TheOpen.{Tree-F, Leaf, Node}
 use Rattle.fond_tree.specs.Trees.{leaf_step, members_step, members_of, leaf_of}
 use Rattle.fond_ast.specs.declared.names.Kind.{Kind}
 use Rattle.fond_ast.specs.declared.names.ReadAtom.{ReadAtom}
-use Rattle.fond_grammar.specs.Words.{is_name, is_variable}
-use Rattle.fond_grammar.proofs.Again.{or_cases}
+use Rattle.fond_tree.specs.Words.{is_name, is_variable}
+use Rattle.fond_tree.proofs.Again.{or_cases}
 use Rattle.fond_reader.specs.Bodies.{is_atom, is_initial}
 use Rattle.fond_reader.specs.Files.{are_of_declared, is_declared}
 use Rattle.fond_reader.specs.Forms.{is_place, is_sorted, is_named, is_form}

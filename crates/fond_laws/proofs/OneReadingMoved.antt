@@ -14,9 +14,9 @@ use Rattle.fond_ast.specs.declared.names.Kind.{Kind}
 use Rattle.fond_ast.specs.declared.names.ReadAtom.{ReadAtom}
 use Rattle.fond_ast.specs.declared.names.Term.{Term}
 use Rattle.fond_ast.specs.declared.names.TypedName.{TypedName}
-use Rattle.fond_grammar.specs.Parts.{is_dash}
-use Rattle.fond_grammar.specs.Roles.{is_term as is_term_leaf}
-use Rattle.fond_grammar.specs.Words.{is_word, is_name, is_variable}
+use Rattle.fond_tree.specs.Parts.{is_dash}
+use Rattle.fond_tree.specs.Roles.{is_term as is_term_leaf}
+use Rattle.fond_tree.specs.Words.{is_word, is_name, is_variable}
 use Rattle.fond_reader.specs.Bodies.{is_term, are_of_atom, is_atom, is_initial}
 use Rattle.fond_reader.specs.Files.{are_of_declared, is_declared}
 use Rattle.fond_reader.specs.Forms.{is_place, is_sorted, are_operands, is_form}

@@ -7,7 +7,7 @@ use Rattle.fond_ast.specs.declared.files.Schema.{Schema}
 use Rattle.fond_ast.specs.declared.names.TypedName.{TypedName}
 use Rattle.fond_ast.specs.declared.syntax.Cond.{Cond, Truth}
 use Rattle.fond_ast.specs.declared.syntax.Effect.{Effect, Nothing}
-use Rattle.fond_grammar.specs.Words.{is_name}
+use Rattle.fond_tree.specs.Words.{is_name}
 use Rattle.fond_reader.specs.Files.{values, AreParameters, IsPrecondition, IsKeyedEffect, IsSchemaOf, AreSchemasOf}
 use Rattle.fond_laws.specs.Read.{IsSameCond, IsSameRead, IsSameWritten}
 use Rattle.fond_laws.proofs.OneReadingAlike.{AreAlikeTrees, members_there}

@@ -6,7 +6,7 @@ use Rattle.fond_tree.specs.Alike.{IsAlike}
 use Rattle.fond_tree.specs.declared.tree.Tree.{Tree}
 use Rattle.fond_tree.specs.Trees.{members_of, leaf_of}
 use Rattle.fond_ast.specs.declared.names.TypedName.{TypedName}
-use Rattle.fond_grammar.specs.Words.{is_word, has_head}
+use Rattle.fond_tree.specs.Words.{is_word, has_head}
 use Rattle.fond_reader.specs.Files.{but_first, content, headed, contents, values}
 use Rattle.fond_reader.specs.Typed.{are_names}
 use Rattle.fond_laws.proofs.OneReadingAlike.{AreAlikeTrees, AreAlikeMembers, leaf_alike, head_alike, members_alike}

@@ -18,8 +18,8 @@ use Rattle.fond_kinds.specs.Faults.{StandsInKinds}
 use Rattle.fond_kinds.specs.Kinds.{are_types, Fit}
 use Rattle.fond_tree.specs.Alike.{IsAlike}
 use Rattle.fond_tree.specs.declared.tree.Tree.{Tree}
-use Rattle.fond_grammar.specs.Faults.{StandsInDomain, StandsInProblem}
-use Rattle.fond_grammar.specs.declared.role.Role.TheVariants.{Atom, DomainFile, ProblemFile}
+use Rattle.fond_tree.specs.FormFaults.{StandsInDomain, StandsInProblem}
+use Rattle.fond_tree.specs.declared.role.Role.TheVariants.{Atom, DomainFile, ProblemFile}
 use Rattle.fond_names.specs.Faults.{declaration_of, HasMismatch, HasUnknownObject, HasUnknownType, HasWrongCount, IsRepeatedObject, IsRepeatedPredicate, IsRepeatedSchema, IsUnknownSchema, IsUnknownTerm, OccursAmong, OccursAt, StandsInNames}
 use Rattle.fond_names.specs.Names.{Declarations, first_of, is_among, predicate_of, schema_leaves, schema_names}
 use Rattle.fond_names.specs.Sites.{Scope, Site, variable_of, AnAtom, AnEquality, AList, domain_sites, problem_sites}

@@ -9,14 +9,14 @@ use Rattle.fond_text.specs.declared.place.Place.{Place}
 use Rattle.fond_tree.specs.Alike.{IsAlike}
 use Rattle.fond_tree.specs.Trees.{front, head_of, is_node, leaf_of, members_of}
 use Rattle.fond_tree.specs.declared.tree.Tree.{Tree}
-use Rattle.fond_grammar.specs.Faults.{IsAgain, IsIncomplete, IsOwnFault, IsRepeated, Repeats, Stands, after_header, keys, node_code, single_in_domain, single_in_problem, tree_code}
-use Rattle.fond_grammar.specs.Parts.{Part, are_pairs, expected_parts, is_counted, is_dash, is_rest, pairs, part, part_at, parts, rest_parts, shape_parts, typed, value, value_role}
-use Rattle.fond_grammar.specs.Roles.{Expected, Members, Refused, Shape, action_keys, atom, choice, condition, domain_section, effect, form, form_of, initial, node_expected, none, problem_section, section, shape}
-use Rattle.fond_grammar.specs.Words.{is_name, is_one_of, reserved}
-use Rattle.fond_grammar.specs.declared.role.Rest.{Rest}
-use Rattle.fond_grammar.specs.declared.role.Rest.TheVariants.{NoMore, Each, Typed, Pairs, Unread}
-use Rattle.fond_grammar.specs.declared.role.Role.{Role}
-use Rattle.fond_grammar.specs.declared.role.Role.TheVariants as role
+use Rattle.fond_tree.specs.FormFaults.{IsAgain, IsIncomplete, IsOwnFault, IsRepeated, Repeats, Stands, after_header, keys, node_code, single_in_domain, single_in_problem, tree_code}
+use Rattle.fond_tree.specs.Parts.{Part, are_pairs, expected_parts, is_counted, is_dash, is_rest, pairs, part, part_at, parts, rest_parts, shape_parts, typed, value, value_role}
+use Rattle.fond_tree.specs.Roles.{Expected, Members, Refused, Shape, action_keys, atom, choice, condition, domain_section, effect, form, form_of, initial, node_expected, none, problem_section, section, shape}
+use Rattle.fond_tree.specs.Words.{is_name, is_one_of, reserved}
+use Rattle.fond_tree.specs.declared.role.Rest.{Rest}
+use Rattle.fond_tree.specs.declared.role.Rest.TheVariants.{NoMore, Each, Typed, Pairs, Unread}
+use Rattle.fond_tree.specs.declared.role.Role.{Role}
+use Rattle.fond_tree.specs.declared.role.Role.TheVariants as role
 use Rattle.fond_ground.proofs.Zips.{zip-append, zip-map}
 use Rattle.fond_laws.proofs.OneReadingAlike.{AreAlikeMembers, AreAlikeTrees, head_alike, leaf_alike, members_alike, place_alike}
 use Rattle.fond_laws.proofs.OneReadingMoved.{dash_alike}

@@ -3,16 +3,16 @@ use Rattle.std.proofs.Common.{◌≡◌, ℕ, suc, ◌-◌, ◌≤◌, ◌<◌, 
 use Rattle.std.specs.List.{AllByRecursion}
 use Rattle.fond_tree.specs.declared.tree.Tree.{Tree}
 use Rattle.fond_tree.specs.Trees.{members_of, leaf_of}
-use Rattle.fond_grammar.specs.declared.role.Role.{Role}
-use Rattle.fond_grammar.specs.declared.role.Role.TheVariants as role
-use Rattle.fond_grammar.proofs.Again.{word_is as leaf_is}
-use Rattle.fond_grammar.specs.Words.{is_word}
-use Rattle.fond_grammar.specs.Roles.{action_keys}
-use Rattle.fond_grammar.specs.Parts.{part, value, value_role, pairs, are_pairs}
-use Rattle.fond_grammar.specs.Faults.{Fits, keys}
-use Rattle.fond_grammar.proofs.Fitting.{AllFit}
-use Rattle.fond_grammar.proofs.FittingActions.{IsAction, keys_known}
-use Rattle.fond_grammar.proofs.TypedLists.{all_fit_split}
+use Rattle.fond_tree.specs.declared.role.Role.{Role}
+use Rattle.fond_tree.specs.declared.role.Role.TheVariants as role
+use Rattle.fond_tree.proofs.Again.{word_is as leaf_is}
+use Rattle.fond_tree.specs.Words.{is_word}
+use Rattle.fond_tree.specs.Roles.{action_keys}
+use Rattle.fond_tree.specs.Parts.{part, value, value_role, pairs, are_pairs}
+use Rattle.fond_tree.specs.FormFaults.{Fits, keys}
+use Rattle.fond_tree.proofs.Fitting.{AllFit}
+use Rattle.fond_tree.proofs.FittingActions.{IsAction, keys_known}
+use Rattle.fond_tree.proofs.TypedLists.{all_fit_split}
 use Rattle.fond_reader.specs.Files.{values, but_first, content}
 use Rattle.fond_reader.specs.Nodes.{FitsOnce, FitsPairs}
 use Rattle.fond_reader.proofs.Through.{first_and_rest}

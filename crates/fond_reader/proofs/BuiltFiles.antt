@@ -12,11 +12,11 @@ use Rattle.fond_ast.specs.declared.files.Schema.{Schema}
 use Rattle.fond_ast.specs.declared.names.TypedName.{TypedName}
 use Rattle.fond_ast.specs.declared.syntax.Cond.{Cond, Truth}
 use Rattle.fond_ast.specs.declared.syntax.Effect.{Effect, Nothing}
-use Rattle.fond_grammar.specs.declared.role.Role.TheVariants as role
-use Rattle.fond_grammar.specs.Words.{is_name, has_head}
-use Rattle.fond_grammar.specs.Faults.{Fits}
-use Rattle.fond_grammar.proofs.FittingActions.{action_there}
-use Rattle.fond_grammar.proofs.FittingLeaves.{name_fits}
+use Rattle.fond_tree.specs.declared.role.Role.TheVariants as role
+use Rattle.fond_tree.specs.Words.{is_name, has_head}
+use Rattle.fond_tree.specs.FormFaults.{Fits}
+use Rattle.fond_tree.proofs.FittingActions.{action_there}
+use Rattle.fond_tree.proofs.FittingLeaves.{name_fits}
 use Rattle.fond_reader.specs.Bodies.{is_condition, is_initial}
 use Rattle.fond_reader.specs.Files.{headed, contents, is_declared, values, AreParameters, IsPrecondition, IsKeyedEffect, IsSchemaOf, AreSchemasOf, IsDomainOf, IsProblemOf}
 use Rattle.fond_reader.specs.Nodes.{FitsOnce, sections_of}

@@ -16,11 +16,11 @@ use Rattle.fond_ast.specs.declared.syntax.Effect.{Effect, roll-Effect}
 use Rattle.fond_ast.specs.declared.syntax.Effect.TheOpen as open_effect
 use Rattle.fond_ast.specs.declared.syntax.Effect.TheFolds.{fold-roll-Effect, map-Effect}
 use Rattle.fond_ast.specs.declared.names.TypedName.{TypedName}
-use Rattle.fond_grammar.specs.declared.role.Role.TheVariants as role
-use Rattle.fond_grammar.specs.Faults.{Fits}
-use Rattle.fond_grammar.proofs.Fitting.{node_there}
-use Rattle.fond_grammar.proofs.FittingNodes.{initial_there}
-use Rattle.fond_grammar.proofs.Heads.{HasHead, condition_head, and_fits, or_fits, not_fits, imply_fits, forall_fits, exists_fits, equal_fits, condition_atom, effect_head, effects_fit, delete_fits, forall_effect_fits, when_fits, choice_fits, effect_atom, initial_head, negated_fits, initial_atom}
+use Rattle.fond_tree.specs.declared.role.Role.TheVariants as role
+use Rattle.fond_tree.specs.FormFaults.{Fits}
+use Rattle.fond_tree.proofs.Fitting.{node_there}
+use Rattle.fond_tree.proofs.FittingNodes.{initial_there}
+use Rattle.fond_tree.proofs.Heads.{HasHead, condition_head, and_fits, or_fits, not_fits, imply_fits, forall_fits, exists_fits, equal_fits, condition_atom, effect_head, effects_fit, delete_fits, forall_effect_fits, when_fits, choice_fits, effect_atom, initial_head, negated_fits, initial_atom}
 use Rattle.fond_reader.specs.Bodies.{is_term, is_atom, condition_step, is_condition, effect_step, is_effect, is_initial}
 use Rattle.fond_reader.specs.Forms.{is_empty}
 use Rattle.fond_reader.specs.Typed.{is_variable_list}

@@ -11,14 +11,14 @@ use Rattle.fond_ast.specs.declared.names.Kind.{Kind}
 use Rattle.fond_ast.specs.declared.names.ReadAtom.{ReadAtom}
 use Rattle.fond_ast.specs.declared.names.Term.{Term}
 use Rattle.fond_ast.specs.declared.names.TypedName.{TypedName}
-use Rattle.fond_grammar.specs.declared.role.Role.TheVariants as role
-use Rattle.fond_grammar.specs.Parts.{part, is_dash, typed}
-use Rattle.fond_grammar.specs.Roles.{is_term as is_term_leaf}
-use Rattle.fond_grammar.specs.Words.{is_name, is_variable}
-use Rattle.fond_grammar.specs.Faults.{Fits}
-use Rattle.fond_grammar.proofs.Fitting.{AllFit, each_fits}
-use Rattle.fond_grammar.proofs.FittingLeaves.{name_fits, term_fits}
-use Rattle.fond_grammar.proofs.FittingNodes.{atom_there, predicate_there, variables_there, type_name, either_there}
+use Rattle.fond_tree.specs.declared.role.Role.TheVariants as role
+use Rattle.fond_tree.specs.Parts.{part, is_dash, typed}
+use Rattle.fond_tree.specs.Roles.{is_term as is_term_leaf}
+use Rattle.fond_tree.specs.Words.{is_name, is_variable}
+use Rattle.fond_tree.specs.FormFaults.{Fits}
+use Rattle.fond_tree.proofs.Fitting.{AllFit, each_fits}
+use Rattle.fond_tree.proofs.FittingLeaves.{name_fits, term_fits}
+use Rattle.fond_tree.proofs.FittingNodes.{atom_there, predicate_there, variables_there, type_name, either_there}
 use Rattle.fond_reader.specs.Bodies.{is_term, is_atom}
 use Rattle.fond_reader.specs.Files.{is_declared, are_of_declared}
 use Rattle.fond_reader.specs.Forms.{is_form}

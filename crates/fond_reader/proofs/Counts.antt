@@ -10,8 +10,8 @@ use Rattle.fond_tree.specs.Trees.{members_of}
 use Rattle.fond_ast.specs.Read.{has_one_kind}
 use Rattle.fond_ast.specs.declared.names.Kind.{Kind}
 use Rattle.fond_ast.specs.declared.names.TypedName.{TypedName}
-use Rattle.fond_grammar.specs.Parts.{is_dash}
-use Rattle.fond_grammar.specs.Words.{has_head, is_name}
+use Rattle.fond_tree.specs.Parts.{is_dash}
+use Rattle.fond_tree.specs.Words.{has_head, is_name}
 use Rattle.fond_reader.specs.Files.{headed, content, contents, but_first}
 use Rattle.fond_reader.specs.Forms.{is_place}
 use Rattle.fond_reader.specs.Sorts.{is_read_from, are_read_from}

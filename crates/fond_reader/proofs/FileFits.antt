@@ -4,19 +4,19 @@ use Rattle.std.specs.List.{AllByRecursion, AllZip, list_all}
 use Rattle.fond_text.specs.declared.place.Place.{Place}
 use Rattle.fond_tree.specs.declared.tree.Tree.{Tree}
 use Rattle.fond_tree.specs.Trees.{members_of, head_of, place_of}
-use Rattle.fond_grammar.specs.declared.role.Role.{Role}
-use Rattle.fond_grammar.specs.declared.role.Role.TheVariants as role
-use Rattle.fond_grammar.specs.declared.role.FixedWord.{FixedWord}
-use Rattle.fond_grammar.specs.declared.role.FixedWord.TheVariants as fixed
-use Rattle.fond_grammar.specs.declared.role.Rest.TheVariants.{NoMore, Each, Typed}
-use Rattle.fond_grammar.specs.Words.{is_word, has_head}
-use Rattle.fond_grammar.specs.Roles.{shape, Members, node_expected, leaf_code, domain_section, problem_section, word}
-use Rattle.fond_grammar.specs.Faults.{Fits, Repeats, single_in_domain, single_in_problem}
-use Rattle.fond_grammar.proofs.Fitting.{IsShaped, node_there, shaped, unrepeated, complete, each_fits, zip_fits}
-use Rattle.fond_grammar.proofs.FittingLeaves.{name_fits, word_fits}
-use Rattle.fond_grammar.proofs.FittingNodes.{header_there}
-use Rattle.fond_grammar.proofs.Once.{at_most_one}
-use Rattle.fond_grammar.proofs.Sections.{section_of_word, known_in_domain, known_in_problem}
+use Rattle.fond_tree.specs.declared.role.Role.{Role}
+use Rattle.fond_tree.specs.declared.role.Role.TheVariants as role
+use Rattle.fond_tree.specs.declared.role.FixedWord.{FixedWord}
+use Rattle.fond_tree.specs.declared.role.FixedWord.TheVariants as fixed
+use Rattle.fond_tree.specs.declared.role.Rest.TheVariants.{NoMore, Each, Typed}
+use Rattle.fond_tree.specs.Words.{is_word, has_head}
+use Rattle.fond_tree.specs.Roles.{shape, Members, node_expected, leaf_code, domain_section, problem_section, word}
+use Rattle.fond_tree.specs.FormFaults.{Fits, Repeats, single_in_domain, single_in_problem}
+use Rattle.fond_tree.proofs.Fitting.{IsShaped, node_there, shaped, unrepeated, complete, each_fits, zip_fits}
+use Rattle.fond_tree.proofs.FittingLeaves.{name_fits, word_fits}
+use Rattle.fond_tree.proofs.FittingNodes.{header_there}
+use Rattle.fond_tree.proofs.Once.{at_most_one}
+use Rattle.fond_tree.proofs.Sections.{section_of_word, known_in_domain, known_in_problem}
 use Rattle.fond_reader.specs.Files.{is_name_leaf, are_header, IsFile, content, contents, AreSingle, is_domain_section, is_problem_section}
 use Rattle.fond_reader.specs.Forms.{is_only}
 use Rattle.fond_reader.specs.Nodes.{sections_of}

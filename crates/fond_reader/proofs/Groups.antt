@@ -4,12 +4,12 @@ use Rattle.std.proofs.Math.Bool.{and-false}
 use Rattle.std.specs.List.{AllByRecursion, prefix_len}
 use Rattle.fond_tree.specs.declared.tree.Tree.{Tree}
 use Rattle.fond_ast.specs.declared.names.TypedName.{TypedName}
-use Rattle.fond_grammar.specs.Parts.{part, is_dash, typed}
-use Rattle.fond_grammar.specs.Faults.{Fits}
-use Rattle.fond_grammar.specs.Words.{is_name, is_variable}
-use Rattle.fond_grammar.proofs.Fitting.{AllFit, each_fits}
-use Rattle.fond_grammar.proofs.FittingLeaves.{IsLeafOf, name_fits, variable_fits, no_dash}
-use Rattle.fond_grammar.proofs.TypedLists.{AreUndashed, all_fit_split, typed_leaves_then, typed_dash, typed_first}
+use Rattle.fond_tree.specs.Parts.{part, is_dash, typed}
+use Rattle.fond_tree.specs.FormFaults.{Fits}
+use Rattle.fond_tree.specs.Words.{is_name, is_variable}
+use Rattle.fond_tree.proofs.Fitting.{AllFit, each_fits}
+use Rattle.fond_tree.proofs.FittingLeaves.{IsLeafOf, name_fits, variable_fits, no_dash}
+use Rattle.fond_tree.proofs.TypedLists.{AreUndashed, all_fit_split, typed_leaves_then, typed_dash, typed_first}
 use Rattle.fond_reader.specs.Sorts.{leaf_role, type_role, leaf_test, FitsTyped, typed_leaf, AddsLeaves, AddsTyped}
 use Rattle.fond_reader.specs.Typed.{typed_leaves, next_type}
 use Rattle.fond_reader.specs.declared.typed.Sort.{Sort}

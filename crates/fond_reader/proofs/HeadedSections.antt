@@ -4,10 +4,10 @@ use Rattle.std.specs.List.{AllByRecursion, flat_map, list_all, filter_map}
 use Rattle.std.proofs.lemmas.Slice.Eq.{bytes_eq-Decides}
 use Rattle.fond_tree.specs.declared.tree.Tree.{Tree}
 use Rattle.fond_tree.specs.Trees.{head_of}
-use Rattle.fond_grammar.specs.declared.role.Role.{Role}
-use Rattle.fond_grammar.specs.Words.{is_word, has_head}
-use Rattle.fond_grammar.specs.Faults.{Fits, Lacks}
-use Rattle.fond_grammar.proofs.Heads.{HasHead}
+use Rattle.fond_tree.specs.declared.role.Role.{Role}
+use Rattle.fond_tree.specs.Words.{is_word, has_head}
+use Rattle.fond_tree.specs.FormFaults.{Fits, Lacks}
+use Rattle.fond_tree.proofs.Heads.{HasHead}
 use Rattle.fond_reader.specs.Files.{headed, content, contents, but_first}
 use Rattle.fond_reader.proofs.Through.{both_hold, true_is_false}
 

@@ -6,10 +6,10 @@ use Rattle.std.proofs.lemmas.Slice.Eq.{bytes_eq-Decides}
 use Rattle.fond_tree.specs.declared.tree.Tree.{Tree}
 use Rattle.fond_tree.specs.Trees.{members_of, leaf_of, head_of}
 use Rattle.fond_ast.specs.declared.files.Schema.{Schema}
-use Rattle.fond_grammar.specs.Roles.{is_headed_by}
-use Rattle.fond_grammar.specs.Words.{has_head, is_one_of, is_word}
-use Rattle.fond_grammar.proofs.Again.{any_headed}
-use Rattle.fond_grammar.proofs.Heads.{HasHead}
+use Rattle.fond_tree.specs.Roles.{is_headed_by}
+use Rattle.fond_tree.specs.Words.{has_head, is_one_of, is_word}
+use Rattle.fond_tree.proofs.Again.{any_headed}
+use Rattle.fond_tree.proofs.Heads.{HasHead}
 use Rattle.fond_reader.specs.Files.{headed, content, contents, IsSchemaOf, AreSchemasOf}
 use Rattle.fond_reader.proofs.Through.{first_of_both, second_of_both, true_is_false}
 

@@ -7,8 +7,8 @@ use Rattle.fond_text.specs.declared.place.Place.{Place}
 use Rattle.fond_tree.specs.declared.tree.Tree.{Tree, out-Tree}
 use Rattle.fond_tree.specs.declared.tree.Tree.TheOpen.{Tree-F, Leaf, Node}
 use Rattle.fond_tree.specs.Trees.{members_of, members_step, leaf_step, leaf_of, place_of, is_node}
-use Rattle.fond_grammar.specs.Words.{is_word}
-use Rattle.fond_grammar.proofs.FittingLeaves.{IsLeafOf}
+use Rattle.fond_tree.specs.Words.{is_word}
+use Rattle.fond_tree.proofs.FittingLeaves.{IsLeafOf}
 use Rattle.fond_text.specs.Lists.{each_passes}
 use Rattle.fond_ast.specs.declared.names.Term.{Term}
 use Rattle.fond_reader.specs.Bodies.{is_term, is_atom, are_of_atom}

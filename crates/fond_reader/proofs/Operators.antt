@@ -16,10 +16,10 @@ use Rattle.fond_ast.specs.declared.syntax.Effect.TheOpen.{Effect-F}
 use Rattle.fond_ast.specs.declared.syntax.Effect.TheOpen as open_effect
 use Rattle.fond_ast.specs.declared.syntax.Effect.TheVariants as effect
 use Rattle.fond_ast.specs.declared.syntax.Effect.TheFolds.{fold_out-Effect, map-Effect}
-use Rattle.fond_grammar.specs.declared.role.Role.{Role}
-use Rattle.fond_grammar.specs.Words.{is_word}
-use Rattle.fond_grammar.specs.Faults.{Fits}
-use Rattle.fond_grammar.proofs.Heads.{HasHead}
+use Rattle.fond_tree.specs.declared.role.Role.{Role}
+use Rattle.fond_tree.specs.Words.{is_word}
+use Rattle.fond_tree.specs.FormFaults.{Fits}
+use Rattle.fond_tree.proofs.Heads.{HasHead}
 use Rattle.fond_reader.specs.Bodies.{condition_step, is_condition, effect_step, is_effect}
 use Rattle.fond_reader.specs.Forms.{are_operands, is_form}
 use Rattle.fond_reader.proofs.Through.{both_hold, first_and_rest}

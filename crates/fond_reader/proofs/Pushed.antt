@@ -4,7 +4,7 @@ use Rattle.std.specs.List.{AllByRecursion}
 use Rattle.fond_text.specs.Lists.{each_passes}
 use Rattle.fond_tree.specs.declared.tree.Tree.{Tree}
 use Rattle.fond_ast.specs.declared.names.TypedName.{TypedName}
-use Rattle.fond_grammar.specs.Faults.{Fits}
+use Rattle.fond_tree.specs.FormFaults.{Fits}
 use Rattle.fond_reader.specs.Sorts.{leaf_role, is_read_from, are_read_from, typed_leaf, AddsLeaves, AddsTyped, FitsTyped}
 use Rattle.fond_reader.specs.Typed.{typed_leaves}
 use Rattle.fond_reader.specs.declared.typed.Sort.{Sort}

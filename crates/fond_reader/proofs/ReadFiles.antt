@@ -9,20 +9,20 @@ use Rattle.fond_tree.specs.declared.tree.Tree.{Tree}
 use Rattle.fond_tree.specs.Trees.{members_of, leaf_of, head_of}
 use Rattle.fond_ast.specs.declared.files.Domain.{Domain}
 use Rattle.fond_ast.specs.declared.files.Problem.{Problem}
-use Rattle.fond_grammar.specs.declared.role.Role.{Role}
-use Rattle.fond_grammar.specs.declared.role.Role.TheVariants as role
-use Rattle.fond_grammar.specs.declared.role.FixedWord.{FixedWord}
-use Rattle.fond_grammar.specs.declared.role.FixedWord.TheVariants as fixed
-use Rattle.fond_grammar.specs.declared.role.Rest.TheVariants.{NoMore, Each, Typed, Unread}
-use Rattle.fond_grammar.specs.Words.{is_word, is_one_of}
-use Rattle.fond_grammar.specs.Roles.{Shape, shape, Members, section, domain_section, problem_section, passed_over, word}
-use Rattle.fond_grammar.specs.Faults.{Fits, after_header, Repeats, Lacks, single_in_domain, single_in_problem}
-use Rattle.fond_grammar.proofs.Again.{or_cases}
-use Rattle.fond_grammar.proofs.Fitting.{IsShaped, node_fits, all_of_each, shaped_of_zip}
-use Rattle.fond_grammar.proofs.FittingLeaves.{fits_name, fits_head, fits_word}
-use Rattle.fond_grammar.proofs.FormFits.{shaped_each, shaped_fixed}
-use Rattle.fond_grammar.proofs.Heads.{HasHead}
-use Rattle.fond_grammar.proofs.Once.{repeats_twice}
+use Rattle.fond_tree.specs.declared.role.Role.{Role}
+use Rattle.fond_tree.specs.declared.role.Role.TheVariants as role
+use Rattle.fond_tree.specs.declared.role.FixedWord.{FixedWord}
+use Rattle.fond_tree.specs.declared.role.FixedWord.TheVariants as fixed
+use Rattle.fond_tree.specs.declared.role.Rest.TheVariants.{NoMore, Each, Typed, Unread}
+use Rattle.fond_tree.specs.Words.{is_word, is_one_of}
+use Rattle.fond_tree.specs.Roles.{Shape, shape, Members, section, domain_section, problem_section, passed_over, word}
+use Rattle.fond_tree.specs.FormFaults.{Fits, after_header, Repeats, Lacks, single_in_domain, single_in_problem}
+use Rattle.fond_tree.proofs.Again.{or_cases}
+use Rattle.fond_tree.proofs.Fitting.{IsShaped, node_fits, all_of_each, shaped_of_zip}
+use Rattle.fond_tree.proofs.FittingLeaves.{fits_name, fits_head, fits_word}
+use Rattle.fond_tree.proofs.FormFits.{shaped_each, shaped_fixed}
+use Rattle.fond_tree.proofs.Heads.{HasHead}
+use Rattle.fond_tree.proofs.Once.{repeats_twice}
 use Rattle.fond_reader.specs.Bodies.{is_condition, is_initial}
 use Rattle.fond_reader.specs.Files.{is_name_leaf, are_header, IsFile, headed, contents, AreSingle, is_declared, IsDomainOf, IsProblemOf}
 use Rattle.fond_reader.specs.Forms.{is_only}
@@ -34,7 +34,7 @@ use Rattle.fond_reader.proofs.Membership.{In, all_in, passes_in, in_headed, alon
 use Rattle.fond_reader.proofs.ReadForms.{condition_fits, initial_fits}
 use Rattle.fond_reader.proofs.ReadLeaves.{list_fits}
 use Rattle.fond_reader.proofs.ReadSections.{predicate_fits, schema_fits}
-use Rattle.fond_grammar.proofs.Again.{word_is as leaf_is}
+use Rattle.fond_tree.proofs.Again.{word_is as leaf_is}
 use Rattle.fond_reader.proofs.Through.{first_of_both, second_of_both, true_is_false}
 
 -- a leaf that is a name fits

@@ -11,12 +11,12 @@ use Rattle.fond_ast.specs.declared.syntax.Cond.TheFolds.{fold-roll-Cond, map-Con
 use Rattle.fond_ast.specs.declared.syntax.Effect.{Effect, roll-Effect}
 use Rattle.fond_ast.specs.declared.syntax.Effect.TheOpen as open_effect
 use Rattle.fond_ast.specs.declared.syntax.Effect.TheFolds.{fold-roll-Effect, map-Effect, ind-Effect}
-use Rattle.fond_grammar.specs.declared.role.Role.{Role}
-use Rattle.fond_grammar.specs.declared.role.Role.TheVariants as role
-use Rattle.fond_grammar.specs.declared.role.Rest.TheVariants.{Each}
-use Rattle.fond_grammar.specs.Roles.{shape, Members, choice}
-use Rattle.fond_grammar.specs.Faults.{Fits}
-use Rattle.fond_grammar.proofs.FormFits.{atom_fits_plain, atom_fits_condition, atom_fits_effect, atom_fits_initial, unit_fits_condition, unit_fits_effect, condition_each, condition_fixed, effect_each, effect_fixed, initial_fixed}
+use Rattle.fond_tree.specs.declared.role.Role.{Role}
+use Rattle.fond_tree.specs.declared.role.Role.TheVariants as role
+use Rattle.fond_tree.specs.declared.role.Rest.TheVariants.{Each}
+use Rattle.fond_tree.specs.Roles.{shape, Members, choice}
+use Rattle.fond_tree.specs.FormFaults.{Fits}
+use Rattle.fond_tree.proofs.FormFits.{atom_fits_plain, atom_fits_condition, atom_fits_effect, atom_fits_initial, unit_fits_condition, unit_fits_effect, condition_each, condition_fixed, effect_each, effect_fixed, initial_fixed}
 use Rattle.fond_reader.specs.Bodies.{is_atom, is_term, condition_step, is_condition, effect_step, is_effect, is_initial}
 use Rattle.fond_reader.specs.Forms.{is_form}
 use Rattle.fond_reader.specs.Typed.{is_variable_list}

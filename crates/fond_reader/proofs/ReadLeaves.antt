@@ -9,17 +9,17 @@ use Rattle.fond_ast.specs.declared.names.Kind.{Kind}
 use Rattle.fond_ast.specs.declared.names.ReadAtom.{ReadAtom}
 use Rattle.fond_ast.specs.declared.names.Term.{Term}
 use Rattle.fond_ast.specs.declared.names.TypedName.{TypedName}
-use Rattle.fond_grammar.specs.declared.role.Role.TheVariants as role
-use Rattle.fond_grammar.specs.declared.role.FixedWord.TheVariants as fixed
-use Rattle.fond_grammar.specs.declared.role.Rest.TheVariants.{Each, Typed}
-use Rattle.fond_grammar.specs.Words.{is_word, is_name, is_variable}
-use Rattle.fond_grammar.specs.Roles.{is_term as is_term_leaf, shape, atom}
-use Rattle.fond_grammar.specs.Parts.{part, is_dash, typed}
-use Rattle.fond_grammar.specs.Faults.{Fits}
-use Rattle.fond_grammar.proofs.Again.{or_cases}
-use Rattle.fond_grammar.proofs.Fitting.{AllFit, IsShaped, node_fits, all_of_each}
-use Rattle.fond_grammar.proofs.FittingLeaves.{IsLeafOf, fits_name, fits_type_name, fits_variable, fits_term, fits_word}
-use Rattle.fond_grammar.proofs.Heads.{HasHead}
+use Rattle.fond_tree.specs.declared.role.Role.TheVariants as role
+use Rattle.fond_tree.specs.declared.role.FixedWord.TheVariants as fixed
+use Rattle.fond_tree.specs.declared.role.Rest.TheVariants.{Each, Typed}
+use Rattle.fond_tree.specs.Words.{is_word, is_name, is_variable}
+use Rattle.fond_tree.specs.Roles.{is_term as is_term_leaf, shape, atom}
+use Rattle.fond_tree.specs.Parts.{part, is_dash, typed}
+use Rattle.fond_tree.specs.FormFaults.{Fits}
+use Rattle.fond_tree.proofs.Again.{or_cases}
+use Rattle.fond_tree.proofs.Fitting.{AllFit, IsShaped, node_fits, all_of_each}
+use Rattle.fond_tree.proofs.FittingLeaves.{IsLeafOf, fits_name, fits_type_name, fits_variable, fits_term, fits_word}
+use Rattle.fond_tree.proofs.Heads.{HasHead}
 use Rattle.fond_reader.specs.Bodies.{is_term, is_atom, are_of_atom}
 use Rattle.fond_reader.specs.Forms.{is_place, is_sorted, is_named, is_form}
 use Rattle.fond_reader.specs.Sorts.{leaf_role, type_role, leaf_test, type_test, FitsTyped, is_read_from, are_read_from}
@@ -27,7 +27,7 @@ use Rattle.fond_reader.specs.Typed.{typed_leaves, next_type, is_kind, is_one_kin
 use Rattle.fond_reader.specs.declared.typed.Sort.{Sort}
 use Rattle.fond_reader.specs.declared.typed.Sort.TheVariants.{Names, Variables}
 use Rattle.fond_reader.proofs.Named.{no_node_of}
-use Rattle.fond_grammar.proofs.Again.{word_is as leaf_is}
+use Rattle.fond_tree.proofs.Again.{word_is as leaf_is}
 use Rattle.fond_reader.proofs.Shapes.{form_there, variables_are}
 use Rattle.fond_reader.proofs.Through.{first_of_both, second_of_both, true_is_false}
 

@@ -9,24 +9,24 @@ use Rattle.fond_ast.specs.declared.files.Schema.{Schema}
 use Rattle.fond_ast.specs.declared.names.TypedName.{TypedName}
 use Rattle.fond_ast.specs.declared.syntax.Cond.{Cond}
 use Rattle.fond_ast.specs.declared.syntax.Effect.{Effect}
-use Rattle.fond_grammar.specs.declared.role.Role.{Role}
-use Rattle.fond_grammar.specs.declared.role.Role.TheVariants as role
-use Rattle.fond_grammar.specs.declared.role.Rest.TheVariants.{Typed, Pairs}
-use Rattle.fond_grammar.specs.Words.{is_word, has_head, is_name, is_one_of}
-use Rattle.fond_grammar.specs.Roles.{shape, action_keys, is_headed_by, section, domain_section}
-use Rattle.fond_grammar.specs.Parts.{part, value, pairs, are_pairs}
-use Rattle.fond_grammar.specs.Faults.{Fits, keys, after_header, Repeats}
-use Rattle.fond_grammar.proofs.Fitting.{AllFit, node_fits}
-use Rattle.fond_grammar.proofs.FittingLeaves.{fits_name, fits_key, fits_head}
-use Rattle.fond_grammar.proofs.Once.{repeats_twice}
-use Rattle.fond_grammar.proofs.TypedLists.{all_fit_join}
+use Rattle.fond_tree.specs.declared.role.Role.{Role}
+use Rattle.fond_tree.specs.declared.role.Role.TheVariants as role
+use Rattle.fond_tree.specs.declared.role.Rest.TheVariants.{Typed, Pairs}
+use Rattle.fond_tree.specs.Words.{is_word, has_head, is_name, is_one_of}
+use Rattle.fond_tree.specs.Roles.{shape, action_keys, is_headed_by, section, domain_section}
+use Rattle.fond_tree.specs.Parts.{part, value, pairs, are_pairs}
+use Rattle.fond_tree.specs.FormFaults.{Fits, keys, after_header, Repeats}
+use Rattle.fond_tree.proofs.Fitting.{AllFit, node_fits}
+use Rattle.fond_tree.proofs.FittingLeaves.{fits_name, fits_key, fits_head}
+use Rattle.fond_tree.proofs.Once.{repeats_twice}
+use Rattle.fond_tree.proofs.TypedLists.{all_fit_join}
 use Rattle.fond_reader.specs.Files.{is_declared, are_of_declared, values, AreParameters, IsPrecondition, IsKeyedEffect, IsSchemaOf}
 use Rattle.fond_reader.specs.Forms.{is_named}
 use Rattle.fond_reader.specs.declared.typed.Sort.TheVariants.{Variables}
 use Rattle.fond_reader.proofs.Actions.{values_counted}
 use Rattle.fond_reader.proofs.ReadForms.{condition_fits, effect_fits}
 use Rattle.fond_reader.proofs.ReadLeaves.{sorted_there, list_fits, variables_fit}
-use Rattle.fond_grammar.proofs.Again.{word_is as leaf_is}
+use Rattle.fond_tree.proofs.Again.{word_is as leaf_is}
 use Rattle.fond_reader.proofs.Through.{first_of_both, second_of_both, true_is_false}
 
 -- a tree that is read as a declared predicate fits

@@ -18,12 +18,12 @@ use Rattle.fond_ast.specs.declared.syntax.Effect.TheOpen as open_effect
 use Rattle.fond_ast.specs.declared.syntax.Effect.TheFolds.{fold-roll-Effect, map-Effect, ind-Effect}
 use Rattle.fond_tree.specs.declared.tree.Tree.{Tree}
 use Rattle.fond_tree.specs.Trees.{leaf_of}
-use Rattle.fond_grammar.specs.Words.{is_word}
+use Rattle.fond_tree.specs.Words.{is_word}
 use Rattle.fond_reader.specs.Bodies.{is_condition, effect_step, is_effect}
 use Rattle.fond_reader.specs.Typed.{is_variable_list}
 use Rattle.fond_reader.specs.Files.{values, AreParameters, IsPrecondition, IsKeyedEffect, IsSchemaOf, AreSchemasOf}
 use Rattle.fond_reader.proofs.Counts.{list_counted}
-use Rattle.fond_grammar.proofs.Again.{word_is as leaf_is}
+use Rattle.fond_tree.proofs.Again.{word_is as leaf_is}
 use Rattle.fond_reader.proofs.Shapes.{form_there, two_operands}
 use Rattle.fond_reader.proofs.Through.{first_of_both, second_of_both, both_hold}
 use Rattle.fond_reader.proofs.VariableCounts.{condition_few, effect_few}

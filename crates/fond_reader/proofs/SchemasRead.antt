@@ -4,9 +4,9 @@ use Rattle.std.specs.List.{AllByRecursion}
 use Rattle.std.proofs.lemmas.List.Elements.{filter-append}
 use Rattle.fond_tree.specs.declared.tree.Tree.{Tree}
 use Rattle.fond_ast.specs.declared.files.Schema.{Schema}
-use Rattle.fond_grammar.specs.declared.role.Role.TheVariants as role
-use Rattle.fond_grammar.specs.Faults.{Fits}
-use Rattle.fond_grammar.specs.Words.{has_head}
+use Rattle.fond_tree.specs.declared.role.Role.TheVariants as role
+use Rattle.fond_tree.specs.FormFaults.{Fits}
+use Rattle.fond_tree.specs.Words.{has_head}
 use Rattle.fond_reader.specs.Files.{headed, IsSchemaOf, AreSchemasOf}
 use Rattle.fond_reader.proofs.Through.{left_at}
 

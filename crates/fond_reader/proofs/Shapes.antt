@@ -5,9 +5,9 @@ use Rattle.std.proofs.lemmas.List.{length-map}
 use Rattle.fond_text.specs.Lists.{each_passes}
 use Rattle.fond_tree.specs.declared.tree.Tree.{Tree}
 use Rattle.fond_tree.specs.Trees.{members_of, leaf_of}
-use Rattle.fond_grammar.proofs.Again.{word_is as leaf_is}
-use Rattle.fond_grammar.specs.Words.{is_word}
-use Rattle.fond_grammar.proofs.Heads.{HasHead}
+use Rattle.fond_tree.proofs.Again.{word_is as leaf_is}
+use Rattle.fond_tree.specs.Words.{is_word}
+use Rattle.fond_tree.proofs.Heads.{HasHead}
 use Rattle.fond_reader.specs.Forms.{are_operands, is_form, is_unit, is_empty}
 use Rattle.fond_reader.specs.Typed.{is_variable_list, are_variables}
 use Rattle.fond_reader.proofs.Lengths.{empty}

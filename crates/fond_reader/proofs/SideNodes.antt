@@ -11,8 +11,8 @@ use Rattle.fond_text.proofs.Earliest.{IsFirstSoFar, first_if_least, first_with}
 use Rattle.fond_tree.specs.declared.tree.Tree.{Tree}
 use Rattle.fond_tree.specs.Spelling.{IsReadAsForest}
 use Rattle.fond_tree.specs.Trees.{is_node}
-use Rattle.fond_grammar.specs.declared.role.Role.TheVariants.{Atom}
-use Rattle.fond_grammar.specs.Faults.{Stands, Fits}
+use Rattle.fond_tree.specs.declared.role.Role.TheVariants.{Atom}
+use Rattle.fond_tree.specs.FormFaults.{Stands, Fits}
 use Rattle.fond_reader.specs.Sides.{nodes_of, IsSideFault, StandsInSide}
 
 contains_here : (tree : Tree) (trees : List Tree) → Contains (tree ∷ trees) tree

@@ -6,12 +6,12 @@ use Rattle.fond_text.specs.Lists.{each_passes}
 use Rattle.fond_tree.specs.declared.tree.Tree.{Tree}
 use Rattle.fond_tree.specs.Trees.{members_of, leaf_of, is_node}
 use Rattle.fond_ast.specs.declared.names.Kind.{Kind}
-use Rattle.fond_grammar.specs.Words.{is_word}
-use Rattle.fond_grammar.specs.declared.role.Role.TheVariants as role
-use Rattle.fond_grammar.specs.declared.role.FixedWord.TheVariants as fixed
-use Rattle.fond_grammar.specs.Faults.{Fits}
-use Rattle.fond_grammar.proofs.FittingLeaves.{word_fits}
-use Rattle.fond_grammar.proofs.FittingNodes.{IsEither, either_there}
+use Rattle.fond_tree.specs.Words.{is_word}
+use Rattle.fond_tree.specs.declared.role.Role.TheVariants as role
+use Rattle.fond_tree.specs.declared.role.FixedWord.TheVariants as fixed
+use Rattle.fond_tree.specs.FormFaults.{Fits}
+use Rattle.fond_tree.proofs.FittingLeaves.{word_fits}
+use Rattle.fond_tree.proofs.FittingNodes.{IsEither, either_there}
 use Rattle.fond_reader.specs.Forms.{is_form}
 use Rattle.fond_reader.specs.Nodes.{is_headed}
 use Rattle.fond_reader.specs.Sorts.{type_role}

@@ -4,8 +4,8 @@ use Rattle.fond_ast.specs.declared.names.TypedName.{TypedName}
 use Rattle.fond_ast.specs.declared.syntax.Cond.{Cond, Truth}
 use Rattle.fond_ast.specs.declared.syntax.Effect.{Effect, Nothing}
 use Rattle.fond_tree.specs.declared.tree.Tree.{Tree}
-use Rattle.fond_grammar.specs.declared.role.Role.{Role}
-use Rattle.fond_grammar.specs.Faults.{Fits}
+use Rattle.fond_tree.specs.declared.role.Role.{Role}
+use Rattle.fond_tree.specs.FormFaults.{Fits}
 use Rattle.fond_reader.specs.Files.{AreParameters, IsPrecondition, IsKeyedEffect}
 use Rattle.fond_reader.specs.Nodes.{FitsOnce}
 use Rattle.fond_reader.specs.Typed.{is_variable_list}

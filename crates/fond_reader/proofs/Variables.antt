@@ -3,9 +3,9 @@ use Rattle.std.proofs.Common.{◌≡◌, true, false, List, Some, Result, IfOk, 
 use Rattle.fond_tree.specs.declared.tree.Tree.{Tree}
 use Rattle.fond_tree.specs.Trees.{members_of}
 use Rattle.fond_ast.specs.declared.names.TypedName.{TypedName}
-use Rattle.fond_grammar.specs.declared.role.Role.TheVariants as role
-use Rattle.fond_grammar.specs.Faults.{Fits}
-use Rattle.fond_grammar.proofs.FittingNodes.{variables_there}
+use Rattle.fond_tree.specs.declared.role.Role.TheVariants as role
+use Rattle.fond_tree.specs.FormFaults.{Fits}
+use Rattle.fond_tree.proofs.FittingNodes.{variables_there}
 use Rattle.fond_reader.specs.Sorts.{FitsTyped, are_read_from}
 use Rattle.fond_reader.specs.Typed.{typed_leaves, is_variable_list}
 use Rattle.fond_reader.specs.declared.typed.Sort.TheVariants.{Variables}

@@ -13,8 +13,8 @@ use Rattle.fond_ast.specs.declared.syntax.Cond.TheFolds.{fold-Cond}
 use Rattle.fond_ast.specs.declared.syntax.Effect.{Effect}
 use Rattle.fond_ast.specs.declared.syntax.Effect.TheOpen as effect
 use Rattle.fond_ast.specs.declared.syntax.Effect.TheFolds.{fold-Effect}
-use Rattle.fond_grammar.specs.Roles.{is_term as is_term_leaf}
-use Rattle.fond_grammar.specs.Words.{is_variable}
+use Rattle.fond_tree.specs.Roles.{is_term as is_term_leaf}
+use Rattle.fond_tree.specs.Words.{is_variable}
 use Rattle.fond_reader.specs.Forms.{is_place, is_sorted, is_named, is_unit, is_form}
 use Rattle.fond_reader.specs.Typed.{is_variable_list}
 

@@ -10,11 +10,11 @@ use Rattle.fond_ast.specs.declared.files.Schema.{Schema}
 use Rattle.fond_ast.specs.declared.names.TypedName.{TypedName}
 use Rattle.fond_ast.specs.declared.syntax.Cond.{Cond, Truth}
 use Rattle.fond_ast.specs.declared.syntax.Effect.{Effect, Nothing}
-use Rattle.fond_grammar.specs.Words.{is_name, is_word, has_head}
+use Rattle.fond_tree.specs.Words.{is_name, is_word, has_head}
 use Rattle.fond_tree.specs.Trees.{head_of, members_of, leaf_of, place_of}
-use Rattle.fond_grammar.specs.Roles.{passed_over, action_keys, is_headed_by}
-use Rattle.fond_grammar.specs.Parts.{are_pairs}
-use Rattle.fond_grammar.specs.Faults.{keys, single_in_domain, single_in_problem}
+use Rattle.fond_tree.specs.Roles.{passed_over, action_keys, is_headed_by}
+use Rattle.fond_tree.specs.Parts.{are_pairs}
+use Rattle.fond_tree.specs.FormFaults.{keys, single_in_domain, single_in_problem}
 use Rattle.fond_reader.specs.Forms.{is_named, is_only}
 use Rattle.fond_reader.specs.Typed.{are_names, are_variables, is_variable_list}
 use Rattle.fond_reader.specs.Bodies.{is_condition, is_effect, is_initial}

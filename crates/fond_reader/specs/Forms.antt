@@ -3,7 +3,7 @@ use Rattle.std.specs.Prelude.{ℕ, ◌==◌, ◌&&◌, Bool, false, List, [], �
 use Rattle.fond_text.specs.Lists.{each_passes}
 use Rattle.fond_text.specs.declared.place.Place.{Place}
 use Rattle.fond_tree.specs.declared.tree.Tree.{Tree}
-use Rattle.fond_grammar.specs.Words.{is_name, is_word}
+use Rattle.fond_tree.specs.Words.{is_name, is_word}
 use Rattle.fond_tree.specs.Trees.{members_of, leaf_of, place_of}
 
 -- whether two places are the same

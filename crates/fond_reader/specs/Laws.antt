@@ -5,7 +5,7 @@ use Rattle.fond_ast.specs.declared.files.Domain.{Domain}
 use Rattle.fond_ast.specs.declared.files.Problem.{Problem}
 use Rattle.fond_tree.specs.declared.tree.Tree.{Tree}
 use Rattle.fond_tree.specs.Spelling.{spelling}
-use Rattle.fond_grammar.specs.Faults.{StandsInDomain, StandsInProblem}
+use Rattle.fond_tree.specs.FormFaults.{StandsInDomain, StandsInProblem}
 use Rattle.fond_reader.specs.Files.{IsDomainOf, IsProblemOf}
 use Rattle.fond_text.specs.Faults.{IsClean}
 

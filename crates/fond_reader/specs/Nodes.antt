@@ -3,11 +3,11 @@ use Rattle.std.specs.Prelude.{◌≡◌, Bool, true, false, List, [], ◌∷◌,
 use Rattle.std.specs.List.{list_all}
 use Rattle.fond_tree.specs.declared.tree.Tree.{Tree}
 use Rattle.fond_tree.specs.Trees.{members_of, leaf_of}
-use Rattle.fond_grammar.specs.declared.role.Role.{Role}
-use Rattle.fond_grammar.specs.declared.role.Role.TheVariants.{Condition, Effect, Variables}
-use Rattle.fond_grammar.specs.Faults.{Fits, after_header, keys}
-use Rattle.fond_grammar.specs.Parts.{are_pairs}
-use Rattle.fond_grammar.specs.Roles.{action_keys, is_headed_by}
+use Rattle.fond_tree.specs.declared.role.Role.{Role}
+use Rattle.fond_tree.specs.declared.role.Role.TheVariants.{Condition, Effect, Variables}
+use Rattle.fond_tree.specs.FormFaults.{Fits, after_header, keys}
+use Rattle.fond_tree.specs.Parts.{are_pairs}
+use Rattle.fond_tree.specs.Roles.{action_keys, is_headed_by}
 use Rattle.fond_reader.specs.Files.{values}
 
 -- whether there are members, and at least one

@@ -12,8 +12,8 @@ use Rattle.fond_tree.specs.Trees.{is_node}
 use Rattle.fond_ast.specs.declared.files.Pattern.{Pattern}
 use Rattle.fond_ast.specs.declared.files.Side.{Side}
 use Rattle.fond_ast.specs.declared.names.Kind.{Kind}
-use Rattle.fond_grammar.specs.declared.role.Role.TheVariants.{Atom}
-use Rattle.fond_grammar.specs.Faults.{Stands}
+use Rattle.fond_tree.specs.declared.role.Role.TheVariants.{Atom}
+use Rattle.fond_tree.specs.FormFaults.{Stands}
 use Rattle.fond_reader.specs.Bodies.{is_atom}
 use Rattle.fond_reader.specs.Forms.{is_sorted}
 

@@ -5,11 +5,11 @@ use Rattle.fond_text.specs.Lists.{each_passes}
 use Rattle.fond_tree.specs.declared.tree.Tree.{Tree}
 use Rattle.fond_ast.specs.declared.names.Kind.{Kind}
 use Rattle.fond_ast.specs.declared.names.TypedName.{TypedName}
-use Rattle.fond_grammar.specs.declared.role.Role.{Role}
-use Rattle.fond_grammar.specs.declared.role.Role.TheVariants.{Name, Variable, VariableType}
-use Rattle.fond_grammar.specs.Faults.{Fits}
-use Rattle.fond_grammar.specs.Parts.{typed}
-use Rattle.fond_grammar.specs.Words.{is_name, is_variable}
+use Rattle.fond_tree.specs.declared.role.Role.{Role}
+use Rattle.fond_tree.specs.declared.role.Role.TheVariants.{Name, Variable, VariableType}
+use Rattle.fond_tree.specs.FormFaults.{Fits}
+use Rattle.fond_tree.specs.Parts.{typed}
+use Rattle.fond_tree.specs.Words.{is_name, is_variable}
 use Rattle.fond_reader.specs.Typed.{TypedLeaf, typed_leaves, is_one_kind, are_kinds, is_declared_by}
 use Rattle.fond_reader.specs.declared.typed.Sort.{Sort}
 use Rattle.fond_reader.specs.declared.typed.Sort.TheVariants.{Names, Variables}

@@ -8,8 +8,8 @@ use Rattle.fond_tree.specs.declared.tree.Tree.{Tree}
 use Rattle.fond_tree.specs.Trees.{members_of}
 use Rattle.fond_ast.specs.declared.names.Kind.{Kind}
 use Rattle.fond_ast.specs.declared.names.TypedName.{TypedName}
-use Rattle.fond_grammar.specs.Words.{is_name, is_variable}
-use Rattle.fond_grammar.specs.Parts.{is_dash}
+use Rattle.fond_tree.specs.Words.{is_name, is_variable}
+use Rattle.fond_tree.specs.Parts.{is_dash}
 use Rattle.fond_reader.specs.Forms.{is_place, is_sorted, is_named, is_form}
 
 -- a leaf of a typed list, and its type, if one is written

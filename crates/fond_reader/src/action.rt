@@ -1,8 +1,8 @@
 //! Reading actions that have no fault.
 
-ghost use Rattle.fond_grammar.specs.Faults.{Fits};
-ghost use Rattle.fond_grammar.specs.Words.{has_head};
-ghost use Rattle.fond_grammar.specs.declared.role.Role.TheVariants.{Condition as ConditionRole, DomainSection as DomainSectionRole, Effect as EffectRole, Name as NameRole, Variables as VariablesRole};
+ghost use Rattle.fond_tree.specs.FormFaults.{Fits};
+ghost use Rattle.fond_tree.specs.Words.{has_head};
+ghost use Rattle.fond_tree.specs.declared.role.Role.TheVariants.{Condition as ConditionRole, DomainSection as DomainSectionRole, Effect as EffectRole, Name as NameRole, Variables as VariablesRole};
 ghost use Rattle.fond_reader.specs.Files.{values, AreParameters, IsPrecondition, IsKeyedEffect, IsSchemaOf};
 ghost use Rattle.fond_reader.specs.Nodes.{FitsOnce, FitsPairs};
 ghost use Rattle.fond_tree.specs.Trees.{members_of};
@@ -18,8 +18,8 @@ use crate::typed::read_variables;
 use fond_ast::files::Schema;
 use fond_ast::names::TypedNames;
 use fond_ast::syntax::{Cond, Effect};
-use fond_grammar::leaves::is_leaf;
 use fond_text::fault::NoMemory;
+use fond_tree::leaves::is_leaf;
 use fond_tree::tree::Tree;
 use std::alloc::Global;
 

@@ -1,7 +1,7 @@
 //! Reading atoms that have no fault.
 
-ghost use Rattle.fond_grammar.specs.Faults.{Fits};
-ghost use Rattle.fond_grammar.specs.declared.role.Role.TheVariants.{Term as TermRole, Atom as AtomRole};
+ghost use Rattle.fond_tree.specs.FormFaults.{Fits};
+ghost use Rattle.fond_tree.specs.declared.role.Role.TheVariants.{Term as TermRole, Atom as AtomRole};
 ghost use Rattle.fond_reader.specs.Bodies.{is_atom, is_term};
 ghost use Rattle.fond_text.specs.Lists.{each_passes};
 ghost use Rattle.std.specs.List.{AllByRecursion, AllZip};
@@ -9,8 +9,8 @@ ghost use Rattle.std.specs.Prelude.{◌≡◌, ◌∷◌, [], true, map, IfOk};
 
 use crate::node::{head_and_rest, read_leaf};
 use fond_ast::names::{ReadAtom, Term, Terms};
-use fond_grammar::leaves::is_variable;
 use fond_text::fault::NoMemory;
+use fond_tree::leaves::is_variable;
 use fond_tree::tree::Tree;
 use std::alloc::Global;
 

@@ -1,7 +1,7 @@
 //! Reading conditions that have no fault.
 
-ghost use Rattle.fond_grammar.specs.Faults.{Fits};
-ghost use Rattle.fond_grammar.specs.declared.role.Role.TheVariants.{Condition as ConditionRole, Variables as VariablesRole, Term as TermRole};
+ghost use Rattle.fond_tree.specs.FormFaults.{Fits};
+ghost use Rattle.fond_tree.specs.declared.role.Role.TheVariants.{Condition as ConditionRole, Variables as VariablesRole, Term as TermRole};
 ghost use Rattle.fond_reader.specs.Bodies.{is_condition, is_term};
 ghost use Rattle.fond_reader.specs.Typed.{is_variable_list};
 ghost use Rattle.fond_text.specs.Lists.{each_passes};
@@ -13,8 +13,8 @@ use crate::node::word_of;
 use crate::typed::read_variables;
 use fond_ast::names::{Term, TypedNames};
 use fond_ast::syntax::Cond;
-use fond_grammar::leaves::is_word;
 use fond_text::fault::NoMemory;
+use fond_tree::leaves::is_word;
 use fond_tree::tree::Tree;
 use std::alloc::Global;
 

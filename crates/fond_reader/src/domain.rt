@@ -1,7 +1,7 @@
 //! Reading a tree as a domain.
 
-ghost use Rattle.fond_grammar.specs.Faults.{Fits, StandsInDomain};
-ghost use Rattle.fond_grammar.specs.declared.role.Role.TheVariants.{DomainFile as DomainRole, DomainSection as DomainSectionRole};
+ghost use Rattle.fond_tree.specs.FormFaults.{Fits, StandsInDomain};
+ghost use Rattle.fond_tree.specs.declared.role.Role.TheVariants.{DomainFile as DomainRole, DomainSection as DomainSectionRole};
 ghost use Rattle.fond_reader.specs.Files.{IsDomainOf, AreSchemasOf, contents, headed};
 ghost use Rattle.fond_reader.specs.Sorts.{FitsTyped};
 ghost use Rattle.fond_reader.specs.Typed.{are_names};
@@ -19,11 +19,11 @@ use crate::section::{contents_of, sections_of};
 use crate::typed::{Sort, read_typed};
 use fond_ast::files::{Domain, Schemas};
 use fond_ast::names::TypedNames;
-use fond_grammar::fault::first_fault;
-use fond_grammar::leaves::begins;
-use fond_grammar::role::Role;
 use fond_text::fault::{Fault, FrontError, NoMemory};
 use fond_text::place::FileKind;
+use fond_tree::fault::first_fault;
+use fond_tree::leaves::begins;
+use fond_tree::role::Role;
 use fond_tree::tree::Tree;
 use std::alloc::Global;
 

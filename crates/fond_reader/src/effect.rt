@@ -1,7 +1,7 @@
 //! Reading effects that have no fault.
 
-ghost use Rattle.fond_grammar.specs.Faults.{Fits};
-ghost use Rattle.fond_grammar.specs.declared.role.Role.TheVariants.{Condition as ConditionRole, Effect as EffectRole, Variables as VariablesRole};
+ghost use Rattle.fond_tree.specs.FormFaults.{Fits};
+ghost use Rattle.fond_tree.specs.declared.role.Role.TheVariants.{Condition as ConditionRole, Effect as EffectRole, Variables as VariablesRole};
 ghost use Rattle.fond_reader.specs.Bodies.{is_condition, is_effect};
 ghost use Rattle.fond_reader.specs.Typed.{is_variable_list};
 ghost use Rattle.fond_text.specs.Lists.{each_passes};
@@ -14,8 +14,8 @@ use crate::node::word_of;
 use crate::typed::read_variables;
 use fond_ast::names::TypedNames;
 use fond_ast::syntax::{Cond, Effect};
-use fond_grammar::leaves::is_word;
 use fond_text::fault::NoMemory;
+use fond_tree::leaves::is_word;
 use fond_tree::tree::Tree;
 use std::alloc::Global;
 

@@ -1,7 +1,7 @@
 //! Reading initial atoms and declared predicates that have no fault.
 
-ghost use Rattle.fond_grammar.specs.Faults.{Fits};
-ghost use Rattle.fond_grammar.specs.declared.role.Role.TheVariants.{Initial as InitialRole, Predicate as PredicateRole};
+ghost use Rattle.fond_tree.specs.FormFaults.{Fits};
+ghost use Rattle.fond_tree.specs.declared.role.Role.TheVariants.{Initial as InitialRole, Predicate as PredicateRole};
 ghost use Rattle.fond_reader.specs.Bodies.{is_initial};
 ghost use Rattle.fond_reader.specs.Files.{is_declared};
 ghost use Rattle.fond_text.specs.Lists.{each_passes};
@@ -12,8 +12,8 @@ use crate::atom::{read_atom, read_only_atom};
 use crate::node::{head_and_rest, read_leaf, word_of};
 use crate::typed::{Sort, read_typed};
 use fond_ast::files::{Declared, DeclaredList, InitAtom, InitAtoms};
-use fond_grammar::leaves::is_word;
 use fond_text::fault::NoMemory;
+use fond_tree::leaves::is_word;
 use fond_tree::tree::Tree;
 use std::alloc::Global;
 

@@ -1,7 +1,7 @@
 //! Reading a tree as a problem.
 
-ghost use Rattle.fond_grammar.specs.Faults.{Fits, StandsInProblem};
-ghost use Rattle.fond_grammar.specs.declared.role.Role.TheVariants.{Condition as ConditionRole, ProblemFile as ProblemRole};
+ghost use Rattle.fond_tree.specs.FormFaults.{Fits, StandsInProblem};
+ghost use Rattle.fond_tree.specs.declared.role.Role.TheVariants.{Condition as ConditionRole, ProblemFile as ProblemRole};
 ghost use Rattle.fond_reader.specs.Bodies.{is_condition};
 ghost use Rattle.fond_reader.specs.Files.{IsProblemOf};
 ghost use Rattle.fond_text.specs.Faults.{IsClean, IsLeastIn, Refuses};
@@ -18,10 +18,10 @@ use crate::section::{contents_of, sections_of};
 use crate::typed::{Sort, read_typed};
 use fond_ast::files::Problem;
 use fond_ast::syntax::Cond;
-use fond_grammar::fault::first_fault;
-use fond_grammar::role::Role;
 use fond_text::fault::{Fault, FrontError, NoMemory};
 use fond_text::place::FileKind;
+use fond_tree::fault::first_fault;
+use fond_tree::role::Role;
 use fond_tree::tree::Tree;
 use std::alloc::Global;
 

@@ -1,11 +1,11 @@
 //! The sections of a file that has no fault, by their heads.
 
-ghost use Rattle.fond_grammar.specs.Words.{has_head};
+ghost use Rattle.fond_tree.specs.Words.{has_head};
 ghost use Rattle.fond_reader.specs.Files.{headed, content, contents};
 ghost use Rattle.fond_reader.specs.Nodes.{sections_of as sections_of_file};
 ghost use Rattle.std.specs.Prelude.{◌≡◌, ◌≤◌, length};
 
-use fond_grammar::leaves::begins;
+use fond_tree::leaves::begins;
 use fond_tree::tree::Tree;
 
 /// The members of a node after its head.

@@ -1,7 +1,7 @@
 //! Reading a side list.
 
-ghost use Rattle.fond_grammar.specs.Faults.{Fits};
-ghost use Rattle.fond_grammar.specs.declared.role.Role.TheVariants.{Atom as AtomRole};
+ghost use Rattle.fond_tree.specs.FormFaults.{Fits};
+ghost use Rattle.fond_tree.specs.declared.role.Role.TheVariants.{Atom as AtomRole};
 ghost use Rattle.fond_reader.specs.Sides.{IsSideFault, IsSideOf, IsSideOfText, StandsInSide, is_leaf, is_pattern, leaves_of, nodes_of};
 ghost use Rattle.fond_text.specs.Faults.{IsClean, IsLeastIn, Refuses};
 ghost use Rattle.fond_text.specs.Firsts.{IsFirst};
@@ -16,12 +16,12 @@ use crate::atom::read_atom;
 use crate::node::read_leaf;
 use fond_ast::files::{Pattern, Patterns, Side};
 use fond_ast::names::{Kind, Kinds, ReadAtom};
-use fond_grammar::fault::first_fault;
-use fond_grammar::role::Role;
 use fond_text::fault::{Fault, FrontError, NoMemory};
 use fond_text::first::{Found, earlier};
 use fond_text::place::FileKind;
+use fond_tree::fault::first_fault;
 use fond_tree::read::read_forest;
+use fond_tree::role::Role;
 use fond_tree::tree::Tree;
 use std::alloc::Global;
 

@@ -1,8 +1,8 @@
 //! Reading typed lists that have no fault, group by group: the leaves before a `-`, and their type.
 
-ghost use Rattle.fond_grammar.specs.Faults.{Fits};
-ghost use Rattle.fond_grammar.specs.Parts.{is_dash as is_dash_tree};
-ghost use Rattle.fond_grammar.specs.declared.role.Role.TheVariants.{Name as NameRole, VariableType as VariableTypeRole, Variables as VariablesRole};
+ghost use Rattle.fond_tree.specs.FormFaults.{Fits};
+ghost use Rattle.fond_tree.specs.Parts.{is_dash as is_dash_tree};
+ghost use Rattle.fond_tree.specs.declared.role.Role.TheVariants.{Name as NameRole, VariableType as VariableTypeRole, Variables as VariablesRole};
 ghost use Rattle.fond_reader.specs.Files.{is_name_leaf};
 ghost use Rattle.fond_reader.specs.Sorts.{leaf_role, type_role, type_test, FitsTyped, is_read_from, are_read_from, typed_leaf, AddsLeaves, AddsTyped};
 ghost use Rattle.fond_reader.specs.Typed.{is_kind, is_one_kind, are_kinds, is_object_alone, have_type, typed_leaves, is_variable_list};
@@ -14,10 +14,10 @@ ghost use Rattle.std.specs.Prelude.{◌≡◌, ◌<◌, ℕ, not, true, false, l
 
 use crate::node::{head_and_rest, members_of, read_leaf};
 use fond_ast::names::{Kind, Kinds, TypedName, TypedNames};
-use fond_grammar::leaves::is_dash;
 use fond_text::fault::NoMemory;
 use fond_text::name::Name;
 use fond_text::place::Place;
+use fond_tree::leaves::is_dash;
 use fond_tree::tree::Tree;
 use std::alloc::Global;
 

@@ -1,11 +1,26 @@
+pub mod Again
+pub mod Among
 pub mod Balanced
+pub mod Fitting
+pub mod FittingActions
+pub mod FittingLeaves
+pub mod FittingNodes
+pub mod FormFits
+pub mod Heads
+pub mod Incomplete
 pub mod Members
 pub mod NoTree
+pub mod Once
 pub mod OneFault
 pub mod OneTree
+pub mod Pairs
 pub mod Places
 pub mod Right
+pub mod RoleMembers
+pub mod Sections
 pub mod Short
+pub mod Steps
 pub mod Stopped
 pub mod Trees
+pub mod TypedLists
 mod Worked

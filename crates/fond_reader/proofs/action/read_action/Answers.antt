@@ -1,4 +1,4 @@
-use Rattle.fond_grammar.proofs.FittingActions.{action_there}
+use Rattle.fond_tree.proofs.FittingActions.{action_there}
 use Rattle.fond_reader.specs.Files.{IsSchemaOf}
 use Rattle.fond_reader.proofs.Actions.{after_some, name_fits_here, pairs_fit_here, whole_here}
 use Rattle.fond_reader.proofs.Through.{if_ok}

@@ -1,6 +1,6 @@
 use Rattle.std.proofs.Common.{List, codes}
 use Rattle.fond_tree.specs.declared.tree.Tree.{Tree}
-use Rattle.fond_grammar.specs.declared.role.Role.TheVariants as role
+use Rattle.fond_tree.specs.declared.role.Role.TheVariants as role
 use Rattle.fond_reader.specs.Files.{values, AreParameters}
 use Rattle.fond_reader.proofs.Through.{if_ok}
 use Rattle.fond_reader.proofs.Values.{no_parameters, one_list, value_alone, value_fits}

@@ -1,6 +1,6 @@
 use Rattle.std.proofs.Common.{List, codes}
 use Rattle.fond_tree.specs.declared.tree.Tree.{Tree}
-use Rattle.fond_grammar.specs.declared.role.Role.TheVariants as role
+use Rattle.fond_tree.specs.declared.role.Role.TheVariants as role
 use Rattle.fond_reader.specs.Files.{values, IsPrecondition}
 use Rattle.fond_reader.proofs.Through.{if_ok}
 use Rattle.fond_reader.proofs.Values.{no_precondition, one_precondition, value_alone, value_fits}

@@ -1,7 +1,7 @@
-use Rattle.fond_grammar.specs.Words.{is_name}
-use Rattle.fond_grammar.proofs.FittingLeaves.{name_fits}
-use Rattle.fond_grammar.proofs.FittingNodes.{atom_there}
-use Rattle.fond_grammar.proofs.Heads.{atom_fits}
+use Rattle.fond_tree.specs.Words.{is_name}
+use Rattle.fond_tree.proofs.FittingLeaves.{name_fits}
+use Rattle.fond_tree.proofs.FittingNodes.{atom_there}
+use Rattle.fond_tree.proofs.Heads.{atom_fits}
 use Rattle.fond_reader.proofs.Named.{headed_of, no_node_of, sorted_at, atom_read}
 use Rattle.fond_reader.proofs.atom.read_atom.Goals as goal
 

@@ -1,7 +1,7 @@
 use Rattle.std.proofs.Common.{ap, ◌∙◌}
-use Rattle.fond_grammar.specs.Roles.{is_term}
-use Rattle.fond_grammar.specs.Words.{is_variable}
-use Rattle.fond_grammar.proofs.FittingLeaves.{term_fits}
+use Rattle.fond_tree.specs.Roles.{is_term}
+use Rattle.fond_tree.specs.Words.{is_variable}
+use Rattle.fond_tree.proofs.FittingLeaves.{term_fits}
 use Rattle.fond_reader.proofs.Named.{no_node_of, sorted_at, same_truth}
 use Rattle.fond_reader.proofs.Through.{both_hold}
 use Rattle.fond_reader.proofs.atom.read_term.Goals as goal

@@ -1,6 +1,6 @@
 use Rattle.std.proofs.Common.{drop}
-use Rattle.fond_grammar.specs.declared.role.Role.TheVariants.{Term}
-use Rattle.fond_grammar.specs.Faults.{Fits}
+use Rattle.fond_tree.specs.declared.role.Role.TheVariants.{Term}
+use Rattle.fond_tree.specs.FormFaults.{Fits}
 use Rattle.fond_reader.specs.Bodies.{is_term}
 use Rattle.fond_reader.proofs.Through.{Through}
 use Rattle.fond_reader.proofs.atom.read_terms.Given as goal

@@ -1,7 +1,7 @@
 use Rattle.std.proofs.Common.{codes, map, refl, sym, subst, arith}
 use Rattle.std.specs.List.{AllByRecursion}
-use Rattle.fond_grammar.specs.declared.role.Role.TheVariants as role
-use Rattle.fond_grammar.specs.Faults.{Fits}
+use Rattle.fond_tree.specs.declared.role.Role.TheVariants as role
+use Rattle.fond_tree.specs.FormFaults.{Fits}
 use Rattle.fond_reader.specs.Files.{is_declared}
 use Rattle.fond_reader.proofs.Counts.{names_of_one_kind}
 use Rattle.fond_reader.proofs.FileFacts.{short_sections, names_few, predicates_few, schemas_counted, variables_few, each_along}

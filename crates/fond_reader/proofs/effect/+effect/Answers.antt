@@ -1,9 +1,9 @@
 use Rattle.std.proofs.Common.{arith, sym, refl, [], ◌∷◌}
 use Rattle.fond_ast.specs.declared.syntax.Effect.TheVariants as made
-use Rattle.fond_grammar.specs.declared.role.Role.TheVariants as role
-use Rattle.fond_grammar.specs.Faults.{Fits}
-use Rattle.fond_grammar.proofs.Fitting.{node_there}
-use Rattle.fond_grammar.proofs.Heads.{effect_head, effects_fit, delete_fits, forall_effect_fits, when_fits, choice_fits, effect_atom}
+use Rattle.fond_tree.specs.declared.role.Role.TheVariants as role
+use Rattle.fond_tree.specs.FormFaults.{Fits}
+use Rattle.fond_tree.proofs.Fitting.{node_there}
+use Rattle.fond_tree.proofs.Heads.{effect_head, effects_fit, delete_fits, forall_effect_fits, when_fits, choice_fits, effect_atom}
 use Rattle.fond_reader.specs.Bodies.{is_atom, is_condition, is_effect}
 use Rattle.fond_reader.specs.Typed.{is_variable_list}
 use Rattle.fond_reader.proofs.Named.{no_node}

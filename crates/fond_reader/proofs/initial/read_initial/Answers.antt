@@ -1,6 +1,6 @@
 use Rattle.std.proofs.Common.{◌∷◌, [], sym}
-use Rattle.fond_grammar.proofs.FittingNodes.{initial_there}
-use Rattle.fond_grammar.proofs.Heads.{HasHead, initial_head, negated_fits, initial_atom}
+use Rattle.fond_tree.proofs.FittingNodes.{initial_there}
+use Rattle.fond_tree.proofs.Heads.{HasHead, initial_head, negated_fits, initial_atom}
 use Rattle.fond_reader.specs.Bodies.{is_atom}
 use Rattle.fond_reader.proofs.Named.{headed_of, no_node}
 use Rattle.fond_reader.proofs.Operators.{operands_read}

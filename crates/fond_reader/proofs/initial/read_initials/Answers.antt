@@ -1,7 +1,7 @@
 use Rattle.std.proofs.Common.{arith}
 use Rattle.std.proofs.lemmas.Grind.{common_steps}
-use Rattle.fond_grammar.specs.declared.role.Role.TheVariants.{Initial}
-use Rattle.fond_grammar.specs.Faults.{Fits}
+use Rattle.fond_tree.specs.declared.role.Role.TheVariants.{Initial}
+use Rattle.fond_tree.specs.FormFaults.{Fits}
 use Rattle.fond_reader.specs.Bodies.{is_initial}
 use Rattle.fond_reader.proofs.Through.{at_start, next_fits, one_more, at_end}
 use Rattle.fond_reader.proofs.initial.read_initials.Goals as goal

@@ -1,8 +1,8 @@
 use Rattle.std.proofs.Common.{ap, ◌∙◌}
-use Rattle.fond_grammar.specs.Words.{is_name}
-use Rattle.fond_grammar.proofs.FittingLeaves.{name_fits}
-use Rattle.fond_grammar.proofs.FittingNodes.{predicate_there}
-use Rattle.fond_grammar.proofs.Heads.{predicate_fits}
+use Rattle.fond_tree.specs.Words.{is_name}
+use Rattle.fond_tree.proofs.FittingLeaves.{name_fits}
+use Rattle.fond_tree.proofs.FittingNodes.{predicate_there}
+use Rattle.fond_tree.proofs.Heads.{predicate_fits}
 use Rattle.fond_reader.specs.Files.{are_of_declared}
 use Rattle.fond_reader.proofs.Named.{headed_of, no_node_of, sorted_at}
 use Rattle.fond_reader.proofs.Through.{both_hold}

@@ -1,7 +1,7 @@
 use Rattle.std.proofs.Common.{[], ◌∷◌, codes, map, refl, sym, subst, arith}
 use Rattle.std.specs.List.{AllByRecursion, AllZip}
-use Rattle.fond_grammar.specs.declared.role.Role.TheVariants as role
-use Rattle.fond_grammar.specs.Faults.{Fits}
+use Rattle.fond_tree.specs.declared.role.Role.TheVariants as role
+use Rattle.fond_tree.specs.FormFaults.{Fits}
 use Rattle.fond_reader.specs.Bodies.{is_condition, is_initial}
 use Rattle.fond_reader.specs.Sorts.{FitsTyped}
 use Rattle.fond_reader.specs.declared.typed.Sort.TheVariants.{Names}

@@ -1,5 +1,5 @@
 use Rattle.std.proofs.Common.{[]}
-use Rattle.fond_grammar.specs.declared.role.Role.TheVariants as role
+use Rattle.fond_tree.specs.declared.role.Role.TheVariants as role
 use Rattle.fond_reader.proofs.Operators.{first_of}
 use Rattle.fond_reader.proofs.problem.read_goal.Goals as goal
 

@@ -1,6 +1,6 @@
 use Rattle.std.proofs.Common.{not, Some, arith}
 use Rattle.std.proofs.lemmas.List.Sums.{prefix_len-le-length}
-use Rattle.fond_grammar.specs.Parts.{is_dash}
+use Rattle.fond_tree.specs.Parts.{is_dash}
 use Rattle.fond_reader.proofs.Groups.{group_of, last_fits, group_fits, no_last_dash, adds_last, adds_group}
 use Rattle.fond_reader.proofs.Lengths.{none_below, one_below, two_and_rest}
 use Rattle.fond_reader.proofs.typed.push_group.Goals as goal

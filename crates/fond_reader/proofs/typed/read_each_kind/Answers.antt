@@ -1,7 +1,7 @@
 use Rattle.std.proofs.Common.{arith}
 use Rattle.std.proofs.lemmas.Grind.{common_steps}
-use Rattle.fond_grammar.specs.declared.role.Role.TheVariants.{Name}
-use Rattle.fond_grammar.specs.Faults.{Fits}
+use Rattle.fond_tree.specs.declared.role.Role.TheVariants.{Name}
+use Rattle.fond_tree.specs.FormFaults.{Fits}
 use Rattle.fond_reader.specs.Typed.{is_kind}
 use Rattle.fond_reader.proofs.Through.{at_start, next_fits, one_more, at_end}
 use Rattle.fond_reader.proofs.typed.read_each_kind.Goals as goal

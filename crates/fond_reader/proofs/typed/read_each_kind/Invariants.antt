@@ -1,6 +1,6 @@
 use Rattle.std.proofs.Common.{drop}
-use Rattle.fond_grammar.specs.declared.role.Role.TheVariants.{Name}
-use Rattle.fond_grammar.specs.Faults.{Fits}
+use Rattle.fond_tree.specs.declared.role.Role.TheVariants.{Name}
+use Rattle.fond_tree.specs.FormFaults.{Fits}
 use Rattle.fond_reader.specs.Typed.{is_kind}
 use Rattle.fond_reader.proofs.Through.{Through}
 use Rattle.fond_reader.proofs.typed.read_each_kind.Given as goal

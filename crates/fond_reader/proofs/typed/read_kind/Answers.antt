@@ -1,5 +1,5 @@
-use Rattle.fond_grammar.specs.Words.{is_name}
-use Rattle.fond_grammar.proofs.FittingLeaves.{name_fits}
+use Rattle.fond_tree.specs.Words.{is_name}
+use Rattle.fond_tree.proofs.FittingLeaves.{name_fits}
 use Rattle.fond_reader.proofs.Named.{no_node_of, sorted_at}
 use Rattle.fond_reader.proofs.typed.read_kind.Goals as goal
 

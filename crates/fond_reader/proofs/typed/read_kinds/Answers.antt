@@ -1,6 +1,6 @@
 use Rattle.std.proofs.Common.{sym}
 use Rattle.fond_reader.proofs.TypeNames.{either_headed, either_names, either_read}
-use Rattle.fond_grammar.proofs.FittingNodes.{type_name}
+use Rattle.fond_tree.proofs.FittingNodes.{type_name}
 use Rattle.fond_reader.proofs.typed.read_kinds.Goals as goal
 
 pub read_one_kind-requires : goal.read_one_kind-requires

@@ -1,4 +1,4 @@
-use Rattle.fond_grammar.proofs.FittingNodes.{variables_there}
+use Rattle.fond_tree.proofs.FittingNodes.{variables_there}
 use Rattle.fond_reader.proofs.Named.{node_of}
 use Rattle.fond_reader.proofs.Variables.{variables_fit, variables_read}
 use Rattle.fond_reader.proofs.typed.read_variables.Goals as goal

@@ -1,4 +1,0 @@
-use Rattle.fond_grammar.proofs.walk.Pending.next.Goals as goal
-
-pub returns-in-Typed : goal.returns-in-Typed
-returns-in-Typed c = rw c.in-Typed.is c.next_typed.ensures

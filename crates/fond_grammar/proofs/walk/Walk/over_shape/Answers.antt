@@ -1,5 +1,0 @@
-use Rattle.fond_grammar.proofs.Members.{roles_then_rest}
-use Rattle.fond_grammar.proofs.walk.Walk.over_shape.Goals as goal
-
-pub returns : goal.returns
-returns c = roles_then_rest c.args.shape.rest c.rest_of.result c.rest_of.ensures c.args.shape.first.now

@@ -1,5 +1,0 @@
-pub mod Words
-pub mod Roles
-pub mod Parts
-pub mod Faults
-pub mod Walks
