@@ -10,8 +10,7 @@ use Rattle.std.proofs.lemmas.Grind.{common_steps}
 use Rattle.std.proofs.lemmas.List.{get_or-set_same, get_or-set_other, length-append}
 use Rattle.std.proofs.lemmas.List.Folds.{list_any-append}
 use Rattle.fond_ast.specs.Ranges.{is_among}
-use Rattle.fond_store.specs.Texts.{number_beside, with_text}
-use Rattle.fond_store.proofs.Firsts.{number_kept}
+use Rattle.fond_store.specs.Texts.{number_beside, InsertsText}
 use Rattle.fond_ast.proofs.Bools.{or-left, or-right}
 use Rattle.fond_text.specs.declared.atom.Atom.{Atom}
 use Rattle.std.proofs.lemmas.Option.{get_or_from_slice_get}
@@ -40,34 +39,34 @@ abbrev or_new : Option ℕ → Bool → ℕ → Option ℕ
 or_new found b number = option_or found (if b then Some number else None)
 
 module _ (numbers : List (List ℕ × ℕ)) (lists : List (List ℕ)) (key : List ℕ) (object : ℕ) (numbered : AreNumbered numbers lists) where
-  -- rows with one more row of one object
-  abbrev begun_numbers : List (List ℕ × ℕ)
-  begun_numbers = with_text numbers key (length lists)
-
+  -- the lists with one more list of one object
   abbrev begun_lists : List (List ℕ)
   begun_lists = lists ++ (object ∷ []) ∷ []
 
   longer : length begun_lists ≡ length lists + 1
   longer = length-append lists ((object ∷ []) ∷ [])
 
-  pub begun_numbered : AreNumbered begun_numbers begun_lists
-  begun_numbered other number is = subst (λ n. number < n) (sym longer) (by (number_beside numbers other) refl (bytes_eq key other) (sym (number_kept numbers key (length lists) other) ∙ is))
+  -- each number is that of a list when a key is inserted with the number of one more list
+  pub begun_numbered : (more : List (List ℕ × ℕ)) → InsertsText numbers key (length lists) more → AreNumbered more begun_lists
+  begun_numbered more grown other number is = subst (λ n. number < n) (sym longer) (by (number_beside numbers other) refl (bytes_eq key other) (sym (grown other) ∙ is))
     where
       by : (found : Option ℕ) → number_beside numbers other ≡ found → (b : Bool) → or_new found b (length lists) ≡ Some number → number < length lists + 1
       by (Some old) there b now = let same : old ≡ number = cc in let within = numbered other old there in omega (arith, same, within)
       by None none true now = let same : length lists ≡ number = cc in omega (arith, same)
       by None none false now = cc
 
-  pub begun_grown : IsGrown numbers lists begun_numbers begun_lists
-  begun_grown other x has = ap (λ found. is_among (list_at begun_lists found) x) (number_kept numbers key (length lists) other) ∙ by (number_beside numbers other) refl (bytes_eq key other) has
+  -- no row loses an object when a key is inserted with the number of one more list
+  pub begun_grown : (more : List (List ℕ × ℕ)) → InsertsText numbers key (length lists) more → IsGrown numbers lists more begun_lists
+  begun_grown more grown other x has = ap (λ found. is_among (list_at begun_lists found) x) (grown other) ∙ by (number_beside numbers other) refl (bytes_eq key other) has
     where
       by : (found : Option ℕ) → number_beside numbers other ≡ found → (b : Bool) → is_among (list_at lists found) x ≡ true → is_among (list_at begun_lists (or_new found b (length lists))) x ≡ true
       by (Some old) there b h = ap (λ list. is_among list x) (at_front lists (object ∷ []) old (numbered other old there)) ∙ h
       by None none b h = cc
 
-  pub begun_added : number_beside numbers key ≡ None → is_among (row_at begun_numbers begun_lists key) object ≡ true
-  begun_added none =
-      ap (λ found. is_among (list_at begun_lists found) object) (number_kept numbers key (length lists) key ∙ (λ i. or_new (none i) (same_key key i) (length lists)))
+  -- the row of a new key that is inserted with the number of one more list has the object of this list
+  pub begun_added : (more : List (List ℕ × ℕ)) → InsertsText numbers key (length lists) more → number_beside numbers key ≡ None → is_among (row_at more begun_lists key) object ≡ true
+  begun_added more grown none =
+      ap (λ found. is_among (list_at begun_lists found) object) (grown key ∙ (λ i. or_new (none i) (same_key key i) (length lists)))
       ∙ ap (λ list. is_among list object) (at_end lists (object ∷ []))
       ∙ among_last [] object
 

@@ -16,8 +16,7 @@ use Rattle.fond_text.specs.declared.atom.Atom.{Atom}
 use Rattle.fond_ast.specs.Ranges.{objects_of, is_among}
 use Rattle.fond_ast.specs.Within.{is_initial_within}
 use Rattle.fond_ast.specs.declared.task.LPredicate.{LPredicate}
-use Rattle.fond_store.specs.Texts.{number_beside, with_text}
-use Rattle.fond_store.proofs.Firsts.{number_kept}
+use Rattle.fond_store.specs.Texts.{number_beside, InsertsText}
 use Rattle.fond_task.proofs.Found.{all_at}
 use Rattle.fond_ast.specs.States.{atom_cmp, atoms_of}
 use Rattle.fond_ast.proofs.Atoms.{atom_cmp_total}
@@ -39,23 +38,22 @@ found_or (Some other) false number = refl
 pub tied : (predicate : ℕ) (objects : List ℕ) (atom : Atom) → eq_by_cmp atom_cmp (record { predicate = predicate; objects = objects }) atom ≡ (nat_eq predicate atom.predicate && bytes_eq objects atom.objects)
 tied predicate objects atom = sym (texts_ties (predicate ∷ objects) (atom.predicate ∷ atom.objects))
 
-module _ (tables : List (List (List ℕ × ℕ))) (atom : Atom) (number : ℕ) (within : atom.predicate < length tables) where
-  abbrev table : List (List ℕ × ℕ)
-  table = get_or tables atom.predicate []
-
+module _ (tables : List (List (List ℕ × ℕ))) (atom : Atom) (number : ℕ) (entries : List (List ℕ × ℕ)) (within : atom.predicate < length tables) (grown : InsertsText (get_or tables atom.predicate []) atom.objects number entries) where
+  -- the tables with these entries for the predicate of the atom
   abbrev others : List (List (List ℕ × ℕ))
-  others = set tables atom.predicate (with_text table atom.objects number)
+  others = set tables atom.predicate entries
 
   at_own : (predicate : ℕ) (objects : List ℕ) → predicate ≡ atom.predicate → is_entered others predicate objects ≡ (bytes_eq objects atom.objects || is_entered tables predicate objects)
   at_own predicate objects same =
       ap (λ p. is_entered others p objects) same
-      ∙ ap (λ entries. is_some (number_beside entries objects)) (get_or-set_same tables atom.predicate (with_text table atom.objects number) [] within)
-      ∙ ap is_some (number_kept table atom.objects number objects)
-      ∙ found_or (number_beside table objects) (bytes_eq atom.objects objects) number
+      ∙ ap (λ list. is_some (number_beside list objects)) (get_or-set_same tables atom.predicate entries [] within)
+      ∙ ap is_some (grown objects)
+      ∙ found_or (number_beside (get_or tables atom.predicate []) objects) (bytes_eq atom.objects objects) number
       ∙ ap (λ b. b || is_entered tables atom.predicate objects) (nat_list_eq_equiv.symm atom.objects objects)
       ∙ ap (λ p. bytes_eq objects atom.objects || is_entered tables p objects) (sym same)
 
-  pub put_entered : IsEnteredBeside tables atom (set tables atom.predicate (with_text (get_or tables atom.predicate []) atom.objects number))
+  -- an atom is entered when its objects are inserted in the table of its predicate
+  pub put_entered : IsEnteredBeside tables atom (set tables atom.predicate entries)
   put_entered predicate objects =
       let same_test = λ (same : predicate ≡ atom.predicate). let test : nat_eq predicate atom.predicate ≡ true = grind (arith, nat_tests) in test in
       let other_test = λ (other : predicate ≢ atom.predicate). let test : nat_eq predicate atom.predicate ≡ false = grind (arith, nat_tests) in test in
@@ -63,7 +61,7 @@ module _ (tables : List (List (List ℕ × ℕ))) (atom : Atom) (number : ℕ) (
       elim (cases_eq predicate atom.predicate) [
         | inl same ↦ at_own predicate objects same
             ∙ ap (λ b. (b && bytes_eq objects atom.objects) || is_entered tables predicate objects) (sym (same_test same)) ∙ to_tie
-        | inr other ↦ ap (λ entries. is_some (number_beside entries objects)) (get_or-set_other tables atom.predicate predicate (with_text table atom.objects number) [] other)
+        | inr other ↦ ap (λ list. is_some (number_beside list objects)) (get_or-set_other tables atom.predicate predicate entries [] other)
             ∙ ap (λ b. (b && bytes_eq objects atom.objects) || is_entered tables predicate objects) (sym (other_test other)) ∙ to_tie
       ]
 

@@ -1,8 +1,7 @@
-use Rattle.std.proofs.Common.{◌<◌, [], length, set, get_or, sym, ap, subst, ◌∙◌, arith}
+use Rattle.std.proofs.Common.{◌<◌, [], length, get_or, subst, ◌∙◌, arith}
 use Rattle.std.proofs.lemmas.Grind.{common_steps}
 use Rattle.std.proofs.lemmas.List.{get_or_default}
-use Rattle.fond_store.specs.Texts.{with_text}
-use Rattle.fond_join.specs.Tables.{IsEnteredBeside}
+use Rattle.fond_store.specs.Texts.{InsertsText}
 use Rattle.fond_join.proofs.Tables.{put_entered}
 use Rattle.fond_join.proofs.facts.enter.Goals as goal
 
@@ -13,5 +12,6 @@ returns-clause-entered c =
     let within : atom.predicate < length tables = grind (arith, common_steps) in
     let table = c.index_mut.ensures.value ∙ get_or_default tables atom.predicate c.index_mut.result.now [] within in
     let objects = c.in_ok-objects.ensures.items ∙ c.as_slice.ensures in
-    let now = c.in_ok-insert.ensures.ok ∙ ap (λ entries. with_text entries c.in_ok-objects.objects.items 0) table ∙ ap (λ list. with_text (get_or tables atom.predicate []) list 0) objects in
-    subst (λ entries. IsEnteredBeside tables atom (set tables atom.predicate entries)) (sym now) (put_entered tables atom 0 within)
+    let entries = c.insert.new.self in
+    let grown = subst (λ old. InsertsText old c.in_ok-objects.objects.items 0 entries) table c.in_ok-insert.ensures.ok in
+    put_entered tables atom 0 entries within (subst (λ list. InsertsText (get_or tables atom.predicate []) list 0 entries) objects grown)
