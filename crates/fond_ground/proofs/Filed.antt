@@ -16,8 +16,7 @@ use Rattle.std.proofs.lemmas.List.Sums.{fails_before_first}
 use Rattle.std.proofs.lemmas.Option.{same_Some, slice_get-get_or, slice_get_within, get_or_from_slice_get}
 use Rattle.fond_ast.specs.declared.form.LTerm.{LTerm}
 use Rattle.fond_ast.specs.declared.form.LTerm.TheVariants.{Object, Variable}
-use Rattle.fond_store.specs.Texts.{number_beside, with_text}
-use Rattle.fond_store.proofs.Firsts.{number_kept}
+use Rattle.fond_store.specs.Texts.{number_beside, InsertsText}
 use Rattle.fond_join.proofs.Rowed.{below_next}
 use Rattle.fond_ast.specs.Patterns.{Fits}
 use Rattle.fond_ground.proofs.Counts.{drop_item}
@@ -209,30 +208,33 @@ renamed_next pattern objects i object term made numbers more whole is also same 
     ap (λ list. list ++ rest) (grown ∙ ap (λ one. numbers ++ term_code one) same) ∙ append_assoc numbers (term_code (with_object term object)) rest
     ∙ sym (λ j. numbers ++ code (renamed (drop_item pattern i term is j) (drop_item objects i object also j))) ∙ so
 
--- what was found is still found when more is filed
-some_still : (items : List (List ℕ × ℕ)) (kept : List ℕ) (number : ℕ) (text : List ℕ) → is_some (number_beside items text) ≡ true → is_some (number_beside (with_text items kept number) text) ≡ true
-some_still items kept number text there = ap is_some (number_kept items kept number text) ∙ by (number_beside items text) there
-  where
-    by : (found : Option ℕ) → is_some found ≡ true → is_some (option_or found (if bytes_eq kept text then Some number else None)) ≡ true
-    by (Some other) e = refl
-    by None e = absurd (true≢false (sym e))
+module _ (items more : List (List ℕ × ℕ)) (kept : List ℕ) (number : ℕ) (grown : InsertsText items kept number more) where
+  -- what was found is still found when more is filed
+  some_still : (text : List ℕ) → is_some (number_beside items text) ≡ true → is_some (number_beside more text) ≡ true
+  some_still text there = ap is_some (grown text) ∙ by (number_beside items text) there
+    where
+      by : (found : Option ℕ) → is_some found ≡ true → is_some (option_or found (if bytes_eq kept text then Some number else None)) ≡ true
+      by (Some other) e = refl
+      by None e = absurd (true≢false (sym e))
 
-some_new : (items : List (List ℕ × ℕ)) (kept : List ℕ) (number : ℕ) (text : List ℕ) → is_some (number_beside (with_text items kept number) text) ≡ true → (is_some (number_beside items text) ≡ true) ⊎ (kept ≡ text)
-some_new items kept number text there = by (number_beside items text) refl (bytes_eq kept text) refl (sym (ap is_some (number_kept items kept number text)) ∙ there)
-  where
-    by : (found : Option ℕ) → number_beside items text ≡ found → (b : Bool) → bytes_eq kept text ≡ b → is_some (option_or (number_beside items text) (if bytes_eq kept text then Some number else None)) ≡ true →
-        (is_some (number_beside items text) ≡ true) ⊎ (kept ≡ text)
-    by (Some other) e b same h = inl (ap is_some e)
-    by None e true same h = inr ((bytes_decides kept text).0 same)
-    by None e false same h = absurd (true≢false (sym h ∙ (λ i. is_some (option_or (e i) (if same i then Some number else None)))))
+  -- what is found when more is filed was found before or is what is filed
+  some_new : (text : List ℕ) → is_some (number_beside more text) ≡ true → (is_some (number_beside items text) ≡ true) ⊎ (kept ≡ text)
+  some_new text there = by (number_beside items text) refl (bytes_eq kept text) refl (sym (ap is_some (grown text)) ∙ there)
+    where
+      by : (found : Option ℕ) → number_beside items text ≡ found → (b : Bool) → bytes_eq kept text ≡ b → is_some (option_or (number_beside items text) (if bytes_eq kept text then Some number else None)) ≡ true →
+          (is_some (number_beside items text) ≡ true) ⊎ (kept ≡ text)
+      by (Some other) e b same h = inl (ap is_some e)
+      by None e true same h = inr ((bytes_decides kept text).0 same)
+      by None e false same h = absurd (true≢false (sym h ∙ (λ i. is_some (option_or (e i) (if same i then Some number else None)))))
 
-some_itself : (items : List (List ℕ × ℕ)) (kept : List ℕ) (number : ℕ) → is_some (number_beside (with_text items kept number) kept) ≡ true
-some_itself items kept number = ap is_some (number_kept items kept number kept) ∙ by (number_beside items kept) (bytes_eq kept kept) ((bytes_decides kept kept).1 refl)
-  where
-    by : (found : Option ℕ) (b : Bool) → b ≡ true → is_some (option_or found (if b then Some number else None)) ≡ true
-    by (Some other) b e = refl
-    by None true e = refl
-    by None false e = absurd (true≢false (sym e))
+  -- what is filed is found
+  some_itself : is_some (number_beside more kept) ≡ true
+  some_itself = ap is_some (grown kept) ∙ by (number_beside items kept) (bytes_eq kept kept) ((bytes_decides kept kept).1 refl)
+    where
+      by : (found : Option ℕ) (b : Bool) → b ≡ true → is_some (option_or found (if b then Some number else None)) ≡ true
+      by (Some other) b e = refl
+      by None true e = refl
+      by None false e = absurd (true≢false (sym e))
 
 -- an element by its number
 pub contains_at : {X : Type 0} (xs : List X) (i : ℕ) (x : X) → slice_get xs i ≡ Some x → Contains xs x
@@ -244,10 +246,10 @@ module _ (all : List (List LTerm)) where
   shape_still shapes more still pattern has = record { at = has.at; listed = still has.at has.listed; one = has.one; there = has.there; same = has.same }
 
   -- the position of a new shape is kept
-  pub seen_new : (i : ℕ) (seen more : List (List ℕ × ℕ)) (shapes longer : List ℕ) (here : List LTerm) (key : List ℕ) → slice_get all i ≡ Some here → key ≡ code (shape here) → more ≡ with_text seen key 0 → longer ≡ shapes ++ i ∷ [] →
+  pub seen_new : (i : ℕ) (seen more : List (List ℕ × ℕ)) (shapes longer : List ℕ) (here : List LTerm) (key : List ℕ) → slice_get all i ≡ Some here → key ≡ code (shape here) → InsertsText seen key 0 more → longer ≡ shapes ++ i ∷ [] →
       AreSeen all seen shapes → AreSeen all more longer
   seen_new i seen more shapes longer here key is same grown pushed known pattern there =
-      by (some_new seen key 0 (code (shape pattern)) (ap (λ items. is_some (number_beside items (code (shape pattern)))) (sym grown) ∙ there))
+      by (some_new seen more key 0 grown (code (shape pattern)) there)
     where
       by : (is_some (number_beside seen (code (shape pattern))) ≡ true) ⊎ (key ≡ code (shape pattern)) → HasShape all longer pattern
       by (inl old) = shape_still shapes longer (λ at has. subst (λ list. Contains list at) (sym pushed) (Contains-append_left shapes (i ∷ []) at has)) pattern (known pattern old)
@@ -269,16 +271,16 @@ module _ (all : List (List LTerm)) where
       by small at (inr same) = subst (λ n. n < length all) same low
 
   -- one more pattern is filed
-  pub filed_next : (i : ℕ) (codes more : List (List ℕ × ℕ)) (shapes longer key : List ℕ) (here : List LTerm) → slice_get all i ≡ Some here → key ≡ code here → more ≡ with_text codes key 0 →
+  pub filed_next : (i : ℕ) (codes more : List (List ℕ × ℕ)) (shapes longer key : List ℕ) (here : List LTerm) → slice_get all i ≡ Some here → key ≡ code here → InsertsText codes key 0 more →
       AreKept (length all) shapes longer → HasShapeAt all longer i → AreFiled all i codes shapes → AreFiled all (i + 1) more longer
   filed_next i codes more shapes longer key here is same grown kept has filed = record {
-    named = λ pattern there. named_by pattern (some_new codes key 0 (code pattern) (ap (λ items. is_some (number_beside items (code pattern))) (sym grown) ∙ there));
+    named = λ pattern there. named_by pattern (some_new codes more key 0 grown (code pattern) there);
     listed = kept.below filed.listed;
     found = λ at pattern low there. below_next (λ at. (pattern : List LTerm) → slice_get all at ≡ Some pattern → is_some (number_beside more (code pattern)) ≡ true) i
-        (λ at low pattern there. ap (λ items. is_some (number_beside items (code pattern))) grown ∙ some_still codes key 0 (code pattern) (filed.found at pattern low there))
+        (λ at low pattern there. some_still codes more key 0 grown (code pattern) (filed.found at pattern low there))
         (λ pattern there.
         let it : here ≡ pattern = same_Some here pattern (sym is ∙ there) in
-        ap (λ items. is_some (number_beside items (code pattern))) grown ∙ ap (λ text. is_some (number_beside (with_text codes key 0) text)) (sym (same ∙ ap code it)) ∙ some_itself codes key 0)
+        ap (λ text. is_some (number_beside more text)) (sym (same ∙ ap code it)) ∙ some_itself codes more key 0 grown)
         at low pattern there;
     shaped = λ at pattern low there. below_next (λ at. (pattern : List LTerm) → slice_get all at ≡ Some pattern → HasShape all longer pattern) i
         (λ at low pattern there. shape_still shapes longer kept.still pattern (filed.shaped at pattern low there)) has at low pattern there;

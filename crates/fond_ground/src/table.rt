@@ -36,7 +36,6 @@ fn numbers_of(alloc: Global, atom: &Atom) -> Result<Vec<u32>, NoMemory>
 }
 
 /// The atoms by their numbers, each with its index.
-#[tactic(auto, using(fond_store::proofs::Firsts::has_more))]
 fn indexed(alloc: Global, atoms: &Atoms) -> Result<TupleIndex, NoMemory>
     requires { length atoms.now < 2 ^ 32 }
     ensures { IfOk result (λ numbers. (atom : Atom) → number_beside numbers (atom_numbers atom) ≡ position (is_same_atom atom) atoms.now) }
