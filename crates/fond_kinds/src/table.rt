@@ -3,7 +3,7 @@
 ghost use Rattle.fond_kinds.specs.Kinds.{declares, IsAncestor, is_passed_over, is_type, only_kind as only_kind_of, parent_of as parent_of_type, IsSubtype};
 ghost use Rattle.fond_kinds.specs.Parents.{are_within, parent_of};
 ghost use Rattle.fond_kinds.specs.Tables.{IsNumber, firsts_with, number_of, type_names};
-ghost use Rattle.fond_store.specs.Texts.{number_beside, with_text};
+ghost use Rattle.fond_store.specs.Texts.{number_beside, InsertsText};
 ghost use Rattle.fond_text.specs.declared.code.TheConstants.{LONGEST_TEXT};
 ghost use Rattle.std.specs.Bool.{Decides};
 ghost use Rattle.std.specs.List.{list_all};
@@ -55,7 +55,7 @@ pub(crate) fn is_passed_over(declared: &TypedName) -> bool
 
 /// Inserts a text with its number, unless the text is there.
 fn put(alloc: Global, numbers: &mut TextIndex, text: &[u8], number: u32) -> Result<(), NoMemory>
-    ensures { OnOk result (numbers.new ≡ with_text numbers.old text.now number) }
+    ensures { OnOk result (InsertsText numbers.old text.now number numbers.new) }
 {
     numbers.insert(Vec::from_slice(alloc, text)?, number)
 }
