@@ -1,6 +1,6 @@
 //! Indexes from names to the positions of their first declarations.
 
-ghost use Rattle.fond_store.specs.Texts.{with_text};
+ghost use Rattle.fond_store.specs.Texts.{InsertsText};
 ghost use Rattle.fond_text.specs.declared.code.TheConstants.{LONGEST_TEXT};
 ghost use Rattle.fond_names.specs.Indexes.{IsIndex};
 ghost use Rattle.std.specs.Prelude.{◌≡◌, ◌≤◌, ◌<◌, ◌+◌, ◌++◌, IfOk, OnOk, Some, length, slice_get};
@@ -19,7 +19,7 @@ pub fn insert_name(
     name: &Name,
     number: u32,
 ) -> Result<(), NoMemory>
-    ensures { OnOk result (index.new ≡ with_text index.old name.now number) }
+    ensures { OnOk result (InsertsText index.old name.now number index.new) }
 {
     let text = Vec::from_slice(alloc, name.bytes())?;
     index.insert(text, number)
