@@ -8,19 +8,15 @@ use Rattle.std.proofs.lemmas.Grind.{common_steps}
 use Rattle.std.proofs.lemmas.Iterator.Adapters.{position_from-zero}
 use Rattle.fond_ast.specs.declared.names.Term.{Term}
 use Rattle.fond_kinds.proofs.Types.{some_position}
-use Rattle.fond_store.proofs.Firsts.{number_kept}
-use Rattle.fond_store.specs.Texts.{number_beside, with_text}
+use Rattle.fond_store.proofs.Entries.{or_none}
+use Rattle.fond_store.specs.Texts.{number_beside}
 use Rattle.fond_names.proofs.Differs.{next_left, same_text}
 use Rattle.fond_names.proofs.Members.{or_left, or_right}
-use Rattle.fond_types.specs.Patterns.{first_place, HasPlaces}
+use Rattle.fond_types.specs.Patterns.{first_place, HasPlaces, InsertsVariable}
 
 -- whether a term is this variable
 abbrev pub is_variable : List ℕ → Term → Bool
 is_variable name term = term.variable && bytes_eq term.name name
-
-or_none : (first : Option ℕ) → option_or first None ≡ first
-or_none None = refl
-or_none (Some number) = refl
 
 -- the first of a number, a number under a test, and a later number, grouped in two ways
 or_later : (first : Option ℕ) (b : Bool) (number : ℕ) (later : Option ℕ) →
@@ -41,21 +37,12 @@ module _ (terms : List Term) where
   next_place : (i : ℕ) (term : Term) → slice_get terms i ≡ Some term → (name : List ℕ) → place_from i name ≡ cond (is_variable name term) (Some i) (place_from (i + 1) name)
   next_place i term got name = ap (position_from (is_variable name) i) (next_left terms i term got)
 
-  -- the next term is added if it is a variable
-  pub some_more : (items more : List (List ℕ × ℕ)) (i : ℕ) (term : Term) → slice_get terms i ≡ Some term → more ≡ (if term.variable then with_text items term.name i else items) → HasSome items i → HasSome more (i + 1)
-  some_more items more i term got grown has name = by term.variable refl
-    where
-      by : (b : Bool) → term.variable ≡ b → option_or (number_beside more name) (place_from (i + 1) name) ≡ place_from 0 name
-      by true is =
-          ap (λ now. option_or (number_beside now name) (place_from (i + 1) name)) (grown ∙ ap (λ b. if b then with_text items term.name i else items) is)
-          ∙ ap (λ first. option_or first (place_from (i + 1) name)) (number_kept items term.name i name)
-          ∙ or_later (number_beside items name) (bytes_eq term.name name) i (place_from (i + 1) name)
-          ∙ ap (λ b. option_or (number_beside items name) (cond (b && bytes_eq term.name name) (Some i) (place_from (i + 1) name))) (sym is)
-          ∙ ap (option_or (number_beside items name)) (sym (next_place i term got name)) ∙ has name
-      by false is =
-          ap (λ now. option_or (number_beside now name) (place_from (i + 1) name)) (grown ∙ ap (λ b. if b then with_text items term.name i else items) is)
-          ∙ ap (λ b. option_or (number_beside items name) (cond (b && bytes_eq term.name name) (Some i) (place_from (i + 1) name))) (sym is)
-          ∙ ap (option_or (number_beside items name)) (sym (next_place i term got name)) ∙ has name
+  -- the next term is inserted if it is a variable
+  pub some_more : (items more : List (List ℕ × ℕ)) (i : ℕ) (term : Term) → slice_get terms i ≡ Some term → InsertsVariable items term i more → HasSome items i → HasSome more (i + 1)
+  some_more items more i term got grown has name =
+      ap (λ found. option_or found (place_from (i + 1) name)) (grown name)
+      ∙ or_later (number_beside items name) (is_variable name term) i (place_from (i + 1) name)
+      ∙ ap (option_or (number_beside items name)) (sym (next_place i term got name)) ∙ has name
 
   -- after the last term the items have the first place of each variable
   pub some_all : (items : List (List ℕ × ℕ)) (i : ℕ) → length terms ≤ i → HasSome items i → HasPlaces terms items

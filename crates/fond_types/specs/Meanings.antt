@@ -1,9 +1,10 @@
 -- What names stand for in three files, by the test for subtypes, and the ranges of variables around a place.
-use Rattle.std.specs.Prelude.{ℕ, suc, Bool, List, [], ◌∷◌, ◌++◌, fold, map, if◌then◌else◌}
+use Rattle.std.specs.Prelude.{◌≡◌, ℕ, suc, Bool, List, [], ◌∷◌, ◌++◌, fold, map, if◌then◌else◌}
 use Rattle.std.specs.List.{list_all}
 use Rattle.std.specs.Str.{bytes_eq}
 use Rattle.fond_ast.specs.declared.names.Kind.{Kind}
 use Rattle.fond_ast.specs.declared.names.TypedName.{TypedName}
+use Rattle.fond_store.specs.Texts.{number_beside}
 use Rattle.fond_kinds.specs.Kinds.{root, are_types, parent_of}
 use Rattle.fond_names.specs.Names.{Declarations, is_among}
 use Rattle.fond_types.specs.Resolves.{Meanings, meanings_of}
@@ -31,6 +32,10 @@ names_once name items = fold name_also [] (map name items)
 abbrev pub numbered_from : ℕ → List (List ℕ) → List (List ℕ × ℕ)
 numbered_from number [] = []
 numbered_from number (name ∷ names) = (name, number) ∷ numbered_from (suc number) names
+
+-- the index has the number of each name in the list of names, and of no other
+abbrev pub IsNumbering : List (List ℕ × ℕ) → List (List ℕ) → Type 0
+IsNumbering numbers names = (name : List ℕ) → number_beside numbers name ≡ number_beside (numbered_from 0 names) name
 
 -- whether the types of variables are declared
 abbrev pub are_typed : List TypedName → List TypedName → Bool

@@ -1,14 +1,14 @@
 -- Patterns that are sound, the places of their variables, and patterns over numbers that are filed by schema.
-use Rattle.std.specs.Prelude.{◌≡◌, ◌==◌, ◌&&◌, ℕ, Bool, false, List, length, map, filter, position, Option, if◌then◌else◌}
+use Rattle.std.specs.Prelude.{◌≡◌, ◌==◌, ◌&&◌, ℕ, Bool, false, List, length, map, filter, position, Option, Some, None, if◌then◌else◌}
 use Rattle.std.specs.List.{list_all}
-use Rattle.std.specs.Option.{option_map_or}
+use Rattle.std.specs.Option.{option_map_or, option_or}
 use Rattle.std.specs.Str.{bytes_eq}
 use Rattle.fond_text.specs.Lists.{each_passes}
 use Rattle.fond_ast.specs.declared.files.Pattern.{Pattern}
 use Rattle.fond_ast.specs.declared.files.Schema.{Schema}
 use Rattle.fond_ast.specs.declared.form.LTerm.{LTerm}
 use Rattle.fond_ast.specs.declared.names.Term.{Term}
-use Rattle.fond_store.specs.Texts.{number_beside, with_text}
+use Rattle.fond_store.specs.Texts.{number_beside}
 use Rattle.fond_names.specs.Names.{Declarations, schema_of}
 use Rattle.fond_names.specs.Unknown.{is_sound_term}
 use Rattle.fond_types.specs.Meanings.{meanings}
@@ -44,9 +44,10 @@ are_patterns_of files schema numbers = are_patterns (meanings files) files.side.
 abbrev pub are_pattern_terms : Declarations → List Term → List LTerm → Bool
 are_pattern_terms files terms numbers = each_passes (map (is_pattern_term (meanings files) terms) terms) numbers
 
--- the numbers of variables, and this one for a term if it is a variable that has none yet
-abbrev pub with_variable : List (List ℕ × ℕ) → Term → ℕ → List (List ℕ × ℕ)
-with_variable places term number = if term.variable then with_text places term.name number else places
+-- a term is inserted with a number: if it is a variable, it has this number from now on if it had none, and nothing else changes
+abbrev pub InsertsVariable : List (List ℕ × ℕ) → Term → ℕ → List (List ℕ × ℕ) → Type 0
+InsertsVariable old term number new =
+    (name : List ℕ) → number_beside new name ≡ option_or (number_beside old name) (if term.variable && bytes_eq term.name name then Some number else None)
 
 -- whether there is one list for each schema, in order, and it has the patterns that name the schema, over numbers and in order
 abbrev pub are_filed : Declarations → List Pattern → List (List (List LTerm)) → Bool

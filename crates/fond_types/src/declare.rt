@@ -3,7 +3,7 @@
 ghost use Rattle.fond_names.specs.Files.{declarations_of};
 ghost use Rattle.fond_names.specs.Names.{all_objects};
 ghost use Rattle.fond_text.specs.declared.code.TheConstants.{LONGEST_TEXT};
-ghost use Rattle.fond_types.specs.Meanings.{name_also, names_once, numbered_from};
+ghost use Rattle.fond_types.specs.Meanings.{IsNumbering, name_also, names_once};
 ghost use Rattle.std.specs.Prelude.{◌≡◌, ◌<◌, ◌≤◌, ◌+◌, ◌^◌, IfOk, OnOk, length};
 
 use crate::numbers::Numbers;
@@ -22,10 +22,10 @@ fn declare(
     name: &Name,
 ) -> Result<(), NoMemory>
     requires few { length names.old < 2 ^ 32 }
-    requires numbered { numbers.old ≡ numbered_from 0 names.old }
+    requires numbered { IsNumbering numbers.old names.old }
     ensures few { OnOk result (length names.new ≤ length names.old + 1) }
     ensures named { OnOk result (names.new ≡ name_also names.old name.now) }
-    ensures numbered { OnOk result (numbers.new ≡ numbered_from 0 names.new) }
+    ensures numbered { OnOk result (IsNumbering numbers.new names.new) }
 {
     if numbers.find(name.bytes()).is_some() {
         return Ok(());

@@ -1,7 +1,7 @@
 //! The numbers of predicates and of objects.
 
-ghost use Rattle.fond_types.specs.Meanings.{numbered_from};
-ghost use Rattle.std.specs.Prelude.{◌≡◌, ◌<◌, ◌^◌, length};
+ghost use Rattle.fond_types.specs.Meanings.{IsNumbering};
+ghost use Rattle.std.specs.Prelude.{◌<◌, ◌^◌, length};
 
 use fond_store::index::TextIndex;
 use fond_text::name::Names;
@@ -12,5 +12,5 @@ pub(crate) struct Numbers {
     pub(crate) names: Names,
     pub(crate) numbers: Box<TextIndex>,
     ghost few: { length names < 2 ^ 32 },
-    ghost numbered: { numbers.value ≡ numbered_from 0 names },
+    ghost numbered: { IsNumbering numbers.value names },
 }

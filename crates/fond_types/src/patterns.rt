@@ -3,7 +3,7 @@
 
 ghost use Rattle.fond_types.specs.Meanings.{meanings};
 ghost use Rattle.fond_names.specs.Unknown.{is_sound_term};
-ghost use Rattle.fond_types.specs.Patterns.{are_filed, are_pattern_terms, HasPlaces, is_of_schema, is_sound_pattern, with_variable};
+ghost use Rattle.fond_types.specs.Patterns.{are_filed, are_pattern_terms, HasPlaces, is_of_schema, is_sound_pattern, InsertsVariable};
 ghost use Rattle.fond_types.specs.Resolves.{is_pattern, is_pattern_term};
 ghost use Rattle.std.specs.List.{list_all};
 ghost use Rattle.std.specs.Prelude.{◌≡◌, ◌<◌, ◌+◌, ◌^◌, ◌∷◌, [], IfOk, IfSome, OnOk, drop, length, slice_get, take, true, vec_len};
@@ -25,7 +25,7 @@ fn add_variable(
     term: &Term,
     number: u32,
 ) -> Result<(), NoMemory>
-    ensures { OnOk result (places.new ≡ with_variable places.old term.now number) }
+    ensures { OnOk result (InsertsVariable places.old term.now number places.new) }
 {
     if !term.variable {
         return Ok(());

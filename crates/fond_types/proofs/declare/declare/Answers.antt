@@ -1,6 +1,6 @@
-use Rattle.std.proofs.Common.{◌≡◌, ◌++◌, ◌∷◌, [], ◌∙◌, true, false, is_some, sym, ap}
+use Rattle.std.proofs.Common.{◌≡◌, ◌++◌, ◌∷◌, [], ◌∙◌, true, false, is_some, sym, ap, subst}
 use Rattle.fond_store.specs.Texts.{number_beside}
-use Rattle.fond_types.specs.Meanings.{numbered_from}
+use Rattle.fond_types.specs.Meanings.{IsNumbering, name_also}
 use Rattle.fond_types.proofs.Numbering.{declared_there, declared_new, numbered_new}
 use Rattle.fond_types.proofs.declare.declare.Goals as goal
 
@@ -20,5 +20,5 @@ returns-clause-numbered c =
     let numbers = c.args.numbers.now in
     let names = c.args.names.now in
     let none : is_some (number_beside numbers c.args.name.now) ≡ false = cc in
-    let named = c.in_ok-push.ensures.ok ∙ ap (λ name. names ++ name ∷ []) c.in_ok-copy.ensures.copy ∙ sym (declared_new numbers names c.requires.numbered c.args.name.now none) in
-    c.in_ok-insert_name.ensures ∙ numbered_new numbers names c.requires.numbered c.args.name.now none c.len.result c.len.ensures ∙ ap (numbered_from 0) (sym named)
+    let named : c.push.new.self ≡ name_also names c.args.name.now = c.in_ok-push.ensures.ok ∙ ap (λ name. names ++ name ∷ []) c.in_ok-copy.ensures.copy ∙ sym (declared_new numbers names c.requires.numbered c.args.name.now none) in
+    subst (λ some. IsNumbering c.insert_name.new.index some) (sym named) (numbered_new numbers names c.requires.numbered c.args.name.now none c.len.result c.insert_name.new.index c.len.ensures c.in_ok-insert_name.ensures)

@@ -1,4 +1,4 @@
-use Rattle.std.proofs.Common.{◌≡◌, true, false, None, is_some, map, refl, sym, ap, ◌∙◌}
+use Rattle.std.proofs.Common.{◌≡◌, true, false, None, is_some, map, sym, ap, ◌∙◌}
 use Rattle.fond_text.specs.Lists.{each_passes}
 use Rattle.fond_ast.specs.declared.files.Declared.{Declared}
 use Rattle.fond_ast.specs.declared.form.LAtom.{LAtom}
@@ -7,7 +7,7 @@ use Rattle.fond_types.specs.Meanings.{meanings, numbered_from}
 use Rattle.fond_types.specs.Resolves.{is_number_of, is_term, is_atom}
 use Rattle.fond_types.proofs.AtomLemmas.{atom_known, sound_atom, atom_within, atom_fluent}
 use Rattle.fond_names.proofs.Members.{and_both}
-use Rattle.fond_types.proofs.Numbering.{is_there, number_is}
+use Rattle.fond_types.proofs.Numbering.{has_number, number_is}
 use Rattle.fond_types.proofs.TermLemmas.{first_among}
 use Rattle.fond_types.proofs.numbered_atom.numbered_atom.Goals as goal
 use Rattle.fond_types.proofs.numbered_atom.numbered_atom.Goals.{In-Some}
@@ -24,7 +24,7 @@ unreachable-requires c =
     let sound = sound_atom files c.args.around.now c.args.atom.now c.requires.sound in
     let there = first_among (λ (one : Declared). one.name) files.domain.predicates name in
     let other : false ≡ true =
-    sym (ap (λ found. is_some found) none) ∙ is_there (numbered_from 0 names) names refl name ∙ sym there ∙ ap (λ found. is_some found) sound.1 in
+    sym (ap (λ found. is_some found) none) ∙ has_number 0 names name ∙ sym there ∙ ap (λ found. is_some found) sound.1 in
     cc (other)
 
 is_resolved : (c : In-Some) → is_atom (meanings c.args.context.now.files) c.args.around.now c.args.atom.now (record { predicate = c.in-Some.predicate; terms = c.in_ok-terms.terms }) ≡ true
@@ -33,7 +33,7 @@ is_resolved c =
     let name = c.args.atom.now.name in
     let number = c.in-Some.predicate in
     and_both (is_number_of all.predicates name number) (each_passes (map (is_term all c.args.around.now) c.args.atom.now.terms) c.in_ok-terms.terms)
-    (number_is (numbered_from 0 all.predicates) all.predicates name number refl (sym c.in-Some.ensures.found)) c.in_ok-terms.ensures
+    (number_is all.predicates name number (sym c.in-Some.ensures.found)) c.in_ok-terms.ensures
 
 pub returns-clause-resolved : goal.returns-clause-resolved
 returns-clause-resolved c = is_resolved (goal.at.returns-clause-resolved c).In-Some

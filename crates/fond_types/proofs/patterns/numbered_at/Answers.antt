@@ -1,4 +1,4 @@
-use Rattle.std.proofs.Common.{◌≡◌, ◌&&◌, ◌||◌, not, true, false, None, is_some, refl, sym, ap, ◌∙◌}
+use Rattle.std.proofs.Common.{◌≡◌, ◌&&◌, ◌||◌, not, true, false, None, is_some, sym, ap, ◌∙◌}
 use Rattle.fond_ast.specs.declared.form.LTerm.TheVariants.{Object}
 use Rattle.fond_ast.specs.declared.names.Term.{Term}
 use Rattle.fond_ast.specs.declared.names.TypedName.{TypedName}
@@ -8,7 +8,7 @@ use Rattle.fond_names.proofs.Members.{all_got}
 use Rattle.fond_types.specs.Meanings.{meanings, numbered_from}
 use Rattle.fond_names.specs.Unknown.{is_sound_term}
 use Rattle.fond_types.specs.Resolves.{is_number_of, is_pattern_term}
-use Rattle.fond_types.proofs.Numbering.{is_there, number_is}
+use Rattle.fond_types.proofs.Numbering.{has_number, number_is}
 use Rattle.fond_types.proofs.PlaceLemmas.{has_place, if_got}
 use Rattle.fond_types.proofs.TermLemmas.{first_among}
 use Rattle.fond_types.proofs.patterns.numbered_at.Goals as goal
@@ -30,7 +30,7 @@ unreachable-requires-in-None-object_number c =
     let sound : (term.variable || is_some (first_of (all_objects files) term.name)) ≡ true = all_got (is_sound_term files) c.args.terms.now c.args.i term c.get-term.ensures c.requires.sound in
     let there : is_some (first_of (all_objects files) term.name) ≡ is_among names term.name = first_among (λ (one : TypedName). one.name) (all_objects files) term.name in
     let never : false ≡ true =
-    sym (ap (λ b. b || is_some (first_of (all_objects files) term.name)) c.if-term.false ∙ there ∙ sym (is_there (numbered_from 0 names) names refl term.name) ∙ ap (λ found. is_some found) none) ∙ sound in
+    sym (ap (λ b. b || is_some (first_of (all_objects files) term.name)) c.if-term.false ∙ there ∙ sym (has_number 0 names term.name) ∙ ap (λ found. is_some found) none) ∙ sound in
     cc (never)
 
 pub returns-in-Some-object_number : goal.returns-in-Some-object_number
@@ -39,5 +39,5 @@ returns-in-Some-object_number c =
     let term = c.get-term.result.now in
     let number = c.in-Some-object_number.number in
     let names = (meanings files).objects in
-    let is : is_number_of names term.name number ≡ true = number_is (numbered_from 0 names) names term.name number refl (sym c.in-Some-object_number.ensures) in
+    let is : is_number_of names term.name number ≡ true = number_is names term.name number (sym c.in-Some-object_number.ensures) in
     if_got (λ (one : Term). is_pattern_term (meanings files) c.args.terms.now one (Object number) ≡ true) _ term c.get-term.ensures ((λ i. not (c.if-term.false i) && is_number_of names term.name number) ∙ is)

@@ -1,4 +1,4 @@
-use Rattle.std.proofs.Common.{◌≡◌, ◌&&◌, not, true, false, Some, None, is_some, refl, sym, ap, ◌∙◌}
+use Rattle.std.proofs.Common.{◌≡◌, ◌&&◌, not, true, false, Some, None, is_some, sym, ap, ◌∙◌}
 use Rattle.std.specs.Prelude.{◌==◌, if◌then◌else◌}
 use Rattle.std.specs.Option.{option_map_or}
 use Rattle.fond_ast.specs.declared.form.LTerm.TheVariants.{Object, Variable}
@@ -9,7 +9,7 @@ use Rattle.fond_names.specs.Names.{is_among, all_objects, first_of}
 use Rattle.fond_types.specs.Resolves.{is_number_of, is_term, variable_number}
 use Rattle.fond_types.specs.Meanings.{meanings, numbered_from}
 use Rattle.fond_names.specs.Sites.{variable_of}
-use Rattle.fond_types.proofs.Numbering.{is_there, number_is}
+use Rattle.fond_types.proofs.Numbering.{has_number, number_is}
 use Rattle.fond_types.proofs.TermLemmas.{no_variable, first_among, term_within}
 use Rattle.fond_types.proofs.terms.numbered_term.Goals as goal
 use Rattle.fond_types.proofs.terms.numbered_term.Goals.{In-Some, In-Some-object_number}
@@ -33,7 +33,7 @@ unreachable-requires-in-None-object_number c =
     let known : is_some (if c.args.term.now.variable then variable_of around name else first_of (all_objects files) name) ≡ true = c.requires.known in
     let there : is_some (first_of (all_objects files) name) ≡ is_among names name = first_among (λ (one : TypedName). one.name) (all_objects files) name in
     let other : false ≡ true =
-    sym (ap (λ b. is_some (if b then variable_of around name else first_of (all_objects files) name)) c.if-term.false ∙ there ∙ sym (is_there (numbered_from 0 names) names refl name) ∙ ap (λ found. is_some found) none) ∙ known in
+    sym (ap (λ b. is_some (if b then variable_of around name else first_of (all_objects files) name)) c.if-term.false ∙ there ∙ sym (has_number 0 names name) ∙ ap (λ found. is_some found) none) ∙ known in
     cc (other)
 
 is_object : (c : In-Some-object_number) → is_term (meanings c.args.context.now.files) c.args.around.now c.args.term.now (Object c.in-Some-object_number.number) ≡ true
@@ -41,7 +41,7 @@ is_object c =
     let name = c.args.term.now.name in
     let number = c.in-Some-object_number.number in
     let names = (meanings c.args.context.now.files).objects in
-    let is : is_number_of names name number ≡ true = number_is (numbered_from 0 names) names name number refl (sym c.in-Some-object_number.ensures) in
+    let is : is_number_of names name number ≡ true = number_is names name number (sym c.in-Some-object_number.ensures) in
     (λ i. not (c.if-term.false i) && is_number_of names name number) ∙ is
 
 is_variable : (c : In-Some) → is_term (meanings c.args.context.now.files) c.args.around.now c.args.term.now (Variable c.in-Some.number) ≡ true
