@@ -17,7 +17,7 @@ drop_at xs i x at =
     at_drop_more (λ rest. rest) xs i x (slice_get_within xs i x at) ∙ ap (λ y. y ∷ drop (i + 1) xs) (get_or_from_slice_get xs i x x at)
 
 -- the first of a number, a number under a test, and a later number, grouped in two ways
-or_later : (first : Option ℕ) (b : Bool) (number : ℕ) (later : Option ℕ) →
+pub or_later : (first : Option ℕ) (b : Bool) (number : ℕ) (later : Option ℕ) →
     option_or (option_or first (if b then Some number else None)) later ≡ option_or first (cond b (Some number) later)
 or_later None true number later = refl
 or_later None false number later = refl

@@ -1,5 +1,5 @@
 -- The first places of the variables of a pattern, and its terms over numbers.
-use Rattle.std.proofs.Common.{◌≡◌, ℕ, zero, suc, ◌+◌, ◌≤◌, ◌&&◌, Bool, true, false, cond, List, [], ◌∷◌, Option, Some, None, IfSome, is_some, length, drop, slice_get, refl, sym, ap, ◌∙◌, subst, arith}
+use Rattle.std.proofs.Common.{◌≡◌, ℕ, zero, suc, ◌+◌, ◌≤◌, ◌&&◌, Bool, true, cond, List, [], ◌∷◌, Option, Some, None, IfSome, is_some, length, drop, slice_get, sym, ap, ◌∙◌, subst, arith}
 use Rattle.std.specs.Prelude.{if◌then◌else◌}
 use Rattle.std.specs.List.{list_any, position_from}
 use Rattle.std.specs.Option.{option_or}
@@ -9,6 +9,7 @@ use Rattle.std.proofs.lemmas.Iterator.Adapters.{position_from-zero}
 use Rattle.fond_ast.specs.declared.names.Term.{Term}
 use Rattle.fond_kinds.proofs.Types.{some_position}
 use Rattle.fond_store.proofs.Entries.{or_none}
+use Rattle.fond_store.proofs.Firsts.{or_later}
 use Rattle.fond_store.specs.Texts.{number_beside}
 use Rattle.fond_names.proofs.Differs.{next_left, same_text}
 use Rattle.fond_names.proofs.Members.{or_left, or_right}
@@ -17,13 +18,6 @@ use Rattle.fond_types.specs.Patterns.{first_place, HasPlaces, InsertsVariable}
 -- whether a term is this variable
 abbrev pub is_variable : List ℕ → Term → Bool
 is_variable name term = term.variable && bytes_eq term.name name
-
--- the first of a number, a number under a test, and a later number, grouped in two ways
-or_later : (first : Option ℕ) (b : Bool) (number : ℕ) (later : Option ℕ) →
-    option_or (option_or first (if b then Some number else None)) later ≡ option_or first (cond b (Some number) later)
-or_later None true number later = refl
-or_later None false number later = refl
-or_later (Some other) b number later = refl
 
 module _ (terms : List Term) where
   -- the first place of a variable among the terms from an index on

@@ -20,7 +20,7 @@ abbrev pub ranges_around : (List Kind → List ℕ) → Scope → List (List ℕ
 ranges_around range [] = []
 ranges_around range (names ∷ outer) = ranges_around range outer ++ map (λ name. range name.kinds) names
 
--- names with one more, unless it is one of them
+-- names with one more at the end, unless it is one of them
 abbrev pub name_also : List (List ℕ) → List ℕ → List (List ℕ)
 name_also names name = if is_among names name then names else names ++ name ∷ []
 
@@ -28,12 +28,12 @@ name_also names name = if is_among names name then names else names ++ name ∷ 
 abbrev pub names_once : {A : Type 0} → (A → List ℕ) → List A → List (List ℕ)
 names_once name items = fold name_also [] (map name items)
 
--- names with their numbers, from this number on
+-- names numbered in order, the first with this number
 abbrev pub numbered_from : ℕ → List (List ℕ) → List (List ℕ × ℕ)
 numbered_from number [] = []
 numbered_from number (name ∷ names) = (name, number) ∷ numbered_from (suc number) names
 
--- the index has the number of each name in the list of names, and of no other
+-- an index has each of these names with its first position among them, counted from 0, and no other name
 abbrev pub IsNumbering : List (List ℕ × ℕ) → List (List ℕ) → Type 0
 IsNumbering numbers names = (name : List ℕ) → number_beside numbers name ≡ number_beside (numbered_from 0 names) name
 

@@ -24,11 +24,11 @@ is_sound_pattern files pattern =
 abbrev pub is_of_schema : Pattern → Schema → Bool
 is_of_schema pattern schema = bytes_eq schema.name pattern.schema.name
 
--- the position where a variable occurs first among terms
+-- the position where the variable of this name occurs first among terms, if it does
 abbrev pub first_place : List Term → List ℕ → Option ℕ
 first_place terms name = position (λ other. other.variable && bytes_eq other.name name) terms
 
--- an index has the position where each variable occurs first among terms
+-- an index has each variable among terms with the position where it occurs first, and no other name
 abbrev pub HasPlaces : List Term → List (List ℕ × ℕ) → Type 0
 HasPlaces terms index = (name : List ℕ) → number_beside index name ≡ first_place terms name
 
@@ -44,7 +44,7 @@ are_patterns_of files schema numbers = are_patterns (meanings files) files.side.
 abbrev pub are_pattern_terms : Declarations → List Term → List LTerm → Bool
 are_pattern_terms files terms numbers = each_passes (map (is_pattern_term (meanings files) terms) terms) numbers
 
--- a term is inserted with a number: if it is a variable, it has this number from now on if it had none, and nothing else changes
+-- a term is inserted with a number: if it is a variable without a number it gets this one, and nothing else changes
 abbrev pub InsertsVariable : List (List ℕ × ℕ) → Term → ℕ → List (List ℕ × ℕ) → Type 0
 InsertsVariable old term number new =
     (name : List ℕ) → number_beside new name ≡ option_or (number_beside old name) (if term.variable && bytes_eq term.name name then Some number else None)
