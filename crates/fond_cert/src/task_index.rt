@@ -39,7 +39,6 @@ impl<'a> Model for TaskIndex<'a> {
 }
 
 /// The texts of the actions with their numbers. If several actions have one text, the first counts.
-#[tactic(auto, using(fond_store::proofs::Firsts::has_more))]
 fn act_numbers(alloc: Global, task: &Task) -> Result<TextIndex, NoMemory>
     ensures { IfOk result (λ numbers. (text : List ℕ) → number_beside numbers text ≡ act_number task.now text) }
 {
