@@ -1,0 +1,129 @@
+#!/usr/bin/env python3
+"""Runs the script `dualfond` in copies of the checkout: through links, with stale sources, read-only, and with its own options."""
+import os
+import shutil
+import subprocess
+import sys
+import tempfile
+import time
+import unittest
+
+here = os.path.dirname(os.path.abspath(__file__))
+sys.dont_write_bytecode = True
+sys.path.insert(0, os.path.dirname(here))
+from fond.program import TOP  # noqa: E402
+
+PLAN = ["plan", "examples/coin/coin.d", "examples/coin/coin.p", "/dev/null", "10"]
+POLICY = "dualfond 2 policy\nrule (flip) fair 0 goal :\nitem 0 1 0 :\nitem goal : +(heads)\nstart 0\nend\n"
+# A path without the command rt.
+BARE = {"PATH": "/usr/bin:/bin", "HOME": "/nonexistent", "XDG_CACHE_HOME": "/nonexistent"}
+SOURCES = ("crates", "crates.txt", "HANDLES", "dist", "docs", "dualfond", "examples", "tools")
+
+
+def copy_checkout(to):
+    """Copies what the launcher may read, without what was built."""
+    ignored = shutil.ignore_patterns("out", "__pycache__")
+    for name in SOURCES:
+        path = os.path.join(TOP, name)
+        if os.path.isdir(path):
+            shutil.copytree(path, os.path.join(to, name), ignore=ignored)
+        elif os.path.exists(path):
+            shutil.copy2(path, to)
+
+
+@unittest.skipUnless(os.path.exists(os.path.join(TOP, "dist")), "there is no dist/")
+class Launcher(unittest.TestCase):
+    def setUp(self):
+        held = tempfile.TemporaryDirectory()
+        self.addCleanup(held.cleanup)
+        self.top = held.name
+        copy_checkout(self.top)
+
+    def run_in(self, folder, *words, env=None):
+        return subprocess.run(words, cwd=folder, env=env or BARE, stdin=subprocess.DEVNULL, capture_output=True, text=True, check=False)
+
+    def test_first_answer_needs_no_kit(self):
+        started = time.monotonic()
+        ran = self.run_in(self.top, "./dualfond", *PLAN)
+        self.assertEqual((ran.returncode, ran.stdout, ran.stderr), (0, POLICY, ""))
+        self.assertLess(time.monotonic() - started, 1)
+
+    def test_link_from_another_folder(self):
+        with tempfile.TemporaryDirectory() as folder:
+            os.symlink(os.path.join(self.top, "dualfond"), os.path.join(folder, "plan-fond"))
+            words = [f"{self.top}/{it}" if "/coin" in it else it for it in PLAN]
+            ran = self.run_in(folder, "./plan-fond", *words)
+            self.assertEqual((ran.returncode, ran.stdout), (0, POLICY))
+
+    def test_touched_sources_need_no_build(self):
+        self.run_in(self.top, "./dualfond", *PLAN)
+        os.utime(os.path.join(self.top, "crates/fond_text/src/lib.rt"))
+        self.assertEqual(self.run_in(self.top, "./dualfond", *PLAN).stdout, POLICY)
+
+    def test_changed_sources_are_noticed(self):
+        self.assertEqual(self.run_in(self.top, "./dualfond", *PLAN).stdout, POLICY)
+        with open(os.path.join(self.top, "crates/fond_text/src/lib.rt"), "a", encoding="ascii") as file:
+            file.write("\n")
+        ran = self.run_in(self.top, "./dualfond", *PLAN)
+        self.assertEqual((ran.returncode, ran.stdout), (102, ""))
+        self.assertIn("the sources are not those of dist/", ran.stderr)
+        self.assertIn("the command rt", ran.stderr)
+        self.assertIn("not built", self.run_in(self.top, "./dualfond", "--version").stdout)
+
+    def test_read_only_checkout(self):
+        for at, _, _ in os.walk(self.top):
+            os.chmod(at, 0o555)
+        try:
+            ran = self.run_in(self.top, *self.as_nobody(), "./dualfond", *PLAN)
+            self.assertEqual((ran.returncode, ran.stdout), (0, POLICY))
+        finally:
+            for at, _, _ in os.walk(self.top):
+                os.chmod(at, 0o755)
+
+    def as_nobody(self):
+        """The words that start a command without the leave to write everywhere."""
+        return ["setpriv", "--reuid=65534", "--regid=65534", "--clear-groups"] if os.geteuid() == 0 else []
+
+    def test_other_program(self):
+        ran = self.run_in(self.top, "./dualfond", "--version", env={**BARE, "DUALFOND_PROGRAM": "/bin/echo"})
+        self.assertIn("/bin/echo", ran.stdout)
+        ran = self.run_in(self.top, "./dualfond", "a", "b", env={**BARE, "DUALFOND_PROGRAM": "/bin/echo"})
+        self.assertEqual(ran.stdout, "a b\n")
+        ran = self.run_in(self.top, "./dualfond", "a", env={**BARE, "DUALFOND_PROGRAM": "/nonexistent/program"})
+        self.assertEqual(ran.returncode, 101)
+        self.assertIn("set DUALFOND_PROGRAM", ran.stderr)
+
+    def test_help(self):
+        for words in (["--help"], ["-h"], ["help"]):
+            started = time.monotonic()
+            ran = self.run_in(self.top, "./dualfond", *words)
+            self.assertEqual(ran.returncode, 0)
+            self.assertLess(time.monotonic() - started, 0.1)
+        listed = [line.split()[1] for line in ran.stdout.replace("usage:", "").splitlines() if line.split()[:1] == ["dualfond"]]
+        commands = [it for it in listed if it.isalpha() and it != "help"]
+        self.assertEqual(len(commands), 7)
+        for command in commands:
+            self.assertIn(f"usage: dualfond {command}", self.run_in(self.top, "./dualfond", "help", command).stdout)
+        self.assertEqual(self.run_in(self.top, "./dualfond", "help", "fly").returncode, 4)
+
+    def test_version(self):
+        ran = self.run_in(self.top, "./dualfond", "--version")
+        self.assertRegex(ran.stdout, r"\Adualfond \d+\.\d+\.\d+\nprogram .*, SHA-256 [0-9a-f]{64}\nkit rattle-kit-.*\nshipped\n\Z")
+
+    def test_install(self):
+        with tempfile.TemporaryDirectory() as prefix:
+            self.assertEqual(self.run_in(self.top, "./dualfond", "--install", prefix).returncode, 0)
+            shutil.rmtree(os.path.join(self.top, "crates"))
+            ran = self.run_in(self.top, f"{prefix}/bin/dualfond", *PLAN)
+            self.assertEqual((ran.returncode, ran.stdout), (0, POLICY))
+            self.assertIn("shipped", self.run_in("/", f"{prefix}/bin/dualfond", "--version").stdout)
+            for name in ("man/man1/dualfond.1", "bash-completion/completions/dualfond", "zsh/site-functions/_dualfond"):
+                self.assertTrue(os.path.getsize(f"{prefix}/share/{name}"))
+
+    def test_progress_prints_nothing_without_a_terminal(self):
+        ran = self.run_in(self.top, "./dualfond", "--progress", *PLAN)
+        self.assertEqual((ran.returncode, ran.stdout, ran.stderr), (0, POLICY, ""))
+
+
+if __name__ == "__main__":
+    unittest.main()
