@@ -6,7 +6,7 @@ ghost use Rattle.std.specs.Prelude.{◌≡◌, ◌<◌, ◌≤◌, All, map, len
 
 use crate::node::{Literal, Node};
 use crate::part::{Parts, part};
-use crate::query::HasCube;
+use fond_state::has_cube::HasCube;
 use fond_text::fault::NoMemory;
 use std::alloc::Global;
 

@@ -6,7 +6,8 @@ ghost use Rattle.fond_match.specs.Blocks.{AreBlocksOf, AreHeavy, HasFewBlocks, I
 ghost use Rattle.std.specs.Prelude.{◌≡◌, ◌<◌, ◌≤◌, ◌+◌, ◌^◌, List, Bool, Option, All, length, map, position, take, OnOk};
 
 use crate::matcher::{Matcher, first_of};
-use crate::query::{HasCube, Query};
+use crate::query::Query;
+use fond_state::has_cube::HasCube;
 use fond_text::fault::NoMemory;
 use std::alloc::Global;
 

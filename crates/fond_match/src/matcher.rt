@@ -6,7 +6,8 @@ ghost use Rattle.std.specs.List.{range_with_len};
 
 use crate::grow::grow;
 use crate::node::Node;
-use crate::query::{HasCube, Query};
+use crate::query::Query;
+use fond_state::has_cube::HasCube;
 use fond_text::fault::NoMemory;
 use std::alloc::Global;
 

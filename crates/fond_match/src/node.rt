@@ -3,7 +3,8 @@
 ghost use Rattle.std.specs.Prelude.{◌≡◌, ◌≤◌, All, fold, length, map};
 ghost use Rattle.fond_match.specs.Visits.{IsLeast, enters, visits, better};
 
-use crate::query::{HasCube, Query};
+use crate::query::Query;
+use fond_state::has_cube::HasCube;
 
 /// A literal of an atom.
 #[derive(Clone, Copy, PartialEq, Eq, PartialOrd, Ord)]

@@ -6,8 +6,8 @@ ghost use Rattle.fond_state.specs.Cubes.{literal_at};
 ghost use Rattle.std.specs.Prelude.{◌≡◌, ◌<◌, ◌++◌, ℕ, Bool, Some, All, map, length, IfOk, IfSome, OnOk};
 
 use crate::node::Literal;
-use crate::query::HasCube;
 use fond_state::cube::Cube;
+use fond_state::has_cube::HasCube;
 use fond_text::fault::NoMemory;
 use std::alloc::Global;
 

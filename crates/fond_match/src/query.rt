@@ -1,20 +1,10 @@
-//! What an index is asked, and what it is built from.
+//! What an index is asked.
 
 ghost use Rattle.std.specs.Prelude.{◌≡◌, length};
 
 use fond_state::cube::Cube;
 use fond_state::state::State;
 use std::marker::Model;
-
-/// What has a cube.
-pub trait HasCube {
-    ghost use Rattle.std.specs.Prelude.{◌≡◌, List, Bool, Option};
-
-    ghost cube: { Self → List (Option Bool) };
-
-    fn cube(&self) -> &Cube
-        ensures { result.now ≡ cube self.now };
-}
 
 /// What lies in cubes, by the literals that it has.
 pub trait Query {
@@ -38,14 +28,6 @@ pub trait Query {
 
     ghost has_each: { (query : Self) (cube : List (Option Bool)) (atom : ℕ) (sign : Bool) → lies query cube ≡ true →
         literal_at cube atom ≡ Some sign → has query atom sign ≡ true };
-}
-
-impl HasCube for Cube {
-    ghost cube = { λ c. c };
-
-    fn cube(&self) -> &Cube {
-        self
-    }
 }
 
 /// A cube lies in those whose literals it has.

@@ -1,12 +1,13 @@
-//! Ordered lists of rules over partial states, forbidden pairs of a partial state and an action, and the rule that
-//! holds first in a state (Muise, McIlraith and Beck, Improved non-deterministic planning by exploiting state
+//! Lists of which the first item that matches a state counts (`Ordered`), such as lists of rules over partial states; forbidden
+//! pairs of a partial state and an action (Muise, McIlraith and Beck, Improved non-deterministic planning by exploiting state
 //! relevance, 2012). Rules and pairs are tested for being sure and lean: `lean` is about any conditions that pass a test, and would
-//! not without any one of their literals. Stepping through the states of a task, and
-//! reading and writing certificates, are left to the crates above.
+//! not without any one of their literals. Stepping through the states of a task, and reading and writing certificates, are
+//! left to the crates above.
 #![tactic(auto)]
 
 pub mod laws;
 pub mod lean;
+pub mod ordered;
 pub mod pad;
 pub mod pair_test;
 pub mod pairs;

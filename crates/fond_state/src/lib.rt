@@ -10,6 +10,7 @@
 #![tactic(auto)]
 
 pub mod cube;
+pub mod has_cube;
 mod mask;
 pub mod state;
 mod word;

@@ -1,6 +1,7 @@
 //! The rules and forbidden pairs of certificates.
 
 use fond_state::cube::Cube;
+use fond_state::has_cube::HasCube;
 use fond_text::list::List;
 
 /// What an outcome leads to: the goal, or the condition of the rule of this number.
@@ -26,6 +27,14 @@ pub struct Rule {
     pub cond: Cube,
     pub act: u32,
     pub targets: Targets,
+}
+
+impl HasCube for Rule {
+    ghost cube = { λ rule. rule.cond };
+
+    fn cube(&self) -> &Cube {
+        &self.cond
+    }
 }
 
 /// A pair bars its action in the states of its condition: the outcome leads into a cube of a sure layer.
