@@ -10,10 +10,11 @@ use Rattle.fond_task.specs.Texts.{state_text}
 use Rattle.fond_task.specs.Truth.{is_true}
 use Rattle.fond_task.specs.declared.rule.Rule.{Rule}
 use Rattle.fond_task.specs.Policies.{IsGoal}
-use Rattle.fond_exec.specs.declared.step.Step.{Step}
+use Rattle.fond_exec.specs.Choices.{IsChoice}
+use Rattle.fond_exec.specs.declared.choice.Choice.{Choice}
 use Rattle.fond_exec.specs.declared.trace.Traced.{Traced}
 use Rattle.fond_exec.specs.Runs.{Run}
-use Rattle.fond_exec.specs.Steps.{IsChosen, IsStuck, IsTaken, IsStep}
+use Rattle.fond_exec.specs.Steps.{IsChosen, IsStuck, IsTaken}
 use Rattle.fond_state.specs.Traces.{goal_line, outcome_line, Pick, goal, ended, stuck, bad_outcome, took}
 use Rattle.fond_exec.specs.Traces.{step_line, IsTraceText, Trace}
 use Rattle.fond_exec.proofs.Chosen.{differs}
@@ -23,12 +24,18 @@ none_left [] none = refl
 none_left (outcome ∷ left) none = absurd (omega (arith, none))
 
 module _ (pick : Pick) (task : Task) (rules : List Rule) where
-  -- a step of an equal task and equal rules
-  pub step_of : (other : Task) (more : List Rule) (state : List Bool) (outcome : ℕ) (step : Step) (after : List Bool) → other ≡ task → more ≡ rules →
-      IsStep other more state outcome step after → IsStep task rules state outcome step after
-  step_of other more state outcome step after same same_rules is =
-      let P : Task → Type 0 = λ t. IsStep t more state outcome step after in
-      let Q : List Rule → Type 0 = λ r. IsStep task r state outcome step after in
+  -- a choice by an equal task and equal rules
+  pub choice_of : (other : Task) (more : List Rule) (state : List Bool) (choice : Choice) → other ≡ task → more ≡ rules → IsChoice other more state choice → IsChoice task rules state choice
+  choice_of other more state choice same same_rules is =
+      let P : Task → Type 0 = λ t. IsChoice t more state choice in
+      let Q : List Rule → Type 0 = λ r. IsChoice task r state choice in
+      subst Q same_rules (subst P same is)
+
+  -- a step that an equal task and equal rules take
+  pub taken_of : (other : Task) (more : List Rule) (state : List Bool) (outcome rule number : ℕ) (after : List Bool) → other ≡ task → more ≡ rules → IsTaken other more state outcome rule number after → IsTaken task rules state outcome rule number after
+  taken_of other more state outcome rule number after same same_rules is =
+      let P : Task → Type 0 = λ t. IsTaken t more state outcome rule number after in
+      let Q : List Rule → Type 0 = λ r. IsTaken task r state outcome rule number after in
       subst Q same_rules (subst P same is)
 
   -- a whole trace, whose lines were added to a text

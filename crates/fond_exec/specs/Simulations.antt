@@ -1,9 +1,8 @@
 -- Simulations: runs whose outcomes somebody picks.
-use Rattle.std.specs.Prelude.{◌≡◌, ℕ, ◌+◌, ◌<◌, ◌^◌, List, Bool, length, get_or}
+use Rattle.std.specs.Prelude.{◌≡◌, ℕ, ◌+◌, ◌<◌, ◌^◌, List, Bool, length}
 use Rattle.fond_task.specs.Policies.{IsGoal}
 use Rattle.fond_exec.specs.Runs.{Run}
 use Rattle.fond_exec.specs.Steps.{IsStuck, IsTaken}
-use Rattle.fond_state.specs.Traces.{by_remainder}
 use Rattle.fond_exec.specs.declared.step.SimStep.{SimStep}
 use Rattle.fond_exec.specs.declared.step.SimStep.TheVariants.{Took, Done, Stuck}
 
@@ -22,7 +21,3 @@ IsSimStep Picks run steps (Took rule number outcome) after = (taken : IsTaken ru
 abbrev pub steps_after : SimStep → ℕ → ℕ
 steps_after (Took rule number outcome) steps = steps + 1
 steps_after other steps = steps
-
--- a chooser picks by words: at each step for which there is one, that word picks the outcome of its remainder
-abbrev pub PicksBy : List ℕ → (ℕ → ℕ → ℕ → Type 0) → Type 0
-PicksBy words Picks = (step count outcome : ℕ) → step < length words → 0 < count → count < 2 ^ 32 → Picks step count outcome → outcome ≡ by_remainder count (get_or words step 0)

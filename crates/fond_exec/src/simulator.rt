@@ -24,6 +24,7 @@ pub struct Simulator<'a, F: Fn(u64, u32) -> u32> {
 impl<'a, F: Fn(u64, u32) -> u32> Simulator<'a, F> {
     /// A simulation that goes on from the state of a run.
     pub fn new(run: Executor<'a>, pick: F) -> Simulator<'a, F>
+        requires { IsChooser (F.pre pick) (F.post pick) }
         ensures run { result.run ≡ run.entry }
         ensures steps { result.steps ≡ 0 }
         ensures pick { result.pick ≡ pick }

@@ -1,16 +1,16 @@
-//! The trace of a rule list over a list of recorded outcomes.
+//! The trace of a rule list over words that pick outcomes.
 
 ghost use Rattle.std.specs.Prelude.{◌≡◌, ℕ, List, Some, IfOk};
 ghost use Rattle.fond_rules.specs.Belongs.{BelongTo};
-ghost use Rattle.fond_state.specs.Traces.{as_recorded};
 ghost use Rattle.fond_exec.specs.Traces.{IsTraceText, Trace};
 ghost use Rattle.fond_task.specs.Texts.{state_text};
 ghost use Rattle.fond_task.specs.Truth.{is_true};
 ghost use Rattle.fond_text.specs.Text.{Adds};
 
+use crate::choice::Choice;
 use crate::executor::Executor;
 use crate::lines::{put_end, put_goal, put_outcome, put_stuck, put_taken};
-use crate::step::Step;
+use crate::pick::Picks;
 use fond_rules::rules::Rules;
 use fond_task::task::Task;
 use fond_task::text::put_state;
@@ -25,23 +25,27 @@ pub struct Traced {
     pub is_goal: bool,
 }
 
-/// Adds the lines of the steps by these outcomes.
-fn put_steps(task: &Task, run: &mut Executor, outcomes: &[u32], text: &mut Text)
+/// Adds the lines of the steps by the outcomes that the words pick.
+fn put_steps<P: Picks>(task: &Task, run: &mut Executor, picks: &P, words: &[u32], text: &mut Text)
     requires { run.old.task ≡ task.now }
-    ensures traced { (lines : List ℕ) × Trace as_recorded run.old.task run.old.rules run.old.state outcomes.now lines run.new.state
+    ensures traced { (lines : List ℕ) × Trace (P.pick_of picks.now) run.old.task run.old.rules run.old.state words.now lines run.new.state
         × Adds text.old text.new lines }
     ensures task { run.new.task ≡ run.old.task }
 {
-    let mut left = outcomes;
-    while let Some((outcome, after)) = left.split_first() {
-        match run.step(*outcome) {
-            Step::Took { rule, act } => {
+    let mut left = words;
+    while let Some((word, after)) = left.split_first() {
+        match run.choice() {
+            Choice::Done => return put_goal(left.len(), text),
+            Choice::Stuck => return put_stuck(text),
+            Choice::Chosen { rule, act, count } => {
+                let outcome = picks.pick(count, *word);
+                if outcome >= count {
+                    return put_outcome(outcome, count, text);
+                }
+                run.take(rule, act, count, outcome);
                 let action = &task.acts.get(act as usize).ground;
-                put_taken(&task.labels, rule, action, *outcome, text);
+                put_taken(&task.labels, rule, action, outcome, text);
             }
-            Step::Done => return put_goal(left.len(), text),
-            Step::Stuck => return put_stuck(text),
-            Step::BadOutcome { count } => return put_outcome(*outcome, count, text),
         }
         left = after;
     }
@@ -49,7 +53,7 @@ fn put_steps(task: &Task, run: &mut Executor, outcomes: &[u32], text: &mut Text)
 }
 
 /// The text of the steps that a run took, with the state that it is in.
-pub(crate) fn finished(task: &Task, run: &Executor, text: Text) -> Result<Traced, NoMemory>
+fn finished(task: &Task, run: &Executor, text: Text) -> Result<Traced, NoMemory>
     ensures text { IfOk result (λ traced. Adds text (Some traced.text.items) (state_text task.now run.now.state)) }
     ensures goal { IfOk result (λ traced. traced.is_goal ≡ is_true run.now.state run.now.task.goal) }
 {
@@ -61,19 +65,20 @@ pub(crate) fn finished(task: &Task, run: &Executor, text: Text) -> Result<Traced
     })
 }
 
-/// The trace of the rules over these outcomes, from the initial state of the task on, with the last state. Takes the time of the
-/// steps that are taken, and memory for two states beside the text.
-pub fn trace(
+/// The trace of the rules over these words, from the initial state of the task on, with the last state: at each step the next word
+/// picks the outcome. Takes the time of the steps that are taken, and memory for two states beside the text.
+pub fn trace<P: Picks>(
     alloc: Global,
     task: &Task,
     rules: &Rules,
-    outcomes: &[u32],
+    picks: &P,
+    words: &[u32],
 ) -> Result<Traced, NoMemory>
     requires { BelongTo task.now rules.now }
-    ensures { IfOk result (λ traced. IsTraceText as_recorded task.now rules.now outcomes.now traced.text.items traced.is_goal) }
+    ensures { IfOk result (λ traced. IsTraceText (P.pick_of picks.now) task.now rules.now words.now traced.text.items traced.is_goal) }
 {
     let mut run = Executor::start(alloc, task, rules)?;
     let mut text = Text::new(alloc);
-    put_steps(task, &mut run, outcomes, &mut text);
+    put_steps(task, &mut run, picks, words, &mut text);
     finished(task, &run, text)
 }
