@@ -328,8 +328,9 @@ fn put_lines<K: Sink>(task: &Task, cert: &Cert, pen: &mut Pen, sink: &mut K)
     }
 }
 
-/// Puts the text of a certificate into a pen, or tells that the pen has failed.
-fn put_cert<K: Sink>(
+/// Puts the text of a certificate into a pen, in pieces, or tells that the pen has failed. Takes time in the length of the text, and in
+/// the number of the task's atoms for each cube, pair, rule and item; no memory.
+pub fn send_cert<K: Sink>(
     task: &Task,
     cert: &Cert,
     pen: &mut Pen,
@@ -348,9 +349,8 @@ fn put_cert<K: Sink>(
     Ok(())
 }
 
-/// Writes the text of a certificate in pieces, or fails after a proper prefix of it. Takes time in the length of the text, and in
-/// the number of the task's atoms for each cube, pair, rule and item; no memory.
-pub fn send_cert<K: Sink>(task: &Task, cert: &Cert, sink: &mut K) -> Result<(), WriteFault>
+/// Writes the text of a certificate, as `send_cert` puts it into a pen, or fails after a proper prefix of it. It takes no memory.
+pub fn write_cert<K: Sink>(task: &Task, cert: &Cert, sink: &mut K) -> Result<(), WriteFault>
     requires { Belongs task.now cert.now }
     ensures ok { OnOk result (Appended (K.written sink.old) (K.written sink.new) (spelling task.now cert.now)) }
     ensures part { OnErr result (AppendedPart (K.written sink.old) (K.written sink.new) (spelling task.now cert.now)) }
@@ -358,7 +358,7 @@ pub fn send_cert<K: Sink>(task: &Task, cert: &Cert, sink: &mut K) -> Result<(), 
     ensures rose { OnErr result (Rose (K.faults sink.old) (K.faults sink.new)) }
 {
     let mut pen = Pen::new();
-    put_cert(task, cert, &mut pen, sink)?;
+    send_cert(task, cert, &mut pen, sink)?;
     pen.finish(sink)
 }
 
@@ -372,7 +372,7 @@ pub fn print_cert(alloc: Global, task: &Task, cert: &Cert) -> Result<Vec<u8>, No
         text: Vec::new(alloc),
         faults: 0,
     };
-    match send_cert(task, cert, &mut sink) {
+    match write_cert(task, cert, &mut sink) {
         Ok(()) => Ok(sink.text),
         Err(WriteFault) => Err(NoMemory),
     }

@@ -6,7 +6,7 @@ ghost use Rattle.fond_edge.specs.Written.{Appended, AppendedPart};
 ghost use Rattle.fond_policy.specs.Belongs.{Belongs};
 ghost use Rattle.std.specs.Prelude.{◌≡◌, ◌≤◌, IfOk, OnOk, OnErr};
 
-use crate::print::{print_cert, send_cert};
+use crate::print::{print_cert, write_cert};
 use fond_edge::send::WriteFault;
 use fond_edge::sink::Sink;
 use fond_policy::cert::Cert;
@@ -50,7 +50,7 @@ impl CertText {
         ensures counted { K.faults sink.old ≤ K.faults sink.new }
         ensures rose { OnErr result (Rose (K.faults sink.old) (K.faults sink.new)) }
     {
-        send_cert(&self.game, &self.cert, sink)
+        write_cert(&self.game, &self.cert, sink)
     }
 
     /// The text in memory.

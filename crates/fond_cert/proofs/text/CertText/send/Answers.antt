@@ -7,9 +7,9 @@ use Rattle.fond_cert.proofs.text.CertText.send.Goals as goal
 pub returns-clause-ok : goal.returns-clause-ok
 returns-clause-ok g c =
     let same = ap (λ (game : Task). spelling game c.self.inside.cert) c.deref.ensures ∙ c.self.view_is in
-    subst (λ text. OnOk c.send_cert.result (Appended (g.K.Sink.written c.args.sink.now) (g.K.Sink.written c.send_cert.new.sink) text)) same c.send_cert.ensures.ok
+    subst (λ text. OnOk c.write_cert.result (Appended (g.K.Sink.written c.args.sink.now) (g.K.Sink.written c.write_cert.new.sink) text)) same c.write_cert.ensures.ok
 
 pub returns-clause-part : goal.returns-clause-part
 returns-clause-part g c =
     let same = ap (λ (game : Task). spelling game c.self.inside.cert) c.deref.ensures ∙ c.self.view_is in
-    subst (λ text. OnErr c.send_cert.result (AppendedPart (g.K.Sink.written c.args.sink.now) (g.K.Sink.written c.send_cert.new.sink) text)) same c.send_cert.ensures.part
+    subst (λ text. OnErr c.write_cert.result (AppendedPart (g.K.Sink.written c.args.sink.now) (g.K.Sink.written c.write_cert.new.sink) text)) same c.write_cert.ensures.part
