@@ -1,5 +1,5 @@
 -- What `check` replies where it does not end with a refusal of its files.
-use Rattle.std.proofs.Common.{◌≡◌, ℕ, Bool, List, sym, subst}
+use Rattle.std.proofs.Common.{◌≡◌, Bool, sym, subst}
 use Rattle.fond_ast.specs.declared.task.LiftedTask.{LiftedTask}
 use Rattle.fond_succ.proofs.Between.{ground-tasks-agree}
 use Rattle.fond_policy.specs.declared.cert.Cert.{Cert}
@@ -13,7 +13,7 @@ use Rattle.fond_task.specs.Policies.{selected}
 use Rattle.fond_policy.proofs.Covered.{covers_solve}
 use Rattle.fond_ground.specs.Grounds.{IsGroundOf}
 use Rattle.fond_task.specs.declared.task.Task.{Task}
-use Rattle.fond_commands.specs.Certified.{IsCertText, Claim}
+use Rattle.fond_commands.specs.Certified.{Claim}
 use Rattle.fond_commands.specs.Checks.{AnswersCheck, verdict_reply}
 use Rattle.fond_commands.specs.Replies.{Reply}
 
@@ -23,20 +23,19 @@ claimed task game (Policy layers pairs rules reach) lean is right = ((ground-tas
 claimed task game (Covered layers pairs rules items start) lean is right = ((ground-tasks-agree task game is).solution (selected rules)).0 (covers_solve game layers pairs rules items start right.0)
 claimed task game (Refusal layers) lean is right = λ solvable. refusals_exclude game layers right.0 ((ground-tasks-agree task game is).solvable.1 solvable)
 
-module _ (task : LiftedTask) (game : Task) (cert : List ℕ) where
-  module _ (is : IsGroundOf task game) (read : Cert) (spelled_as : IsCertText game read cert) where
-    judged_as : (verdict : Verdict) → IsVerdict game read verdict → AnswersCheck task game cert (verdict_reply game read verdict)
-    judged_as (Accepted lean) found = AnswersCheck.accepted read lean spelled_as found (claimed task game read lean is found)
-    judged_as (LayerGoal layer cube) found = AnswersCheck.rejected read (LayerGoal layer cube) spelled_as found tt
-    judged_as (LayerAct layer cube act) found = AnswersCheck.rejected read (LayerAct layer cube act) spelled_as found tt
-    judged_as (Pair number) found = AnswersCheck.rejected read (Pair number) spelled_as found tt
-    judged_as (Rule number) found = AnswersCheck.rejected read (Rule number) spelled_as found tt
-    judged_as (Count more) found = AnswersCheck.rejected read (Count more) spelled_as found tt
-    judged_as (NoRule state) found = AnswersCheck.rejected read (NoRule state) spelled_as found tt
-    judged_as Outside found = AnswersCheck.rejected read Outside spelled_as found tt
-    judged_as (Item number) found = AnswersCheck.rejected read (Item number) spelled_as found tt
-    judged_as Start found = AnswersCheck.rejected read Start spelled_as found tt
+module _ (task : LiftedTask) (game : Task) (is : IsGroundOf task game) (read : Cert) where
+  judged_as : (verdict : Verdict) → IsVerdict game read verdict → AnswersCheck task game read (verdict_reply game read verdict)
+  judged_as (Accepted lean) found = AnswersCheck.accepted lean found (claimed task game read lean is found)
+  judged_as (LayerGoal layer cube) found = AnswersCheck.rejected (LayerGoal layer cube) found tt
+  judged_as (LayerAct layer cube act) found = AnswersCheck.rejected (LayerAct layer cube act) found tt
+  judged_as (Pair number) found = AnswersCheck.rejected (Pair number) found tt
+  judged_as (Rule number) found = AnswersCheck.rejected (Rule number) found tt
+  judged_as (Count more) found = AnswersCheck.rejected (Count more) found tt
+  judged_as (NoRule state) found = AnswersCheck.rejected (NoRule state) found tt
+  judged_as Outside found = AnswersCheck.rejected Outside found tt
+  judged_as (Item number) found = AnswersCheck.rejected (Item number) found tt
+  judged_as Start found = AnswersCheck.rejected Start found tt
 
-    -- the verdict is the reply
-    pub judged : (reply : Reply) → (verdict : Verdict) × IsVerdict game read verdict × (reply ≡ verdict_reply game read verdict) → AnswersCheck task game cert reply
-    judged reply h = subst (AnswersCheck task game cert) (sym h.2) (judged_as h.0 h.1)
+  -- the verdict is the answer
+  pub judged : (reply : Reply) → (verdict : Verdict) × IsVerdict game read verdict × (reply ≡ verdict_reply game read verdict) → AnswersCheck task game read reply
+  judged reply h = subst (AnswersCheck task game read) (sym h.2) (judged_as h.0 h.1)

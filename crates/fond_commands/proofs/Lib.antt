@@ -1,5 +1,5 @@
 pub mod Answered
-pub mod Certified
+pub mod CertReplies
 pub mod Checks
 pub mod Lists
 pub mod Migrated

@@ -1,4 +1,4 @@
--- What `run` and `simulate` reply where they do not end with a refusal of their files.
+-- What `run` and `simulate` answer to a certificate.
 use Rattle.std.proofs.Common.{◌≡◌, ℕ, ◌<◌, ◌∙◌, ◌++◌, Bool, List, [], length, sym, ap, subst}
 use Rattle.std.proofs.lemmas.List.Elements.{All-nil}
 use Rattle.std.specs.Prelude.{if◌then◌else◌}
@@ -32,7 +32,7 @@ use Rattle.fond_commands.specs.GroundRuns.{IsTraceReply, ground_reply}
 use Rattle.fond_commands.specs.Simulations.{AnswersSimulate}
 use Rattle.fond_commands.specs.Rejections.{Rejects, of_script}
 use Rattle.fond_commands.specs.Replies.{Reply, trace_reply}
-use Rattle.fond_commands.specs.Certified.{IsCertText, rules_of}
+use Rattle.fond_commands.specs.Certified.{rules_of}
 use Rattle.fond_commands.specs.Runs.{AnswersRun}
 
 -- the last state of a trace has a truth value for each atom
@@ -76,22 +76,20 @@ rules_belong game (Refusal layers) belongs = record {
   there = All-nil (λ (rule : Rule). rule.act < length game.acts);
 }
 
-module _ (task : LiftedTask) (game : Task) (is : IsGroundOf task game) (cert script : List ℕ) where
-  module _ (read : Cert) (spelled_as : IsCertText game read cert) where
-    -- a script with a fault is rejected with it
-    pub script_rejected : (error : ScriptError) → ScriptRefuses (IsScriptFault script) error → Rejects (AnswersRun task game cert script) (of_script error)
-    script_rejected (script_error.Refused byte) fault = AnswersRun.bad_script read byte spelled_as fault
-    script_rejected script_error.NoMemory fault = tt
+-- a script with a fault is rejected with it
+pub script_rejected : (script : List ℕ) (task : LiftedTask) (game : Task) (read : Cert) (error : ScriptError) → ScriptRefuses (IsScriptFault script) error → Rejects (AnswersRun script task game read) (of_script error)
+script_rejected script task game read (script_error.Refused byte) fault = AnswersRun.bad_script byte fault
+script_rejected script task game read script_error.NoMemory fault = tt
 
-    -- the trace over the numbers of the script is the reply
-    pub traced : (numbers : List ℕ) (reply : Reply) → IsScript script numbers → IsTraceReply as_recorded game (rules_of read) numbers reply → AnswersRun task game cert script reply
-    traced numbers reply spelled h =
-        let alike = lifted as_recorded task game is (rules_of read) numbers reply h in
-        subst (AnswersRun task game cert script) (sym alike.3) (AnswersRun.ran read numbers alike.0 alike.1 spelled_as spelled alike.2)
+-- the trace over the numbers of the script is the answer
+pub traced : (script : List ℕ) (task : LiftedTask) (game : Task) (read : Cert) (is : IsGroundOf task game) (numbers : List ℕ) (reply : Reply) → IsScript script numbers → IsTraceReply as_recorded game (rules_of read) numbers reply
+    → AnswersRun script task game read reply
+traced script task game read is numbers reply spelled h =
+    let alike = lifted as_recorded task game is (rules_of read) numbers reply h in
+    subst (AnswersRun script task game read) (sym alike.3) (AnswersRun.ran numbers alike.0 alike.1 spelled alike.2)
 
--- the trace over drawn words is the reply
-pub simulated : (task : LiftedTask) (game : Task) (is : IsGroundOf task game) (cert : List ℕ) (seed steps : ℕ) (read : Cert) → IsCertText game read cert → (reply : Reply) → IsTraceReply by_remainder game (rules_of read) (drawn_words seed steps) reply
-    → AnswersSimulate task game cert seed steps reply
-simulated task game is cert seed steps read spelled reply h =
+-- the trace over drawn words is the answer
+pub simulated : (seed steps : ℕ) (task : LiftedTask) (game : Task) (read : Cert) (is : IsGroundOf task game) (reply : Reply) → IsTraceReply by_remainder game (rules_of read) (drawn_words seed steps) reply → AnswersSimulate seed steps task game read reply
+simulated seed steps task game read is reply h =
     let alike = lifted by_remainder task game is (rules_of read) (drawn_words seed steps) reply h in
-    subst (AnswersSimulate task game cert seed steps) (sym alike.3) (AnswersSimulate.ran read alike.0 alike.1 spelled alike.2)
+    subst (AnswersSimulate seed steps task game read) (sym alike.3) (AnswersSimulate.ran alike.0 alike.1 alike.2)

@@ -1,4 +1,4 @@
--- Certificates of the task that three texts describe, and what a correct one claims of it.
+-- Certificates of the task that three texts describe, what a correct one claims of it, and the replies of commands that read one.
 use Rattle.std.specs.Prelude.{◌≡◌, ℕ, List, []}
 use Rattle.fond_text.specs.declared.fault.Fault.{Fault}
 use Rattle.fond_ast.specs.declared.task.LiftedTask.{LiftedTask}
@@ -7,6 +7,7 @@ use Rattle.fond_task.specs.declared.task.Task.{Task}
 use Rattle.fond_task.specs.declared.rule.Rule.{Rule}
 use Rattle.fond_policy.specs.Belongs.{Belongs}
 use Rattle.fond_policy.specs.Sizes.{HasSmallNumbers}
+use Rattle.fond_cert.specs.Faults.{IsCertFault}
 use Rattle.fond_cert.specs.Spellings.{spelling}
 use Rattle.fond_policy.specs.declared.cert.Cert.{Cert}
 use Rattle.fond_policy.specs.declared.cert.Cert.TheVariants.{Policy, Refusal, Covered}
@@ -14,7 +15,7 @@ use Rattle.fond_ground.specs.Grounds.{IsGroundOf}
 use Rattle.fond_succ.specs.Solutions.{rules_policy}
 use Rattle.fond_front.specs.Texts.{Texts}
 use Rattle.fond_commands.specs.Tasks.{Describe, IsRefusal}
-use Rattle.fond_commands.specs.Replies.{Reply, fault_reply}
+use Rattle.fond_commands.specs.Replies.{Reply, cert_reply, fault_reply}
 
 -- three texts describe a task, and this is its ground task, over whose numbered atoms and actions certificates are written
 abbrev pub DescribeGround : Texts → LiftedTask → Task → Type 0
@@ -41,3 +42,14 @@ Claim task game (Covered layers pairs rules items start) = IsSolution task (rule
 pub data TaskReply (texts : Texts) (Answers : LiftedTask → Task → Reply → Type 0) : Reply → Type 0 where
   refused : (fault : Fault) → IsRefusal texts fault → TaskReply texts Answers (fault_reply fault)
   answered : (task : LiftedTask) (game : Task) (reply : Reply) → DescribeGround texts task game → Answers task game reply → TaskReply texts Answers reply
+
+-- the reply of a command that works on a certificate of a task: a refusal of its files; the first fault of a text that spells no
+-- certificate of the task that they describe; or an answer to the certificate that the text spells
+pub data CertReply (texts : Texts) (cert : List ℕ) (Answers : LiftedTask → Task → Cert → Reply → Type 0) : Reply → Type 0 where
+  refused : (fault : Fault) → IsRefusal texts fault → CertReply texts cert Answers (fault_reply fault)
+  no_cert : (task : LiftedTask) (game : Task) (code byte : ℕ) → DescribeGround texts task game → IsCertFault game cert code byte → CertReply texts cert Answers (cert_reply code byte)
+  answered : (task : LiftedTask) (game : Task) (read : Cert) (reply : Reply) → DescribeGround texts task game → IsCertText game read cert → Answers task game read reply → CertReply texts cert Answers reply
+
+-- no answer to any certificate
+abbrev pub NoAnswer : LiftedTask → Task → Cert → Reply → Type 0
+NoAnswer task game read reply = ⊥

@@ -3,16 +3,14 @@
 ghost use Rattle.fond_policy.specs.Belongs.{Belongs};
 ghost use Rattle.fond_check.specs.Verdicts.{IsVerdict};
 ghost use Rattle.fond_check.specs.declared.verdict.Verdict.{Verdict};
-ghost use Rattle.fond_ground.specs.Grounds.{IsGroundOf};
-ghost use Rattle.fond_commands.specs.Checks.{AnswersCheck, CheckReply, verdict_reply, verdict_ending};
+ghost use Rattle.fond_commands.specs.Checks.{CheckReply, verdict_reply, verdict_ending};
 ghost use Rattle.fond_commands.specs.Rejections.{Rejects};
 ghost use Rattle.std.specs.Prelude.{◌≡◌, IfOk, IfErr};
 
 use crate::answer::Answer;
+use crate::certified::read_certified;
 use crate::rejection::Rejection;
 use crate::status::Ending;
-use crate::task_files::{TaskFiles, read_files};
-use fond_cert::read::read_cert;
 use fond_check::check::check;
 use fond_check::text::verdict_text;
 use fond_check::verdict::Verdict;
@@ -54,22 +52,11 @@ fn verdict_answer(alloc: Global, game: &Task, cert: &Cert) -> Result<Answer, NoM
     answer_of(alloc, game, cert, &verdict)
 }
 
-/// The answer to the text of a certificate of a task, or why it is none.
-fn certified_verdict(alloc: Global, files: &TaskFiles, cert: &[u8]) -> Result<Answer, Rejection>
-    requires { IsGroundOf files.now.task.value files.now.game.value }
-    ensures replied { IfOk result (AnswersCheck files.now.task.value files.now.game.value cert.now) }
-    ensures rejected { IfErr result (Rejects (AnswersCheck files.now.task.value files.now.game.value cert.now)) }
-{
-    let game: &Task = &files.game;
-    let cert = read_cert(alloc, game, cert)?;
-    Ok(verdict_answer(alloc, game, &cert)?)
-}
-
 /// The answer to `check`: the verdict on the certificate, or why there is none.
 pub fn check_cert(alloc: Global, texts: &TaskTexts, cert: &[u8]) -> Result<Answer, Rejection>
     ensures replied { IfOk result (CheckReply texts.now cert.now) }
     ensures rejected { IfErr result (Rejects (CheckReply texts.now cert.now)) }
 {
-    let files = read_files(alloc, texts)?;
-    certified_verdict(alloc, &files, cert)
+    let read = read_certified(alloc, texts, cert)?;
+    Ok(verdict_answer(alloc, &read.files.game, &read.cert)?)
 }

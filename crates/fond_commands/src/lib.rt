@@ -4,6 +4,7 @@
 
 pub mod answer;
 mod body;
+mod certified;
 pub mod check;
 pub mod fetch;
 pub mod migrate;

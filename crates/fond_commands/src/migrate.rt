@@ -9,12 +9,11 @@ ghost use Rattle.fond_commands.specs.Rejections.{Rejects};
 ghost use Rattle.std.specs.Prelude.{Decides, IfOk, IfErr};
 
 use crate::answer::Answer;
+use crate::certified::{Certified, read_certified};
 use crate::check::answer_of;
 use crate::rejection::Rejection;
 use crate::status::Ending;
-use crate::task_files::{TaskFiles, read_files};
 use fond_cert::print::print_cert;
-use fond_cert::read::read_cert;
 use fond_check::check::check;
 use fond_check::verdict::Verdict;
 use fond_covering::cover::cover;
@@ -55,7 +54,7 @@ fn cover_text(alloc: Global, game: &Task, cert: Cert) -> Result<Vec<u8>, NoMemor
 fn correct_answer(alloc: Global, game: &Task, cert: Cert, text: &[u8]) -> Result<Answer, NoMemory>
     requires spelled { IsCertText game.now cert text.now }
     requires right { IsRight game.now cert }
-    ensures { IfOk result (AnswersMigrate game.now text.now) }
+    ensures { IfOk result (AnswersMigrate text.now game.now cert) }
 {
     if is_to_cover(&cert) {
         let covered = cover_text(alloc, game, cert)?;
@@ -64,10 +63,10 @@ fn correct_answer(alloc: Global, game: &Task, cert: Cert, text: &[u8]) -> Result
     Ok(Answer::new(Vec::from_slice(alloc, text)?, Ending::Done))
 }
 
-/// The answer to a certificate, which has this text.
+/// The answer to a certificate, which has this text: the verdict on one that is not correct, or a correct one.
 fn migrated(alloc: Global, game: &Task, cert: Cert, text: &[u8]) -> Result<Answer, NoMemory>
     requires { IsCertText game.now cert text.now }
-    ensures { IfOk result (AnswersMigrate game.now text.now) }
+    ensures { IfOk result (AnswersMigrate text.now game.now cert) }
 {
     let verdict = check(alloc, game, &cert)?;
     if is_fault(&verdict) {
@@ -76,21 +75,11 @@ fn migrated(alloc: Global, game: &Task, cert: Cert, text: &[u8]) -> Result<Answe
     correct_answer(alloc, game, cert, text)
 }
 
-/// The answer to the text of a certificate of a task, or why it is none.
-fn certified_migration(alloc: Global, files: &TaskFiles, text: &[u8]) -> Result<Answer, Rejection>
-    ensures replied { IfOk result (AnswersMigrate files.now.game.value text.now) }
-    ensures rejected { IfErr result (Rejects (AnswersMigrate files.now.game.value text.now)) }
-{
-    let game: &Task = &files.game;
-    let cert = read_cert(alloc, game, text)?;
-    Ok(migrated(alloc, game, cert, text)?)
-}
-
 /// The answer to `migrate`: a correct certificate with a cover, or the verdict on one that is not correct, or why there is none.
 pub fn migrate(alloc: Global, texts: &TaskTexts, cert: &[u8]) -> Result<Answer, Rejection>
     ensures replied { IfOk result (MigrateReply texts.now cert.now) }
     ensures rejected { IfErr result (Rejects (MigrateReply texts.now cert.now)) }
 {
-    let files = read_files(alloc, texts)?;
-    certified_migration(alloc, &files, cert)
+    let Certified { files, cert: read } = read_certified(alloc, texts, cert)?;
+    Ok(migrated(alloc, &files.game, read, cert)?)
 }

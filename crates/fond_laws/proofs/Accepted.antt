@@ -20,7 +20,7 @@ use Rattle.fond_laws.proofs.OneTaskOfTexts.{texts_have_one_task_lem}
 use Rattle.fond_laws.proofs.SameGround.{ground_of_same}
 use Rattle.fond_laws.proofs.SameTask.{alike, same_ground}
 use Rattle.fond_laws.specs.Alike.{AreAlike}
-use Rattle.fond_commands.specs.Certified.{DescribeGround, IsCertText, TaskReply}
+use Rattle.fond_commands.specs.Certified.{CertReply, DescribeGround, IsCertText, TaskReply}
 use Rattle.fond_commands.specs.Checks.{AnswersCheck, CheckReply, IsFault, verdict_reply, verdict_ending}
 use Rattle.fond_laws.specs.Replies.{CorrectAreAccepted, DemosAreAccepted, HopelessTasksAreRefused, IsCertEnding, MigratedAreAccepted, PlannedAreAccepted, SmallTasksAreDecided, accepted_reply}
 use Rattle.fond_succ.proofs.Between.{ground-tasks-agree}
@@ -41,18 +41,10 @@ use Rattle.fond_commands.specs.declared.status.Ending.{Ending}
 use Rattle.fond_commands.specs.declared.status.Ending.TheVariants.{Done, Unsolvable, Refused, Rejected}
 
 module _ (task : LiftedTask) (game : Task) where
-  -- the text of a correct certificate is accepted
-  correct_reply : (cert : Cert) (text : List ℕ) (reply : Reply) → IsCertText game cert text → IsRight game cert → AnswersCheck task game text reply
-      → (lean : Bool) × IsVerdict game cert (Accepted lean) × (reply ≡ verdict_reply game cert (Accepted lean))
-  correct_reply cert text reply is right (AnswersCheck.bad_cert code byte fault) =
-      absurd (no_fault game (cert_lines game cert) code byte (cert_leads game cert is.0 is.1) (subst (λ (t : List ℕ). IsCertFault game t code byte) is.2 fault))
-  correct_reply cert text reply is right (AnswersCheck.accepted read lean spelled found claim) =
-      let same : read ≡ cert = one_cert game read cert spelled.0 is.0 spelled.1 is.1 (sym spelled.2 ∙ is.2) in
-      (lean, subst (λ (c : Cert). IsVerdict game c (Accepted lean)) same found, ap (λ (c : Cert). verdict_reply game c (Accepted lean)) same)
-  correct_reply cert text reply is right (AnswersCheck.rejected read verdict spelled found fault) =
-      let same : read ≡ cert = one_cert game read cert spelled.0 is.0 spelled.1 is.1 (sym spelled.2 ∙ is.2) in
-      let accepted = right_accepted game cert verdict right (subst (λ (c : Cert). IsVerdict game c verdict) same found) in
-      absurd (subst IsFault accepted.1 fault)
+  -- a correct certificate is accepted
+  correct_answer : (cert : Cert) (reply : Reply) → IsRight game cert → AnswersCheck task game cert reply → (lean : Bool) × IsVerdict game cert (Accepted lean) × (reply ≡ verdict_reply game cert (Accepted lean))
+  correct_answer cert reply right (AnswersCheck.accepted lean found claim) = (lean, found, refl)
+  correct_answer cert reply right (AnswersCheck.rejected verdict found fault) = absurd (subst IsFault (right_accepted game cert verdict right found).1 fault)
 
 -- a certificate of one ground task of a task is one of each ground task of a task that is the same
 module _ (game another : Task) (alike : AreAlike game another) where
@@ -67,10 +59,15 @@ module _ (texts : Texts) where
   -- each reply of `check` to the text of a correct certificate is that of the verdict that it is accepted
   reply_to : (task : LiftedTask) (game : Task) (cert : Cert) (text : List ℕ) (reply : Reply) → DescribeGround texts task game → IsCertText game cert text → IsRight game cert → CheckReply texts text reply
       → (another : Task) × AreAlike game another × (lean : Bool) × IsVerdict another cert (Accepted lean) × (reply ≡ verdict_reply another cert (Accepted lean))
-  reply_to task game cert text reply described is right (TaskReply.refused fault refusal) = absurd (not_refused texts task fault described.0 refusal)
-  reply_to task game cert text reply described is right (TaskReply.answered other another same also answers) =
+  reply_to task game cert text reply described is right (CertReply.refused fault refusal) = absurd (not_refused texts task fault described.0 refusal)
+  reply_to task game cert text reply described is right (CertReply.no_cert other another code byte also fault) =
+      let own = text_alike game another (both_alike task other game another described also) cert text is in
+      absurd (no_fault another (cert_lines another cert) code byte (cert_leads another cert own.0 own.1) (subst (λ (t : List ℕ). IsCertFault another t code byte) own.2 fault))
+  reply_to task game cert text reply described is right (CertReply.answered other another read given also spelled answers) =
       let agree = both_alike task other game another described also in
-      let found = correct_reply other another cert text reply (text_alike game another agree cert text is) (agree.right cert right) answers in
+      let own = text_alike game another agree cert text is in
+      let same : read ≡ cert = one_cert another read cert spelled.0 own.0 spelled.1 own.1 (sym spelled.2 ∙ own.2) in
+      let found = correct_answer other another cert reply (agree.right cert right) (subst (λ (c : Cert). AnswersCheck other another c reply) same answers) in
       (another, agree, found.0, found.1, found.2)
 
 accepted : (texts : Texts) (task : LiftedTask) (game : Task) (cert : Cert) (text : List ℕ) (reply : Reply) → DescribeGround texts task game → IsCertText game cert text → IsRight game cert → CheckReply texts text reply → reply.ending ≡ Done
@@ -179,16 +176,16 @@ cover_accepted texts task game (Policy layers pairs rules reach) text reply desc
 cover_accepted texts task game (Refusal layers) text reply described covers answers = absurd covers
 cover_accepted texts task game (Covered layers pairs rules items start) text reply described covers answers = absurd covers
 
-migrated_by : (texts : Texts) (task : LiftedTask) (game : Task) (cert : List ℕ) (written reply : Reply) → DescribeGround texts task game → AnswersMigrate game cert written → written.ending ≡ Done → CheckReply texts written.text reply
-    → reply.ending ≡ Done
-migrated_by texts task game cert written reply described (AnswersMigrate.bad_cert code byte fault) ends answers = absurd (rejected_done ends)
-migrated_by texts task game cert written reply described (AnswersMigrate.rejected read verdict spelled found fault) ends answers = absurd (fault_done verdict fault ends)
-migrated_by texts task game cert written reply described (AnswersMigrate.covered read text spelled right to_cover covers) ends answers = cover_accepted texts task game read text reply described covers answers
-migrated_by texts task game cert written reply described (AnswersMigrate.kept read spelled right other) ends answers = accepted texts task game read cert reply described spelled right answers
+migrated_by : (texts : Texts) (task : LiftedTask) (game : Task) (read : Cert) (cert : List ℕ) (written reply : Reply) → DescribeGround texts task game → IsCertText game read cert → AnswersMigrate cert game read written → written.ending ≡ Done
+    → CheckReply texts written.text reply → reply.ending ≡ Done
+migrated_by texts task game read cert written reply described spelled (AnswersMigrate.rejected verdict found fault) ends answers = absurd (fault_done verdict fault ends)
+migrated_by texts task game read cert written reply described spelled (AnswersMigrate.covered text right to_cover covers) ends answers = cover_accepted texts task game read text reply described covers answers
+migrated_by texts task game read cert written reply described spelled (AnswersMigrate.kept right other) ends answers = accepted texts task game read cert reply described spelled right answers
 
 migrated_of : (texts : Texts) (cert : List ℕ) (written reply : Reply) → MigrateReply texts cert written → written.ending ≡ Done → CheckReply texts written.text reply → reply.ending ≡ Done
-migrated_of texts cert written reply (TaskReply.refused fault refusal) ends answers = absurd (refused_done ends)
-migrated_of texts cert written reply (TaskReply.answered task game same described answered) ends answers = migrated_by texts task game cert written reply described answered ends answers
+migrated_of texts cert written reply (CertReply.refused fault refusal) ends answers = absurd (refused_done ends)
+migrated_of texts cert written reply (CertReply.no_cert task game code byte described fault) ends answers = absurd (rejected_done ends)
+migrated_of texts cert written reply (CertReply.answered task game read given described spelled answered) ends answers = migrated_by texts task game read cert written reply described spelled answered ends answers
 
 pub migrated : MigratedAreAccepted
 migrated domain problem side cert written reply answered ends answers = migrated_of (files domain problem side) cert written reply answered ends answers

@@ -1,4 +1,4 @@
--- No trace of a solution gets stuck.
+-- No trace of a solution gets stuck, and so none of a correct policy.
 use Rattle.std.proofs.Common.{◌≡◌, ℕ, List, Some, length, slice_get, refl, sym, subst}
 use Rattle.fond_ast.specs.declared.task.LiftedTask.{LiftedTask}
 use Rattle.fond_state.specs.Games.{start, onward}
@@ -13,7 +13,16 @@ use Rattle.fond_task.specs.declared.rule.Rule.{Rule}
 use Rattle.fond_succ.specs.Solutions.{rules_policy}
 use Rattle.fond_state.specs.Traces.{Pick, TraceOf}
 use Rattle.fond_succ.specs.Traces.{Choose, Trace}
-use Rattle.fond_laws.specs.Replies.{SolutionsNeverStick}
+use Rattle.fond_commands.specs.Certified.{rules_of}
+use Rattle.fond_ground.specs.Grounds.{IsGroundOf}
+use Rattle.fond_policy.proofs.Covered.{covers_solve}
+use Rattle.fond_policy.specs.Parts.{IsRight}
+use Rattle.fond_policy.specs.declared.cert.Cert.{Cert}
+use Rattle.fond_policy.specs.declared.cert.Cert.TheVariants.{Policy, Refusal, Covered}
+use Rattle.fond_succ.proofs.Between.{ground-tasks-agree}
+use Rattle.fond_task.proofs.Ranks.{ranks_exclude}
+use Rattle.fond_task.specs.Policies.{selected}
+use Rattle.fond_laws.specs.Replies.{CorrectPoliciesNeverStick, IsPolicyCert, SolutionsNeverStick}
 use Rattle.fond_laws.specs.Stuck.{EndsStuck}
 
 module _ (task : LiftedTask) (game : Task) (rules : List Rule) (solves : IsSolution task (rules_policy task game rules)) where
@@ -42,3 +51,12 @@ module _ (task : LiftedTask) (game : Task) (rules : List Rule) (solves : IsSolut
 
 pub never_stuck : SolutionsNeverStick
 never_stuck pick task game rules words lines last solves trace = never task game rules solves pick _ words lines last start trace
+
+-- the rules of a correct policy are a solution
+right_solves : (task : LiftedTask) (game : Task) (read : Cert) → IsGroundOf task game → IsRight game read → IsPolicyCert read → IsSolution task (rules_policy task game (rules_of read))
+right_solves task game (Policy layers pairs rules reach) is right policy = ((ground-tasks-agree task game is).solution (selected rules)).0 (ranks_exclude game layers pairs rules reach right)
+right_solves task game (Covered layers pairs rules items from) is right policy = ((ground-tasks-agree task game is).solution (selected rules)).0 (covers_solve game layers pairs rules items from right)
+right_solves task game (Refusal layers) is right policy = absurd policy
+
+pub correct_never_stuck : CorrectPoliciesNeverStick
+correct_never_stuck pick task game read words lines last is right policy trace = never_stuck pick task game (rules_of read) words lines last (right_solves task game read is right policy) trace

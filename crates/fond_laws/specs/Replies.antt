@@ -3,7 +3,9 @@ use Rattle.std.specs.Prelude.{◌≡◌, ◌⊎◌, ℕ, List, [], ◌∷◌, �
 use Rattle.fond_ast.specs.declared.task.LiftedTask.{LiftedTask}
 use Rattle.fond_task.specs.declared.task.Task.{Task}
 use Rattle.fond_policy.specs.declared.cert.Cert.{Cert}
+use Rattle.fond_policy.specs.declared.cert.Cert.TheVariants.{Refusal}
 use Rattle.fond_policy.specs.Parts.{IsRight}
+use Rattle.fond_ground.specs.Grounds.{IsGroundOf}
 use Rattle.fond_regress.specs.Stable.{IsHopeless}
 use Rattle.fond_ast.specs.Solutions.{IsSolution, IsSolvable, More, initial}
 use Rattle.fond_ast.specs.States.{State}
@@ -11,7 +13,7 @@ use Rattle.fond_task.specs.declared.rule.Rule.{Rule}
 use Rattle.fond_succ.specs.Solutions.{rules_policy}
 use Rattle.fond_succ.specs.Traces.{Trace}
 use Rattle.fond_state.specs.Traces.{Pick}
-use Rattle.fond_commands.specs.Certified.{DescribeGround, IsCertText}
+use Rattle.fond_commands.specs.Certified.{DescribeGround, IsCertText, rules_of}
 use Rattle.fond_demo.specs.Demos.{demo_domain, demo_problem, demo_side}
 use Rattle.fond_tool.specs.Demos.{demo_text, demo_texts}
 use Rattle.fond_tool.specs.Jobs.{JobReply, texts}
@@ -64,6 +66,17 @@ MigratedAreAccepted = (domain problem side cert : List ℕ) (migrated reply : Re
 abbrev pub SolutionsNeverStick : Type 0
 SolutionsNeverStick = (pick : Pick) (task : LiftedTask) (game : Task) (rules : List Rule) (words lines : List ℕ) (last : State) → IsSolution task (rules_policy task game rules)
     → (trace : Trace pick task game rules (initial task) words lines last) → ¬ EndsStuck trace
+
+-- a certificate is a policy
+abbrev pub IsPolicyCert : Cert → Type 0
+IsPolicyCert (Refusal layers) = ⊥
+IsPolicyCert cert = ⊤
+
+-- no trace of the rules of a correct policy, of either version, ends with the line `stuck`, whatever the words are and however they
+-- pick outcomes
+abbrev pub CorrectPoliciesNeverStick : Type 0
+CorrectPoliciesNeverStick = (pick : Pick) (task : LiftedTask) (game : Task) (read : Cert) (words lines : List ℕ) (last : State) → IsGroundOf task game → IsRight game read → IsPolicyCert read
+    → (trace : Trace pick task game (rules_of read) (initial task) words lines last) → ¬ EndsStuck trace
 
 -- what `demo` prints as done is a certificate of its task between its lines, and the reply of `check` to that, for the same texts,
 -- is that it is accepted as lean

@@ -1,6 +1,6 @@
 //! The laws of replies, each the contract of a function with an empty body.
 
-ghost use Rattle.fond_laws.specs.Replies.{CorrectAreAccepted, DemosAreAccepted, HopelessTasksAreRefused, MigratedAreAccepted, PlannedAreAccepted, SmallTasksAreDecided, SolutionsNeverStick};
+ghost use Rattle.fond_laws.specs.Replies.{CorrectAreAccepted, CorrectPoliciesNeverStick, DemosAreAccepted, HopelessTasksAreRefused, MigratedAreAccepted, PlannedAreAccepted, SmallTasksAreDecided, SolutionsNeverStick};
 
 /// `check` accepts the text of each correct certificate of the task that its files describe.
 pub fn correct_are_accepted()
@@ -31,6 +31,11 @@ pub fn migrated_are_accepted()
 /// `run` never prints `stuck` for rules that are a solution. Those of a policy that `check` accepts are one.
 pub fn solutions_never_stick()
     ensures { SolutionsNeverStick }
+{}
+
+/// `run` never prints `stuck` for the rules of a correct policy, whoever picks the outcomes.
+pub fn correct_policies_never_stick()
+    ensures { CorrectPoliciesNeverStick }
 {}
 
 /// `check` accepts each certificate that `demo` prints for its task, as lean.

@@ -12,8 +12,9 @@ mod rows;
 use crate::error::RowError;
 use crate::rows::Rows;
 use fond_laws::replies::{
-    correct_are_accepted, demos_are_accepted, hopeless_tasks_are_refused, migrated_are_accepted,
-    planned_are_accepted, small_tasks_are_decided, solutions_never_stick,
+    correct_are_accepted, correct_policies_never_stick, demos_are_accepted,
+    hopeless_tasks_are_refused, migrated_are_accepted, planned_are_accepted,
+    small_tasks_are_decided, solutions_never_stick,
 };
 use std::{env, fs};
 use toml::Table;
@@ -26,6 +27,7 @@ fn call_laws() {
     hopeless_tasks_are_refused();
     migrated_are_accepted();
     solutions_never_stick();
+    correct_policies_never_stick();
     demos_are_accepted();
 }
 

@@ -1,17 +1,17 @@
+use Rattle.fond_commands.specs.Certified.{CertReply}
 use Rattle.fond_commands.specs.Checks.{AnswersCheck}
-use Rattle.fond_commands.proofs.Rejections.{refused_files, task_rejected, task_replied}
+use Rattle.fond_commands.proofs.Checks.{judged}
+use Rattle.fond_commands.proofs.CertReplies.{not_read}
 use Rattle.fond_commands.proofs.check.check_cert.Goals as goal
 
-pub returns-in_err-files-clause-rejected : goal.returns-in_err-files-clause-rejected
-returns-in_err-files-clause-rejected c = refused_files c.args.texts.now (λ task game. AnswersCheck task game c.args.cert.now) _ c.in_err-files.field-0.0 c.from_residual.ensures.1 c.in_err-files.ensures.refused
+pub returns-in_err-read-clause-rejected : goal.returns-in_err-read-clause-rejected
+returns-in_err-read-clause-rejected c = not_read c.args.texts.now c.args.cert.now AnswersCheck _ c.in_err-read.field-0.0 c.from_residual.ensures.1 c.in_err-read.ensures.rejected
 
-pub certified_verdict-requires : goal.certified_verdict-requires
-certified_verdict-requires c = c.in_ok-files.ensures.read.1
+pub verdict_answer-requires : goal.verdict_answer-requires
+verdict_answer-requires c = rw c.deref.ensures c.in_ok-read.ensures.spelled.0
 
 pub returns-clause-replied : goal.returns-clause-replied
 returns-clause-replied c =
-    task_replied c.args.texts.now (λ task game. AnswersCheck task game c.args.cert.now) c.in_ok-files.files.task.value c.in_ok-files.files.game.value c.in_ok-files.ensures.read c.certified_verdict.result c.certified_verdict.ensures.replied
-
-pub returns-clause-rejected : goal.returns-clause-rejected
-returns-clause-rejected c =
-    task_rejected c.args.texts.now (λ task game. AnswersCheck task game c.args.cert.now) c.in_ok-files.files.task.value c.in_ok-files.files.game.value c.in_ok-files.ensures.read c.certified_verdict.result c.certified_verdict.ensures.rejected
+    let read = c.in_ok-read.read in
+    CertReply.answered read.files.task.value read.files.game.value read.cert c.in_ok-verdict_answer.field-0 c.in_ok-read.ensures.described c.in_ok-read.ensures.spelled
+    (judged read.files.task.value read.files.game.value c.in_ok-read.ensures.described.1 read.cert c.in_ok-verdict_answer.field-0 (rw c.deref.ensures at c.in_ok-verdict_answer.ensures))

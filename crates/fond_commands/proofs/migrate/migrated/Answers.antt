@@ -7,5 +7,5 @@ use Rattle.fond_commands.proofs.migrate.migrated.Goals as goal
 pub returns-then-is_fault : goal.returns-then-is_fault
 returns-then-is_fault c =
     IfOk-weaker c.answer_of.result _ _
-    (λ (reply : Reply) same. subst (AnswersMigrate c.args.game.now c.args.text.now) (sym same)
-    (AnswersMigrate.rejected c.args.cert c.in_ok-verdict.verdict c.requires c.in_ok-verdict.ensures (c.is_fault.ensures.0 c.if-is_fault.true))) c.answer_of.ensures
+    (λ (reply : Reply) same. subst (AnswersMigrate c.args.text.now c.args.game.now c.args.cert) (sym same)
+    (AnswersMigrate.rejected c.in_ok-verdict.verdict c.in_ok-verdict.ensures (c.is_fault.ensures.0 c.if-is_fault.true))) c.answer_of.ensures

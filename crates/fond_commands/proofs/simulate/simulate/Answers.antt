@@ -1,17 +1,24 @@
+use Rattle.std.proofs.Common.{sym, subst}
+use Rattle.fond_rules.specs.Belongs.{BelongTo}
+use Rattle.fond_commands.specs.Certified.{CertReply}
 use Rattle.fond_commands.specs.Simulations.{AnswersSimulate}
-use Rattle.fond_commands.proofs.Rejections.{refused_files, task_rejected, task_replied}
+use Rattle.fond_commands.proofs.CertReplies.{not_read}
+use Rattle.fond_commands.proofs.Runs.{rules_belong, simulated}
 use Rattle.fond_commands.proofs.simulate.simulate.Goals as goal
 
 pub returns-in_err-files-clause-rejected : goal.returns-in_err-files-clause-rejected
-returns-in_err-files-clause-rejected c = refused_files c.args.texts.now (λ task game. AnswersSimulate task game c.args.cert.now c.args.seed c.args.steps) _ c.in_err-files.field-0.0 c.from_residual.ensures.1 c.in_err-files.ensures.refused
+returns-in_err-files-clause-rejected c = not_read c.args.texts.now c.args.cert.now (AnswersSimulate c.args.seed c.args.steps) _ c.in_err-files.field-0.0 c.from_residual.ensures.1 c.in_err-files.ensures.rejected
 
-pub certified_simulation-requires : goal.certified_simulation-requires
-certified_simulation-requires c = c.in_ok-files.ensures.read.1
+pub drawn_answer-requires : goal.drawn_answer-requires
+drawn_answer-requires c =
+    let read = c.in_ok-files.field-0 in
+    subst (BelongTo c.deref.result.now) (sym c.rules_of-rules.ensures) (rw c.deref.ensures (rules_belong read.files.game.value read.cert c.in_ok-files.ensures.spelled.0))
 
 pub returns-clause-replied : goal.returns-clause-replied
 returns-clause-replied c =
-    task_replied c.args.texts.now (λ task game. AnswersSimulate task game c.args.cert.now c.args.seed c.args.steps) c.in_ok-files.files.task.value c.in_ok-files.files.game.value c.in_ok-files.ensures.read c.certified_simulation.result c.certified_simulation.ensures.replied
-
-pub returns-clause-rejected : goal.returns-clause-rejected
-returns-clause-rejected c =
-    task_rejected c.args.texts.now (λ task game. AnswersSimulate task game c.args.cert.now c.args.seed c.args.steps) c.in_ok-files.files.task.value c.in_ok-files.files.game.value c.in_ok-files.ensures.read c.certified_simulation.result c.certified_simulation.ensures.rejected
+    let read = c.in_ok-files.field-0 in
+    let task = read.files.task.value in
+    let game = read.files.game.value in
+    let reply = c.in_ok-drawn_answer.field-0 in
+    CertReply.answered task game read.cert reply c.in_ok-files.ensures.described c.in_ok-files.ensures.spelled
+    (simulated c.args.seed c.args.steps task game read.cert c.in_ok-files.ensures.described.1 reply (rw (c.rules_of-rules.ensures, c.deref.ensures) at c.in_ok-drawn_answer.ensures))
