@@ -1,0 +1,9 @@
+-- A rule list for a task.
+use Rattle.std.specs.Prelude.{List}
+use Rattle.fond_task.specs.declared.rule.Rule.{Rule}
+use Rattle.fond_task.specs.declared.task.Task.{Task}
+
+-- a task with rules
+pub record TaskRules : Type 0 where
+  pub task : Task
+  pub rules : List Rule
