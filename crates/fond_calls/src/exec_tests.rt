@@ -40,7 +40,7 @@ fn is_last(step: SimStep) -> bool {
     }
 }
 
-/// Whether two steps take the last outcome of the coin if it is picked, and the number of steps, if the rules are over the coin.
+/// Whether three steps take the last outcome of the coin if it is picked, and the number of steps, if the rules are over the coin.
 fn last_steps(alloc: Global, coin: &Task, rules: &Rules) -> Result<Option<(bool, u64)>, NoMemory> {
     if !rules.belong_to(coin) {
         return Ok(None);
@@ -51,15 +51,18 @@ fn last_steps(alloc: Global, coin: &Task, rules: &Rules) -> Result<Option<(bool,
         ensures { result ≡ count - 1 }
     { count - 1 };
     let mut sim = Simulator::new(run, last);
-    let is_last_twice = is_last(sim.step()) && sim.steps() < 10 && is_last(sim.step());
-    Ok(Some((is_last_twice && !sim.done(), sim.steps())))
+    let mut are_last = true;
+    for _ in 0..3 {
+        are_last = are_last && sim.steps() < 10 && is_last(sim.step());
+    }
+    Ok(Some((are_last && !sim.done(), sim.steps())))
 }
 
 #[test]
 fn the_last_outcome_is_picked(rt: HostRuntime) -> Result<(), Fail> {
     let coin = ground_coin(rt.alloc())?;
     let rules = rules(rt.alloc())?;
-    assert!(rt; last_steps(rt.alloc(), &coin, &rules)? == Some((true, 2)));
+    assert!(rt; last_steps(rt.alloc(), &coin, &rules)? == Some((true, 3)));
     Ok(())
 }
 

@@ -4,7 +4,7 @@ use fond_ast::laws::{
 };
 use fond_cert::laws::{faults_are_one, spellings_are_clean, spellings_differ};
 use fond_check::laws::right_are_accepted;
-use fond_policy::laws::covers_are_solutions;
+use fond_policy::laws::{covers_are_solutions, items_are_closed};
 use fond_reader::laws::{clean_domains_are_read, clean_problems_are_read};
 use fond_regress::laws::stable_cubes_are_sure;
 use fond_rules::laws::{earlier_rules_decide, selected_rule_is_policy};
@@ -14,12 +14,17 @@ use fond_succ::laws::{
 };
 use fond_task::game_laws::{layers_force, ranks_exclude_traps, refusals_hold};
 use fond_task::laws::{full_cubes_are_exact, images_are_sound, values_are_sound};
-use fond_tree::laws::{no_tree_has_a_fault, one_fault, one_tree, read_trees_are_short};
+use fond_tree::laws::{
+    no_forest_has_a_fault, no_tree_has_a_fault, one_fault, one_forest, one_tree,
+    read_trees_are_short,
+};
 
 #[test]
 fn laws_of_files_can_be_called() {
     one_tree();
+    one_forest();
     no_tree_has_a_fault();
+    no_forest_has_a_fault();
     one_fault();
     read_trees_are_short();
     clean_domains_are_read();
@@ -59,6 +64,7 @@ fn laws_of_meaning_can_be_called() {
 fn laws_of_games_can_be_called() {
     ranks_exclude_traps();
     covers_are_solutions();
+    items_are_closed();
     layers_force();
     refusals_hold();
     stable_cubes_are_sure();

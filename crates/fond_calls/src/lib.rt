@@ -19,6 +19,8 @@ mod law_tests;
 #[cfg(test)]
 mod reader_tests;
 #[cfg(test)]
+mod regress_tests;
+#[cfg(test)]
 mod text_tests;
 #[cfg(test)]
 mod weak_tests;
