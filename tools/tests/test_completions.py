@@ -121,7 +121,7 @@ class Cases:
             self.assertEqual(self.shell.completed("dualfond " + command[:3]).rstrip(), "dualfond " + command)
 
     def test_files(self):
-        for words in ("plan", "plan robot.d", "plan robot.d robot.p", "check a b c", "run a b c d", "simulate a b c", "migrate a b c"):
+        for words in ("plan", "plan a", "plan a b", "check a b c", "run a b c d", "simulate a b c", "migrate a b c"):
             self.assertEqual(self.shell.completed(f"dualfond {words} robot.u"), f"dualfond {words} robot.unfair ")
         self.assertEqual(self.shell.completed("dualfond succ with"), "dualfond succ with\\ blank.d ")
 
@@ -134,7 +134,7 @@ class Cases:
         self.assertEqual(self.shell.offered("dualfond help "), sorted(COMMANDS))
         self.assertEqual(self.shell.completed("dualfond help su"), "dualfond help succ ")
         self.assertEqual(self.shell.offered("dualfond --progress "), sorted(COMMANDS))
-        self.assertEqual(self.shell.completed("dualfond --progress check a b c robot.c"), "dualfond --progress check a b c robot.cert ")
+        self.assertEqual(self.shell.completed("dualfond --progress run a b c robot.c"), "dualfond --progress run a b c robot.cert ")
         self.assertEqual(self.shell.completed("dualfond --install p"), "dualfond --install prefix/")
 
 

@@ -94,7 +94,8 @@ class Documents(unittest.TestCase):
         for line in lines:
             if reason_not_to_run(line):
                 return
-            done = subprocess.run(line, shell=True, cwd=folder, timeout=SECONDS, stdin=subprocess.DEVNULL, stdout=subprocess.PIPE, check=False)
+            done = subprocess.run(line, shell=True, cwd=folder, timeout=SECONDS, check=False, stdin=subprocess.DEVNULL,
+                                  stdout=subprocess.PIPE)
             self.assertNotIn(done.returncode, FAILURES, line)
             printed += done.stdout.decode()
         if output is not None:
@@ -116,6 +117,24 @@ class Documents(unittest.TestCase):
             for other in re.findall(r"\bdocs/[A-Za-z]+\.\w+|\bexamples/README\.md", content(name)):
                 with self.subTest(document=name):
                     self.assertTrue(os.path.exists(os.path.join(TOP, other)), other)
+
+    def test_certificates(self):
+        """NAME.cert beside NAME.p is what `plan` prints with the side list beside it, and `check` accepts it."""
+        count = 0
+        for problem in sorted(glob.glob("examples/*/*.p", root_dir=TOP)):
+            folder = os.path.dirname(problem)
+            name = os.path.join(folder, os.path.basename(folder))
+            domain, side, cert = name + ".d", name + ".unfair", problem[:-2] + ".cert"
+            with self.subTest(problem=problem):
+                status, printed = program.run("plan", domain, problem, side, "1000000", cwd=TOP)
+                self.assertIn(status, (0, 1))
+                checked = program.run("check", domain, problem, side, cert, cwd=TOP)
+                self.assertEqual(checked, (0, b"accepted policy lean\n" if status == 0 else b"accepted refusal\n"))
+                # (the certificate of coin has version 1, as an example of that)
+                shown = cert if content(cert).split()[1] == "2" or status == 1 else problem[:-2] + ".cover"
+                self.assertEqual(printed.decode(), content(shown))
+                count += 1
+        print(f"documents: {count} certificates of the examples")
 
     def test_man_page(self):
         if not shutil.which("man"):
