@@ -1,0 +1,6 @@
+(define (problem two-doors)
+(:domain robot)
+(:objects hall office lab - room front back - door)
+(:init (at hall) (has-wedge)
+ (beside front hall) (beside front office) (beside back office) (beside back lab))
+(:goal (at lab)))
