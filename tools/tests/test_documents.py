@@ -101,6 +101,21 @@ class Documents(unittest.TestCase):
         if output is not None:
             self.assertEqual(printed, output, lines)
 
+    def test_answers_in_tables(self):
+        """A row with a command, its status and its answer, as 'policy: 9 rules, 10 items': the certificate has as many lines of each."""
+        count = 0
+        for name in documents():
+            for command, status, answer in re.findall(r"^\| `\./dualfond (plan [^`]*)` \| (\d) \| (\w+: [^|]*) \|", content(name), re.M):
+                with self.subTest(document=name, command=command):
+                    found, printed = program.run(*command.split(), cwd=TOP)
+                    heads = [line.split()[0] for line in printed.decode().splitlines()]
+                    self.assertEqual(found, int(status))
+                    self.assertIn(answer.split(":")[0], printed.decode().split("\n")[0])
+                    for number, part in re.findall(r"(\d+) (rule|item|pair|cube|layer)s?", answer):
+                        self.assertEqual(heads.count(part), int(number), part)
+                count += 1
+        print(f"documents: {count} answers in tables")
+
     def test_files_that_are_shown(self):
         count = 0
         for name in documents():
