@@ -97,6 +97,8 @@ class Documents(unittest.TestCase):
             done = subprocess.run(line, shell=True, cwd=folder, timeout=SECONDS, check=False, stdin=subprocess.DEVNULL,
                                   stdout=subprocess.PIPE)
             self.assertNotIn(done.returncode, FAILURES, line)
+            if line.startswith("tools/"):
+                self.assertLessEqual(done.returncode, line.startswith("tools/lint"), line)
             printed += done.stdout.decode()
         if output is not None:
             self.assertEqual(printed, output, lines)
@@ -129,7 +131,7 @@ class Documents(unittest.TestCase):
 
     def test_documents_that_are_named(self):
         for name in documents():
-            for other in re.findall(r"\bdocs/[A-Za-z]+\.\w+|\bexamples/README\.md", content(name)):
+            for other in re.findall(r"\b(?:docs|examples)/[\w./-]*\w", content(name)):
                 with self.subTest(document=name):
                     self.assertTrue(os.path.exists(os.path.join(TOP, other)), other)
 
