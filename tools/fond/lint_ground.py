@@ -9,8 +9,7 @@ import math
 
 from fond import faults, lint_model
 from fond.lint_files import place_of
-from fond.lint_model import ROOT, first_of
-from fond.lint_names import parent_of
+from fond.lint_model import ROOT, parent_of
 
 FALSE, UNKNOWN, TRUE = 0, 1, 2
 # The steps that the kept actions of one schema may take, and those of all searches for warnings.

@@ -42,8 +42,8 @@ class Schema:
 
     leaf: Leaf
     parameters: tuple
-    precondition: Node | None
-    effect: Node | None
+    precondition: object
+    effect: object
 
     @property
     def name(self):
@@ -110,6 +110,12 @@ def types_of(tree):
 def first_of(declarations, name):
     """The first declaration of a name, or None."""
     return next((it for it in declarations if it.name == name), None)
+
+
+def parent_of(types, name):
+    """The parent of a type by its first declaration; `object` without a written parent declares nothing."""
+    declared = next((it for it in types if it.name == name and (name != ROOT or it.types)), None)
+    return declared.type_names[0] if declared else ROOT
 
 
 def section(tree, head):

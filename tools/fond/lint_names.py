@@ -2,7 +2,7 @@
 from fond import faults, lint_model
 from fond.faults import number_of, shown
 from fond.lint_files import place_of
-from fond.lint_model import ROOT, first_of
+from fond.lint_model import ROOT, first_of, parent_of
 from fond.tree import Leaf
 
 
@@ -27,12 +27,6 @@ def occurrences_in(model, file):
 def leaf_at(trees, place):
     """The leaf at a place among trees, or None."""
     return next((tree for tree in trees if isinstance(tree, Leaf) and place_of(tree) == place), None)
-
-
-def parent_of(types, name):
-    """The parent of a type by its first declaration; `object` without a written parent declares nothing."""
-    declared = next((it for it in types if it.name == name and (name != ROOT or it.types)), None)
-    return declared.type_names[0] if declared else ROOT
 
 
 def explain_type(file, place, model):

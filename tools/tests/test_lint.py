@@ -284,8 +284,8 @@ SAID = [
      "the pattern of 'flip' has 2 terms, but the schema is declared at D:4:10 with 1 parameter"),
     (files_of(typed_domain("(:action b :parameters (?z - (either t u)) :effect (p ?z))")), "refused domain 5 55 F17",
      "'?z' has the type (either t u), but parameter 1 of 'p', declared at 3:15, has the type 't'"),
-    (files_of(typed_domain("(:constants c)"), "(define (problem y) (:domain x) (:objects c - u) (:goal ()))"), "refused problem 1 43 F19",
-     "'c' is declared again with the type 'u'; its type at D:5:13 is 'object'"),
+    (files_of(typed_domain("(:constants c)"), "(define (problem y) (:domain x) (:objects c - u) (:goal ()))"),
+     "refused problem 1 43 F19", "'c' is declared again with the type 'u'; its type at D:5:13 is 'object'"),
     (files_of("(define (domain x) (:predicates (p ?x) (p)))"), "refused domain 1 41 F19",
      "the predicate 'p' is declared again with no parameters; at 1:34 it has 1 parameter of type 'object'"),
     (TASKS["129 objects"], "refused domain 1 1 F21", "the task has 16,641 fluent atoms, more than 16,384: p 16,641"),
@@ -434,7 +434,10 @@ class Mutants(unittest.TestCase):
         return code
 
 
-def small(actions, problem=PROBLEM, side="", declared="(:predicates (p))"):
+DECLARED = "(:predicates (p))"
+
+
+def small(actions, problem=PROBLEM, side="", declared=DECLARED):
     return files_of(f"(define (domain x)\n{declared}\n{actions})", problem, side)
 
 
@@ -452,7 +455,7 @@ WARNED = {
                   "D:3:28: warning: nothing uses the parameter '?y' of 'a'"),
     "again": (small("(:action a :effect (p))", PROBLEM_OF.format("(:objects k k)")),
               "P:2:13: warning: 'k' is declared again; the first declaration is at 2:11"),
-    "again from the domain": (small("(:action a :effect (p))", PROBLEM_OF.format("(:objects k)"), "", "(:constants k) (:predicates (p))"),
+    "again from the domain": (small("(:action a :effect (p))", PROBLEM_OF.format("(:objects k)"), "", f"(:constants k) {DECLARED}"),
                               "P:2:11: warning: 'k' is declared again; the first declaration is at D:2:13"),
     "predicate again": (small("(:action a :effect (p))", declared="(:predicates (p) (p))"),
                         "D:2:19: warning: 'p' is declared again; the first declaration is at 2:15"),
@@ -469,7 +472,8 @@ WARNED = {
     "empty range": (small("(:action a :parameters (?x) :effect (when (= ?x ?x) (p)))"),
                     "D:3:10: warning: the schema 'a' has no kept action: no object is in the range of '?x'"),
     "pattern": (small(MOVE, INIT, "(m ?x ?y)\n(m ?x ?x)", MOVES), "U:2:1: warning: the pattern of 'm' fits no kept action"),
-    "pattern of an object": (small(MOVE, INIT, "(m a ?x)\n(m b ?x)", MOVES), "U:2:1: warning: the pattern of 'm' fits no kept action"),
+    "pattern of an object": (small(MOVE, INIT, "(m a ?x)\n(m b ?x)", MOVES),
+                             "U:2:1: warning: the pattern of 'm' fits no kept action"),
     "pattern out of range": (small(MOVE, INIT, " (m ?x c)", MOVES),
                              "U:1:2: warning: the pattern of 'm' fits no kept action: 'c' is not in the range of '?b'"),
 }
@@ -598,18 +602,20 @@ class Counts(unittest.TestCase):
         self.assertEqual((counts["plain"], counts["joined"], counts["never"]), ((36, True), (125, False), (0, True)))
 
 
+def write(folder, name, text):
+    """Writes a file, and returns its path."""
+    path = os.path.join(folder, name)
+    with open(path, "w", encoding="ascii") as file:
+        file.write(text)
+    return path
+
+
 class CommandLine(unittest.TestCase):
     """Words, output and exit statuses."""
 
     def lint(self, *words, **env):
         ran = subprocess.run([os.path.join(tools, "lint"), *words], env={**os.environ, **env}, capture_output=True, check=False)
         return ran.returncode, ran.stdout.decode("utf-8", "surrogateescape")
-
-    def write(self, folder, name, text):
-        path = os.path.join(folder, name)
-        with open(path, "w", encoding="ascii") as file:
-            file.write(text)
-        return path
 
     def test_words(self):
         for words in [(), ("D",), ("D", "P", "U", "V"), ("--wrong", "D", "P")]:
@@ -632,8 +638,8 @@ class CommandLine(unittest.TestCase):
     @needs_program
     def test_a_fault(self):
         with tempfile.TemporaryDirectory() as folder:
-            domain = self.write(folder, "d", "(define (domain x)\n (:action a :effect (Q)))")
-            problem = self.write(folder, "p", PROBLEM)
+            domain = write(folder, "d", "(define (domain x)\n (:action a :effect (Q)))")
+            problem = write(folder, "p", PROBLEM)
             self.assertEqual(self.lint(domain, problem), (1, f"{domain}:2:22: error F15: no predicate 'q' is declared\n"))
             status, text = self.lint("--json", domain, problem)
             self.assertEqual((status, json.loads(text)), (1, [{
@@ -644,14 +650,83 @@ class CommandLine(unittest.TestCase):
     @needs_program
     def test_warnings_are_no_fault(self):
         with tempfile.TemporaryDirectory() as folder:
-            domain = self.write(folder, "d", "(define (domain x) (:predicates (p) (q)) (:action a :effect (p)))")
-            problem, side = self.write(folder, "p", PROBLEM.replace(":domain x", ":domain y")), self.write(folder, "u", "a\n")
+            domain = write(folder, "d", "(define (domain x) (:predicates (p) (q)) (:action a :effect (p)))")
+            problem, side = write(folder, "p", PROBLEM.replace(":domain x", ":domain y")), write(folder, "u", "a\n")
             status, text = self.lint(domain, problem, side)
             self.assertEqual(status, 0)
             self.assertEqual(text.splitlines(), [
                 f"{domain}:1:38: warning: no condition and no effect mentions the predicate 'q'",
                 f"{problem}:1:30: warning: the problem is for the domain 'y', but the domain at {domain}:1:17 has the name 'x'",
             ])
+
+
+# Vim writes its list of places and the place to which it goes; Emacs prints the place of the first error.
+VIM = """
+silent make!
+let places = map(getqflist(), '[v:val.lnum, v:val.col, v:val.type, v:val.text]')
+cc 1
+call writefile([json_encode(places), json_encode([line('.'), col('.')])], 'RESULT')
+qall!
+"""
+EMACS = """
+(require 'compile)
+(compile "COMMAND")
+(let ((process (get-buffer-process "*compilation*")))
+  (while (process-live-p process) (accept-process-output process 1))
+  (accept-process-output nil 0.3))
+(next-error 1 t)
+(with-current-buffer "d.d" (princ (list (line-number-at-pos) (1+ (- (point) (line-beginning-position))))))
+"""
+BROKEN = "(define (domain x) (:predicates (p))\n\t(:action a :effect (Q)))"
+
+
+class Editors(unittest.TestCase):
+    """The settings of docs/EDITORS.md, in the editors that the machine has."""
+
+    def setUp(self):
+        """A task, and in place of the program one that knows its fault."""
+        room = tempfile.TemporaryDirectory()
+        self.addCleanup(room.cleanup)
+        self.folder = room.name
+        self.files = [write(self.folder, "d.d", BROKEN), write(self.folder, "d.p", PROBLEM), write(self.folder, "d.unfair", "a\n")]
+        known = write(self.folder, "known", "#!/bin/sh\necho refused domain 2 22 F15\nexit 3\n")
+        os.chmod(known, 0o755)
+        self.env = {**os.environ, "DUALFOND_PROGRAM": known}
+
+    def block(self, language):
+        """The settings for an editor."""
+        return re.search(rf"^```{language}\n(.*?)^```$", "\n".join(document("EDITORS.md")), re.M | re.S)[1]
+
+    def run_editor(self, *words):
+        with contextlib.suppress(FileNotFoundError):
+            return subprocess.run(words, cwd=top, env=self.env, stdin=subprocess.DEVNULL, capture_output=True, timeout=30)
+        return self.skipTest(words[0])
+
+    def test_code(self):
+        pattern = json.loads(self.block("json"))["tasks"][0]["problemMatcher"]["pattern"]
+        for line, groups in [
+            ("/a b/d.d:2:22: error F15: no predicate 'q' is declared",
+             ("/a b/d.d", "2", "22", "error", "F15", "no predicate 'q' is declared")),
+            *((line, (*re.match(r"([DPU]):(\d+):(\d+)", line).groups(), "warning", None, line.split(": ", 2)[2]))
+              for _, line in WARNED.values()),
+        ]:
+            match = re.match(pattern["regexp"], line)
+            found = tuple(match[pattern[key]] for key in ("file", "line", "column", "severity", "code", "message"))
+            self.assertEqual(found, groups)
+
+    def test_vim(self):
+        result = os.path.join(self.folder, "result")
+        script = write(self.folder, "script", self.block("vim") + VIM.replace("RESULT", result))
+        self.run_editor("vim", "-es", "-N", "-u", "NONE", "-i", "NONE", self.files[0], "-S", script)
+        with open(result, encoding="utf-8") as file:
+            places, place = map(json.loads, file)
+        self.assertEqual((places, place), ([[2, 22, "e", "no predicate 'q' is declared"]], [2, 22]))
+
+    def test_emacs(self):
+        command = " ".join([os.path.join(tools, "lint"), *self.files])
+        script = write(self.folder, "script.el", self.block("elisp") + EMACS.replace("COMMAND", command))
+        ran = self.run_editor("emacs", "--batch", "-Q", "-l", script)
+        self.assertTrue(ran.stdout.endswith(b"(2 22)"), ran)
 
 
 if __name__ == "__main__":
