@@ -9,7 +9,7 @@ import math
 
 from fond import faults, lint_model
 from fond.lint_files import place_of
-from fond.lint_model import ROOT, parent_of
+from fond.lint_model import ROOT, firsts, parent_of
 
 FALSE, UNKNOWN, TRUE = 0, 1, 2
 # The steps that the kept actions of one schema may take, and those of all searches for warnings.
@@ -242,6 +242,7 @@ class Search:
         self.order = []
         while len(self.order) < len(joined):
             self.order.append(self.next_group(joined, tests))
+        self.objects = [frozenset(groups.objects[group]) for group in self.order]
         self.tests = [[] for _ in self.order]
         self.atoms = [[] for _ in self.order]
         for test in tests:
@@ -267,17 +268,20 @@ class Search:
         here = next(at for at, term in enumerate(terms) if self.groups.of.get(term) == self.order[level])
         return self.task.values_at(predicate, known, here), tuple(terms[at] for at in known)
 
+    def candidates(self, level, objects):
+        """The objects of a level's group that its static atoms leave, where these are the objects of the levels before."""
+        allowed = [index.get(objects_of(terms, objects), frozenset()) for index, terms in self.atoms[level]]
+        allowed.append(self.objects[level])
+        smallest, *others = sorted(allowed, key=len)
+        return smallest.intersection(*others)
+
     def count(self, level=0, objects=None):
         if level == len(self.order):
             return 1
         objects, found = objects or {}, 0
-        group = self.order[level]
-        allowed = [index.get(objects_of(terms, objects), frozenset()) for index, terms in self.atoms[level]]
-        names = self.groups.members(group)
-        for candidate in self.groups.objects[group]:
+        names = self.groups.members(self.order[level])
+        for candidate in self.candidates(level, objects):
             self.task.step()
-            if any(candidate not in some for some in allowed):
-                continue
             inner = {**objects, **dict.fromkeys(names, candidate)}
             if all(test.value(inner) != FALSE for test in self.tests[level]):
                 found += self.count(level + 1, inner)
@@ -335,8 +339,8 @@ def parts_text(counts):
 
 def atom_counts(task):
     """The fluent predicates with the number of their atoms."""
-    predicates = {it.name: it for it in reversed(task.model.predicates) if it.name in task.fluent}
-    return [(name, task.lists_of(it.parameters), True) for name, it in predicates.items()]
+    predicates = [it for it in firsts(task.model.predicates).values() if it.name in task.fluent]
+    return [(it.name, task.lists_of(it.parameters), True) for it in predicates]
 
 
 def action_counts(task):

@@ -112,6 +112,11 @@ def first_of(declarations, name):
     return next((it for it in declarations if it.name == name), None)
 
 
+def firsts(declarations):
+    """The first declaration of each name, by the name."""
+    return {it.name: it for it in reversed(declarations)}
+
+
 def parent_of(types, name):
     """The parent of a type by its first declaration; `object` without a written parent declares nothing."""
     declared = next((it for it in types if it.name == name and (name != ROOT or it.types)), None)

@@ -2,7 +2,7 @@
 from fond import faults, lint_ground, lint_model
 from fond.lint_files import place_of
 from fond.lint_ground import Costly, kept_count
-from fond.lint_model import first_of
+from fond.lint_model import firsts
 
 PASSED_OVER = (":metric", ":goal-reward", ":length")
 
@@ -11,8 +11,8 @@ def unmentioned_predicates(model):
     """Predicates that no condition and no effect mentions; an initial atom is no mention."""
     mentioned = {it.node.head for schema in model.schemas for it in lint_model.schema_occurrences(schema)}
     mentioned.update(it.node.head for it in lint_model.occurrences(model.goal, (), "condition"))
-    for predicate in model.predicates:
-        if predicate.name not in mentioned and predicate is first_of(model.predicates, predicate.name):
+    for predicate in firsts(model.predicates).values():
+        if predicate.name not in mentioned:
             yield faults.warning("domain", predicate.leaf, "predicate")
 
 
@@ -30,17 +30,13 @@ def unused_parameters(model):
 
 def repeated_declarations(files, model):
     """Constants, objects and predicates that are declared again."""
-    first = {}
     declarations = [("domain", it) for it in model.constants] + [("problem", it) for it in model.objects]
-    for file, declared in declarations:
-        if declared.name in first:
-            yield faults.warning(file, declared.leaf, "again", where=files.where(*first[declared.name], file))
-        else:
-            first[declared.name] = file, place_of(declared.leaf)
-    for predicate in model.predicates:
-        earlier = first_of(model.predicates, predicate.name)
-        if earlier is not predicate:
-            yield faults.warning("domain", predicate.leaf, "again", where=files.where("domain", place_of(earlier.leaf), "domain"))
+    for group in (declarations, [("domain", it) for it in model.predicates]):
+        first = {}
+        for file, declared in group:
+            earlier = first.setdefault(declared.name, (file, place_of(declared.leaf)))
+            if earlier != (file, place_of(declared.leaf)):
+                yield faults.warning(file, declared.leaf, "again", where=files.where(*earlier, file))
 
 
 def problem_sections(files, model):
@@ -76,8 +72,9 @@ def useless_schemas(task):
 
 def useless_patterns(task, useless):
     """Patterns that fit no kept action, of schemas that have some."""
+    schemas = firsts(task.model.schemas)
     for node in task.model.patterns:
-        schema, terms = first_of(task.model.schemas, node.head), [leaf.text for leaf in node.members[1:]]
+        schema, terms = schemas[node.head], [leaf.text for leaf in node.members[1:]]
         if node.head not in useless and not kept_count(task, schema, terms, most=1):
             yield faults.warning("side", node, "pattern", node.head, why=why_no_fit(task, schema, terms))
 

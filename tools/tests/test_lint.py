@@ -11,7 +11,6 @@ import contextlib
 import glob
 import importlib.machinery
 import importlib.util
-import io
 import itertools
 import json
 import os
