@@ -102,10 +102,6 @@ class Part:
     lacks: str = ""
 
 
-def is_name(text):
-    return not text.startswith(("?", ":")) and text not in RESERVED
-
-
 def shape_of(role, node):
     """What is expected of the members of a node, or None if the node itself is refused."""
     if role in ("domain section", "problem section"):
