@@ -28,6 +28,7 @@ sys.dont_write_bytecode = True
 sys.path.insert(0, tools)
 from fond import faults, lint_ground, lint_model, program  # noqa: E402
 from fond.lint_files import KINDS, Files  # noqa: E402
+from fond.tree import read_tree  # noqa: E402
 
 built = os.path.join(top, "out", "dualfond")
 if "DUALFOND_PROGRAM" not in os.environ and os.path.exists(built):
@@ -91,8 +92,9 @@ def name_at(text, line, column, code):
 
 
 def missing_section(text):
-    """The section whose absence is F10, as the text of a small problem shows it."""
-    return ":domain" if b"(:domain" not in text.lower() else ":goal"
+    """The first section whose absence is F10."""
+    heads = [getattr(member, "head", "") for member in read_tree(text).members[2:]]
+    return next(name for name in (":domain", ":goal") if name not in heads)
 
 
 def expected_name(files, file, line, column, code):
@@ -376,11 +378,11 @@ TOKEN = re.compile(rb"[()]|[^()\s;]+")
 
 def mutated(chance, text):
     """A text in which a token, a parenthesis or a byte is deleted, inserted or replaced."""
-    what, edit = chance.choice(["token", "parenthesis", "byte"]), chance.choice(["delete", "insert", "replace"])
+    what, edit = chance.choice(["token", "token", "parenthesis", "byte"]), chance.choice(["delete", "insert", "replace"])
     spans = [match.span() for match in TOKEN.finditer(text)]
     if what == "byte":
         start = chance.randrange(len(text) + 1)
-        end, new = min(start + 1, len(text)), bytes([chance.randrange(256)])
+        end, new = min(start + 1, len(text)), bytes([chance.choice([chance.randrange(256), chance.randrange(33, 127)])])
     else:
         chosen = [it for it in spans if (text[it[0]:it[1]] in b"()") == (what == "parenthesis")]
         start, end = chance.choice(chosen or [(len(text), len(text))])
