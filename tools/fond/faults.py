@@ -183,14 +183,9 @@ def number_of(count, noun):
     return f"{count or 'no'} {noun}" + ("" if count == 1 else "s")
 
 
-def filled(template, name, fields):
-    fields = {key: shown(field) if key in ("key", "predicate", "parent", "schema") else field for key, field in fields.items()}
-    return template.format(name=shown(name), **fields)
-
-
 def fault(file, place, code, name="", variant="", **fields):
     """The finding of a fault at a place, which is a pair of a line and a column, with one of the messages of its row."""
-    return Finding(file, *place, "error", code, name, filled(FAULTS[code].messages[variant], name, fields))
+    return Finding(file, *place, "error", code, name, FAULTS[code].messages[variant].format(name=shown(name), **fields))
 
 
 def unexplained(file, place, code):
@@ -202,7 +197,7 @@ def unexplained(file, place, code):
 def warning(file, leaf, code, name=None, **fields):
     """The finding of a warning at a leaf or a node."""
     name = leaf.text if name is None else name
-    return Finding(file, leaf.line, leaf.column, "warning", code, name, filled(WARNINGS[code], name, fields))
+    return Finding(file, leaf.line, leaf.column, "warning", code, name, WARNINGS[code].format(name=shown(name), **fields))
 
 
 def table():

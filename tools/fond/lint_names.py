@@ -46,7 +46,7 @@ def explain_cycle(file, place, model):
         return None
     name = declared.name
     if name == ROOT:
-        return faults.fault(file, place, "F14", name, "object", parent=declared.type_names[0])
+        return faults.fault(file, place, "F14", name, "object", parent=shown(declared.type_names[0]))
     way = [name, parent_of(model.types, name)]
     while way[-1] != name and len(way) <= len(model.types) + 1:
         way.append(parent_of(model.types, way[-1]))
@@ -94,7 +94,7 @@ def explain_mismatch(files, file, place, model):
             fields = {
                 "given": types_text(given.type_names),
                 "number": number + 1,
-                "predicate": predicate.name,
+                "predicate": shown(predicate.name),
                 "where": files.where("domain", place_of(predicate.leaf), file),
                 "declared": types_text(predicate.parameters[number].type_names),
             }

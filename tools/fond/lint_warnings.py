@@ -25,7 +25,7 @@ def unused_parameters(model):
             used.update(leaf.text for leaf in it.terms if leaf.text not in hidden)
         for declared in schema.parameters:
             if declared.name not in used:
-                yield faults.warning("domain", declared.leaf, "parameter", schema=schema.name)
+                yield faults.warning("domain", declared.leaf, "parameter", schema=faults.shown(schema.name))
 
 
 def repeated_declarations(files, model):
