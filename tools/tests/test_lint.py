@@ -36,7 +36,7 @@ if "DUALFOND_PROGRAM" not in os.environ and os.path.exists(built):
 needs_program = unittest.skipUnless("DUALFOND_PROGRAM" in os.environ, "program")
 
 MUTATIONS = int(os.environ.get("DUALFOND_SWEEP", "500"))
-SEED = 54
+SEED = 7
 PATHS = {"domain": "D", "problem": "P", "side": "U"}
 PROBLEM = "(define (problem y) (:domain x) (:goal ()))"
 NO_NAME = ("F1", "F3", "F6", "F21", "F22")
