@@ -25,9 +25,9 @@ bool @name@_get(const @name@_state *state, int32_t atom);
 bool @name@_is_goal(const @name@_state *state);
 bool @name@_is_applicable(const @name@_state *state, int32_t action);
 
-/* Returns the action in this state, or @NAME@_GOAL, or @NAME@_STUCK. If `rule` is not a null pointer, it is set to the number of
-   the first rule that holds, or to -1 in a goal and if no rule holds. So @NAME@_STUCK with a rule says that the action of this
-   rule is not applicable. */
+/* Returns the action in this state, or @NAME@_GOAL, or @NAME@_STUCK. If `rule` is not a null pointer, it is set
+   to the first rule that holds, or to -1 in a goal and if no rule holds. So a rule beside @NAME@_STUCK is one whose
+   action is not applicable. */
 int32_t @name@_step(const @name@_state *state, int32_t *rule);
 """
 
@@ -187,7 +187,7 @@ class CWords:
 
 
 def head(model, text):
-    return "/* " + "\n   ".join(comment(line) for line in head_lines(model, text)) + "\n*/\n"
+    return "/* " + "\n".join(f"   {comment(line)}".rstrip() for line in head_lines(model, text))[3:] + "\n*/\n"
 
 
 def whole_file(name, top, interface, body):
@@ -222,8 +222,7 @@ def rule_tables(model, name):
         literals.append(f"{row} /* rule {number}: {comment(rule.text)} */".lstrip())
     literals = literals if count else []
     return (
-        "\n/* The literals of the rules, rule by rule. An atom that has to be true is twice its number plus one, and one that has to be\n"
-        "   false is twice its number. */"
+        "\n/* The literals of the rules, rule by rule: twice the number of an atom, plus one if the atom has to be true. */"
         + table(f"static const uint16_t {name}_literals[{max(1, count)}]", literals)
         + table(f"static const uint32_t {name}_starts[{len(starts) + 1}]", [*starts, str(count)])
         + rule_action_table(model, name)

@@ -10,15 +10,15 @@ SEMANTICS = """In each state, the first case that applies decides:
 The `run` command of the planner decides in the same way.
 The caller observes the world and sets the atoms; an atom that is not set keeps its value."""
 
-# What each generated file says of an automaton. The number of steps is put in.
-AUTOMATON = """The automaton knows no state. It is driven by the numbers of the outcomes that its actions show: each item but those of
-goals has an action, and each outcome of the action leads to the next item.
+# What each generated file says of an automaton, with its number of steps.
+AUTOMATON = """The automaton knows no state. It is driven by the numbers of the outcomes that its actions show: each item
+but those of goals has an action, and each outcome of the action leads to the next item.
 What it may miss: an item is a partial state, so the goal may hold in a state of an item that has an action. The automaton
 does not notice that: it goes on acting, where `run` stops, until it comes to an item of goals. There the goal holds.
-If each fair action shows an outcome that leads there, at most {steps} steps lead from the start to an item of goals, whatever
-the opponent picks.
-All of this holds if the world starts in the initial state of the task and behaves as the domain says, and if each outcome is
-reported. After a wrong report, the automaton may be in an item in which the state does not lie."""
+Steps from the start to an item of goals, if fair actions show the outcomes that lead there: at most {steps}, whatever the
+opponent picks.
+All of this holds if the world starts in the initial state of the task and behaves as the domain says, and if each outcome
+is reported. After a wrong report, the state may lie outside the current item."""
 
 
 class ModelError(ValueError):
@@ -88,7 +88,7 @@ def make_rule(task, number_of, rule):
 
 
 def check_items(model):
-    """Reports what no automaton can be made of: version 1, rules and items that do not exist, and wrong counts of items."""
+    """Reports what no automaton can be made of: version 1, rules and items that do not exist, and wrong numbers of items."""
     if model.start is None:
         raise ModelError("the certificate has no items: `migrate` gives it some")
     if model.start >= len(model.items):
@@ -171,7 +171,9 @@ def head_lines(model, text):
     """The lines of a generated file's head: what it was made from, and the semantics."""
     made = ["Made by tools/controller of dualfond from"]
     made += [f"  {what}: {name}, SHA-256 {digest}" for what, name, digest in model.sources]
-    checked = f"The certificate was checked: {model.verdict}." if model.verdict else "The certificate was NOT checked."
+    checked = f"The certificate was checked: {model.verdict}."
+    if not model.verdict:
+        checked = "The certificate was NOT checked, so the rules and items may be wrong."
     return [*made, checked, "", *text.splitlines()]
 
 
