@@ -421,9 +421,9 @@ class Automata(unittest.TestCase):
                     continue
                 self.assertEqual(generate(["--c", "--automaton"], case.files, name + "c"), (0, ""))
                 in_c = self.run_in_c(folder, COMPILERS[number % len(COMPILERS)], scripts)
-                for (lines, end), (text, c_end) in zip(told, in_c, strict=True):
-                    # The C file prints the step before it learns that the action has no such outcome.
-                    self.assertEqual((lines, end), (text.splitlines()[: len(lines)], c_end))
+                # The C harness prints a step before it learns that the action has no such outcome.
+                in_c = [(text.splitlines()[: -1 if end == "none" else None], end) for text, end in in_c]
+                self.assertEqual(told, in_c)
 
     @unittest.skipUnless(HAS_PROGRAM, "program")
     def test_steps(self):
