@@ -1,12 +1,16 @@
 #!/usr/bin/env python3
 """Compares generated controllers with the program's `run` on random scripts, and `fond.task` with the worked examples.
 
-usage: tools/tests/test_controller.py     DUALFOND_SWEEP=10000 tries that many scripts, and both compilers
+usage: tools/tests/test_controller.py     DUALFOND_SWEEP=10000 tries that many scripts, and each compiler on each file
 
 The world of a script is `fond.task`; each decision comes from the JSON file, the Python module or the C file, which is compiled
 with sanitizers. The trace has to be that of `run`, byte for byte.
 """
+import contextlib
 import functools
+import importlib.machinery
+import importlib.util
+import io
 import itertools
 import json
 import os
@@ -17,6 +21,7 @@ import subprocess
 import sys
 import tempfile
 import unittest
+from unittest import mock
 
 here = os.path.dirname(os.path.abspath(__file__))
 sys.dont_write_bytecode = True
@@ -31,7 +36,9 @@ EXAMPLES = os.path.join(TOP, "examples")
 SCRIPTS = int(os.environ.get("DUALFOND_SWEEP", "300"))
 LONGEST = 40
 HAS_PROGRAM = "DUALFOND_PROGRAM" in os.environ or any(os.path.exists(os.path.join(TOP, it)) for it in ("out/dualfond", "dist"))
+IS_SWEEP = SCRIPTS >= 5000
 COMPILERS = [it for it in ("gcc", "clang") if shutil.which(it)]
+TURNS = itertools.cycle(COMPILERS)
 WARNINGS = ["-std=c99", "-Wall", "-Wextra", "-pedantic", "-Werror"]
 SANITIZERS = ["-g", "-fsanitize=address,undefined", "-fno-sanitize-recover=all"]
 
@@ -92,6 +99,11 @@ int main(void)
 """
 
 
+def compilers():
+    """The compilers that compile a file: all of them in a sweep, and otherwise one, in turn."""
+    return COMPILERS if IS_SWEEP else [next(TURNS)] if COMPILERS else []
+
+
 def read(name):
     with open(name, "rb") as file:
         return file.read()
@@ -103,11 +115,24 @@ def write(name, text):
     return name
 
 
+@functools.lru_cache(maxsize=None)
+def program_at(path):
+    """The module of a program without an extension."""
+    loader = importlib.machinery.SourceFileLoader(os.path.basename(path), path)
+    module = importlib.util.module_from_spec(importlib.util.spec_from_loader(loader.name, loader))
+    loader.exec_module(module)
+    return module
+
+
 def generate(words, files, output):
-    """Runs tools/controller; its status, and what it wrote on standard error."""
-    words = [sys.executable, CONTROLLER, *words, "-o", output, *files]
-    ran = subprocess.run(words, stdin=subprocess.DEVNULL, capture_output=True, text=True, check=False)
-    return ran.returncode, ran.stderr
+    """Runs tools/controller in this process; its status, and what it wrote on standard error."""
+    error = io.StringIO()
+    with mock.patch.object(sys, "argv", [CONTROLLER, *words, "-o", output, *files]), contextlib.redirect_stderr(error):
+        try:
+            status = program_at(CONTROLLER).main()
+        except SystemExit as ended:
+            status = ended.code
+    return status, error.getvalue()
 
 
 def compiled(folder, main, compiler):
@@ -299,22 +324,22 @@ def tearDownModule():
 class Sweep(unittest.TestCase):
     """Random scripts over the policies of the examples."""
 
-    def deciders(self, case, certificate, folder, compiler):
-        """A decider of each form for a certificate."""
+    def deciders(self, case, certificate, folder, has_c):
+        """A decider of each form for a certificate, and of each C program."""
         files = [*case.task_files, certificate]
         words = [] if certificate == case.files[3] else ["--unchecked"]
-        for form, name in (("--json", "controller.json"), ("--python", "controller.py"), ("--c", "controller.c")):
+        for form, name in (("--json", "controller.json"), ("--python", "controller.py"), ("--c", "controller.c"))[: 2 + has_c]:
             self.assertEqual(generate([form, *words], files, os.path.join(folder, name)), (0, ""), case.name)
         found = [JsonDecider(os.path.join(folder, "controller.json")), PythonDecider(os.path.join(folder, "controller.py"))]
-        if compiler:
-            found.append(CDecider(compiled(folder, STATE_MAIN, compiler), case.task))
+        if has_c:
+            found += [CDecider(compiled(folder, STATE_MAIN, compiler), case.task) for compiler in compilers()]
         return found
 
-    def compare(self, case, certificate, scripts, drawn, compiler):
+    def compare(self, case, certificate, scripts, drawn, has_c):
         """Compares a certificate's controllers with `run` on so many scripts."""
         seen = set()
         with tempfile.TemporaryDirectory(dir=FOLDER.name) as folder:
-            deciders = self.deciders(case, certificate, folder, compiler)
+            deciders = self.deciders(case, certificate, folder, has_c)
             for _ in range(scripts):
                 numbers = random_script(case.task, deciders[1], drawn)
                 script = write(os.path.join(folder, "script"), " ".join(map(str, numbers)))
@@ -323,29 +348,29 @@ class Sweep(unittest.TestCase):
                     traced = trace(case.task, decider, numbers)
                     self.assertEqual(traced, (status, text.decode("ascii")), (case.name, decider, numbers))
                 seen |= set(re.findall(r"^(goal|ended|stuck|outcome)", text.decode("ascii"), re.MULTILINE))
-            if compiler:
-                self.assertEqual(deciders[2].close(), 0, case.name)
+            for decider in deciders[2:]:
+                self.assertEqual(decider.close(), 0, case.name)
         return seen
 
     @unittest.skipUnless(HAS_PROGRAM, "program")
     def test_policies(self):
         cases, drawn, seen = planned_cases(), random.Random(1), set()
         for number, case in enumerate(cases):
-            compiler = COMPILERS[number % len(COMPILERS)] if COMPILERS else None
-            seen |= self.compare(case, case.files[3], SCRIPTS * 2 // 3 // len(cases) + 1, drawn, compiler)
+            has_c = IS_SWEEP or number % 2 == 0
+            seen |= self.compare(case, case.files[3], SCRIPTS * 2 // 3 // len(cases) + 1, drawn, has_c)
         self.assertEqual(seen, {"goal", "ended", "outcome"})
 
     @unittest.skipUnless(HAS_PROGRAM, "program")
     def test_wrong_policies(self):
         cases = [it for it in planned_cases() if read(it.files[3]).count(b"\nrule ") > 1]
-        rounds = 1 if SCRIPTS < 5000 else 6
+        rounds = 6 if IS_SWEEP else 1
         drawn, seen = random.Random(2), set()
         for number, case in itertools.product(range(rounds), cases):
             change = drawn.choice((with_a_rule_dropped, with_an_action_changed))
             certificate = write(os.path.join(FOLDER.name, "wrong.cert"), change(read(case.files[3]), drawn))
-            compiler = drawn.choice(COMPILERS) if COMPILERS and (rounds > 1 or drawn.random() < 0.2) else None
+            has_c = IS_SWEEP or drawn.random() < 0.2
             with self.subTest(round=number, case=case.name):
-                seen |= self.compare(case, certificate, SCRIPTS // 3 // rounds // len(cases) + 1, drawn, compiler)
+                seen |= self.compare(case, certificate, SCRIPTS // 3 // rounds // len(cases) + 1, drawn, has_c)
         self.assertIn("stuck", seen)
 
 
@@ -417,13 +442,14 @@ class Automata(unittest.TestCase):
                 told = [self.steps(automaton, numbers) for numbers in scripts]
                 for numbers, (lines, end) in zip(scripts, told):
                     self.compare_with_run(case, numbers, lines, end)
-                if not COMPILERS:
+                if not IS_SWEEP and number % 3:
                     continue
                 self.assertEqual(generate(["--c", "--automaton"], case.files, name + "c"), (0, ""))
-                in_c = self.run_in_c(folder, COMPILERS[number % len(COMPILERS)], scripts)
-                # The C harness prints a step before it learns that the action has no such outcome.
-                in_c = [(text.splitlines()[: -1 if end == "none" else None], end) for text, end in in_c]
-                self.assertEqual(told, in_c)
+                for compiler in compilers():
+                    in_c = self.run_in_c(folder, compiler, scripts)
+                    # The C harness prints a step before it learns that the action has no such outcome.
+                    in_c = [(text.splitlines()[: -1 if end == "none" else None], end) for text, end in in_c]
+                    self.assertEqual(told, in_c)
 
     @unittest.skipUnless(HAS_PROGRAM, "program")
     def test_steps(self):
@@ -529,14 +555,15 @@ class Files(unittest.TestCase):
             self.assertEqual(generate([f"--{form}", "--unchecked", *words], files, output), (0, ""))
         return folder
 
-    def decisions(self, folder, state):
-        """The decisions of all forms in a state."""
+    def decisions(self, folder, *states):
+        """The decisions of all forms in each of these states."""
         task = Task(read(os.path.join(folder, "d")), read(os.path.join(folder, "p")))
         found = [JsonDecider(os.path.join(folder, "controller.json")), PythonDecider(os.path.join(folder, "controller.py"))]
-        found += [CDecider(compiled(folder, STATE_MAIN, it), task) for it in COMPILERS]
-        told = [decide(frozenset(state)) for decide in found]
-        self.assertEqual([it.close() for it in found[2:]], [0] * len(COMPILERS))
-        return told
+        found += [CDecider(compiled(folder, STATE_MAIN, it), task) for it in compilers()]
+        told = [[decide(frozenset(state)) for decide in found] for state in states]
+        for decider in found[2:]:
+            self.assertEqual(decider.close(), 0)
+        return [set(it) for it in told]
 
     def test_names(self):
         """Names that end comments and strings, or that become one name of C."""
@@ -552,8 +579,8 @@ class Files(unittest.TestCase):
         rule = "rule (a*/??/\\) fair 0 goal : " + " ".join(f"-{it}" for it in task.atoms)
         folder = self.generated(domain, problem, f"dualfond 1 policy\n{rule}\nreach 2\nend\n")
         self.assertEqual(len(task.atoms), 3 * len(words))
-        for state, answer in (((), ("(a*/??/\\)", 0)), (task.atoms, ("goal", None)), (task.atoms[:1], ("stuck", None))):
-            self.assertEqual(set(self.decisions(folder, state)), {answer})
+        told = self.decisions(folder, (), task.atoms, task.atoms[:1])
+        self.assertEqual(told, [{("(a*/??/\\)", 0)}, {("goal", None)}, {("stuck", None)}])
 
     def test_empty(self):
         """No atom, no action, no rule."""
@@ -562,9 +589,9 @@ class Files(unittest.TestCase):
         for goal, answer in (("()", "goal"), ("(s)", "stuck")):
             problem = f"(define (problem y) (:domain x) (:goal {goal}))"
             folder = self.generated(domain, problem, policy)
-            self.assertEqual(set(self.decisions(folder, ())), {(answer, None)})
-            for compiler in COMPILERS:
-                folder = self.generated(domain, problem, policy, ["--automaton"])
+            self.assertEqual(self.decisions(folder, ()), [{(answer, None)}])
+            folder = self.generated(domain, problem, policy, ["--automaton"])
+            for compiler in compilers():
                 compiled(folder, AUTOMATON_MAIN, compiler)
 
     def test_deep_and_long_formulas(self):
@@ -573,16 +600,24 @@ class Files(unittest.TestCase):
         for number in range(1, 120):
             deep = f"({'and' if number % 2 else 'or'} (p a{number % 7}) {deep})"
         long = "(forall (?x) (p ?x))"
-        for count, goal in ((7, deep), (3000 if SCRIPTS >= 5000 else 300, long)):
+        for count, goal in ((7, deep), (3000 if IS_SWEEP else 300, long)):
             names = " ".join(f"a{it}" for it in range(count))
             domain = "(define (domain x) (:predicates (p ?x)) (:action a :parameters (?x) :effect (p ?x)))"
             problem = f"(define (problem y) (:domain x) (:objects {names}) (:goal {goal}))"
             folder = self.generated(domain, problem, "dualfond 1 policy\nrule (a a0) fair 0 goal : -(p a6)\nreach 2\nend\n")
             task = Task(domain.encode(), problem.encode())
-            for missing in (0, 1, 6, count - 1):
-                state = frozenset(task.atoms) - {f"(p a{missing})"}
-                answer = "goal" if holds(task.goal_formula, state) else "(a a0)" if missing == 6 else "stuck"
-                self.assertEqual({it[0] for it in self.decisions(folder, state)}, {answer})
+            states = [frozenset(task.atoms) - {f"(p a{missing})"} for missing in (0, 1, 6, count - 1)] + [frozenset(task.atoms)]
+            for state, told in zip(states, self.decisions(folder, *states)):
+                answer = "goal" if holds(task.goal_formula, state) else "stuck" if "(p a6)" in state else "(a a0)"
+                self.assertEqual({it[0] for it in told}, {answer})
+
+    def test_standard_output(self):
+        output = os.path.join(FOLDER.name, "coin.out")
+        files = [*COIN, os.path.join(EXAMPLES, "coin", "coin.cover")]
+        for words in ([], ["--c"], ["--python", "--automaton"]):
+            self.assertEqual(generate(["--unchecked", *words], files, output), (0, ""))
+            ran = subprocess.run([CONTROLLER, "--unchecked", *words, *files], capture_output=True, check=False)
+            self.assertEqual((ran.returncode, ran.stdout, ran.stderr), (0, read(output), b""))
 
     def test_two_controllers_in_one_program(self):
         if not COMPILERS:
