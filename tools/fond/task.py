@@ -112,7 +112,7 @@ class Task:
         self.parents, self.objects, self.predicates = {}, {}, {}
         for name, (parent,) in read_typed_list(members(":types")):
             self.parents.setdefault(name, parent)
-        # Each section is a typed list of its own: the last names of the constants have no type of the objects.
+        # The two lists are read apart, so that untyped names at the end of the constants do not take a type of the objects.
         for name, (kind,) in read_typed_list(members(":constants")) + read_typed_list(members(":objects")):
             self.objects.setdefault(name, kind)
         for node in members(":predicates"):

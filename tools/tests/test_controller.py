@@ -567,20 +567,18 @@ class Files(unittest.TestCase):
 
     def test_names(self):
         """Names that end comments and strings, or that become one name of C."""
-        words = ["*/", "/*", "??/", 'a"', "a'", "\\", "//", "%s", "a-b", "a_b", "a.b", "int", "@name@", "{0}", "#", "s"]
+        words = ["*/", "/*", "y??/", 'a"', "a'", "\\", "//", "%s", "a-b", "a_b", "a.b", "int", "@name@", "{0}", "#", "s"]
         predicates = " ".join(f"({it}) ({it}p ?x)" for it in words)
-        effect = " ".join(f"({it}) ({it}p ??/) ({it}p \\)" for it in words)
-        domain = f"(define (domain x) (:constants ??/ \\) (:predicates {predicates}) (:action a*/??/\\ :effect (and {effect})))"
-        domain = domain.replace("(:constants ??/", "(:constants x??/").replace("p ??/)", "p x??/)").replace("(??/", "(y??/")
-        task = Task(domain.encode(), b"(define (problem y) (:domain x) (:goal ()))")
-        goal = " ".join(task.atoms)
-        problem = f"(define (problem y) (:domain x) (:goal (and {goal})))"
+        atoms = " ".join(f"({it}) ({it}p x??/) ({it}p \\)" for it in words)
+        action = "a*/??/\\"
+        domain = f"(define (domain x) (:constants x??/ \\) (:predicates {predicates}) (:action {action} :effect (and {atoms})))"
+        problem = f"(define (problem y) (:domain x) (:goal (and {atoms})))"
         task = Task(domain.encode(), problem.encode())
-        rule = "rule (a*/??/\\) fair 0 goal : " + " ".join(f"-{it}" for it in task.atoms)
+        rule = f"rule ({action}) fair 0 goal : " + " ".join(f"-{it}" for it in task.atoms)
         folder = self.generated(domain, problem, f"dualfond 1 policy\n{rule}\nreach 2\nend\n")
         self.assertEqual(len(task.atoms), 3 * len(words))
         told = self.decisions(folder, (), task.atoms, task.atoms[:1])
-        self.assertEqual(told, [{("(a*/??/\\)", 0)}, {("goal", None)}, {("stuck", None)}])
+        self.assertEqual(told, [{(f"({action})", 0)}, {("goal", None)}, {("stuck", None)}])
 
     def test_empty(self):
         """No atom, no action, no rule."""
