@@ -266,20 +266,15 @@ def random_script(task, decide, drawn):
     return numbers
 
 
-def with_a_rule_dropped(text, drawn):
-    """A certificate without one of its rules."""
-    lines = text.splitlines(keepends=True)
-    rules = [at for at, line in enumerate(lines) if line.startswith(b"rule ")]
-    lines.pop(drawn.choice(rules))
-    return b"".join(lines)
-
-
-def with_an_action_changed(text, drawn):
-    """A certificate in which a rule has the action of another rule, or the rules are in another order."""
+def with_a_wrong_rule(text, drawn):
+    """A certificate in which a rule is dropped, changes places with another rule, or has the action of that one."""
     lines = text.splitlines(keepends=True)
     rules = [at for at, line in enumerate(lines) if line.startswith(b"rule ")]
     one, other = drawn.choice(rules), drawn.choice(rules)
-    if drawn.random() < 0.3:
+    change = drawn.choice(("drop", "drop", "swap", "action", "action"))
+    if change == "drop":
+        lines.pop(one)
+    elif change == "swap":
         lines[one], lines[other] = lines[other], lines[one]
     else:
         action = re.search(rb"\([^)]*\)", lines[other])[0]
@@ -315,10 +310,7 @@ def planned_cases():
 def setUpModule():
     global FOLDER
     FOLDER = tempfile.TemporaryDirectory()
-
-
-def tearDownModule():
-    FOLDER.cleanup()
+    unittest.addModuleCleanup(FOLDER.cleanup)
 
 
 class Sweep(unittest.TestCase):
@@ -366,8 +358,7 @@ class Sweep(unittest.TestCase):
         rounds = 6 if IS_SWEEP else 1
         drawn, seen = random.Random(2), set()
         for number, case in itertools.product(range(rounds), cases):
-            change = drawn.choice((with_a_rule_dropped, with_an_action_changed))
-            certificate = write(os.path.join(FOLDER.name, "wrong.cert"), change(read(case.files[3]), drawn))
+            certificate = write(os.path.join(FOLDER.name, "wrong.cert"), with_a_wrong_rule(read(case.files[3]), drawn))
             has_c = IS_SWEEP or drawn.random() < 0.2
             with self.subTest(round=number, case=case.name):
                 seen |= self.compare(case, certificate, SCRIPTS // 3 // rounds // len(cases) + 1, drawn, has_c)
@@ -721,20 +712,11 @@ end
     def test_faults(self):
         head = "dualfond 2 policy\n"
         for text, line in (
-            ("", 1),
-            ("dualfond 3 policy\n", 1),
-            (head + "cube +(a)\n", 2),
-            (head + "start 0\nstart 0\n", 3),
-            (head + "end\n", 2),
-            (head + "item goal :\nrule (a) fair 0 goal :\n", 3),
-            (head + "reach 1\n", 2),
-            (head + "start 0\nend\n\n", 4),
-            (head + "start 0\nend", 3),
-            (head + "rule (A) fair 0 goal :\n", 2),
-            (head + "rule (a) unfair :\n", 2),
-            (head + "rule (a) fair 0 goal goal :\n", 2),
-            (head + "item 0 goal :\n", 2),
-            ("dualfond 1 refusal\nrule (a) fair 0 goal :\n", 2),
+            *(("", 1), ("dualfond 3 policy\n", 1), ("dualfond 1 refusal\nrule (a) fair 0 goal :\n", 2)),
+            *((head + "start 0\nstart 0\n", 3), (head + "item goal :\nrule (a) fair 0 goal :\n", 3)),
+            *((head + "start 0\nend\n\n", 4), (head + "start 0\nend", 3)),
+            *((head + it, 2) for it in ("cube +(a)\n", "end\n", "reach 1\n", "item 0 goal :\n", "rule (A) fair 0 goal :\n")),
+            *((head + it, 2) for it in ("rule (a) unfair :\n", "rule (a) fair 0 goal goal :\n")),
         ):
             with self.assertRaisesRegex(CertificateError, f"line {line}:", msg=text):
                 read_certificate(text.encode())
@@ -767,6 +749,24 @@ class Rows(unittest.TestCase):
 
         decide.initial = task.initial
         return trace(task, decide, list(map(int, files[words[5]].split())))[1]
+
+    @unittest.skipUnless(HAS_PROGRAM, "program")
+    def test_successors(self):
+        """Random actions in random states of the examples, as `succ` prints them."""
+        drawn = random.Random(5)
+        for name, files in example_tasks():
+            task, problem = Task(read(files[0]), read(files[1])), os.path.join(FOLDER.name, "succ.p")
+            ranges = {it.name: [task.objects_of(types) for _, types in it.parameters] for it in task.schemas.values()}
+            actions = [ground_text((it, *objects)) for it in ranges for objects in itertools.product(*ranges[it])]
+            for _ in range(SCRIPTS // 60 + 1):
+                state = frozenset(it for it in task.atoms if drawn.random() < drawn.choice((0.1, 0.5)))
+                init = f"(:init {' '.join(sorted(task.static | state))}) (:goal"
+                write(problem, re.sub(r"(\(:init.*\)\s*)?\(:goal", lambda _: init, read(files[1]).decode("ascii"), flags=re.DOTALL))
+                started = Task(read(files[0]), read(problem))
+                applicable = [it for it in actions if task.is_kept(it) and task.applicable(state, it)]
+                for action in (drawn.choice(actions), drawn.choice(applicable or actions)):
+                    told = program.run("succ", files[0], problem, action)
+                    self.assertEqual((0, self.successors(started, action)), (told[0], told[1].decode("ascii")), (name, action))
 
     def test_rows(self):
         try:
