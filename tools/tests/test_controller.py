@@ -42,7 +42,7 @@ TURNS = itertools.cycle(COMPILERS)
 WARNINGS = ["-std=c99", "-Wall", "-Wextra", "-pedantic", "-Werror"]
 SANITIZERS = ["-g", "-fsanitize=address,undefined", "-fno-sanitize-recover=all"]
 
-COIN = [os.path.join(EXAMPLES, "coin", it) for it in ("coin.d", "coin.p", "none")]
+COIN = [os.path.join(EXAMPLES, "coin", it) for it in ("coin.d", "coin.p", "coin.unfair")]
 
 # Answers each state, which is a line of the count of its atoms and their numbers, with the decision and the number of the rule.
 STATE_MAIN = """

@@ -33,11 +33,19 @@ def copy_checkout(to):
 
 @unittest.skipUnless(os.path.exists(os.path.join(TOP, "dist")), "there is no dist/")
 class Launcher(unittest.TestCase):
-    def setUp(self):
+    @classmethod
+    def setUpClass(cls):
+        held = tempfile.TemporaryDirectory()
+        cls.addClassCleanup(held.cleanup)
+        cls.top = held.name
+        copy_checkout(cls.top)
+
+    def own_copy(self):
+        """Another copy of the checkout, for a test that changes it."""
         held = tempfile.TemporaryDirectory()
         self.addCleanup(held.cleanup)
+        copy_checkout(held.name)
         self.top = held.name
-        copy_checkout(self.top)
 
     def run_in(self, folder, *words, env=None):
         return subprocess.run(words, cwd=folder, env=env or BARE, stdin=subprocess.DEVNULL, capture_output=True, text=True, check=False)
@@ -61,6 +69,7 @@ class Launcher(unittest.TestCase):
         self.assertEqual(self.run_in(self.top, "./dualfond", *PLAN).stdout, POLICY)
 
     def test_changed_sources_are_noticed(self):
+        self.own_copy()
         self.assertEqual(self.run_in(self.top, "./dualfond", *PLAN).stdout, POLICY)
         with open(os.path.join(self.top, "crates/fond_text/src/lib.rt"), "a", encoding="ascii") as file:
             file.write("\n")
@@ -71,6 +80,7 @@ class Launcher(unittest.TestCase):
         self.assertIn("not built", self.run_in(self.top, "./dualfond", "--version").stdout)
 
     def test_read_only_checkout(self):
+        self.own_copy()
         for at, _, _ in os.walk(self.top):
             os.chmod(at, 0o555)
         try:
@@ -111,6 +121,7 @@ class Launcher(unittest.TestCase):
         self.assertRegex(ran.stdout, r"\Adualfond \d+\.\d+\.\d+\nprogram .*, SHA-256 [0-9a-f]{64}\nkit rattle-kit-.*\nshipped\n\Z")
 
     def test_install(self):
+        self.own_copy()
         with tempfile.TemporaryDirectory() as prefix:
             self.assertEqual(self.run_in(self.top, "./dualfond", "--install", prefix).returncode, 0)
             shutil.rmtree(os.path.join(self.top, "crates"))

@@ -43,13 +43,13 @@ pub data TaskReply (texts : Texts) (Answers : LiftedTask → Task → Reply → 
   refused : (fault : Fault) → IsRefusal texts fault → TaskReply texts Answers (fault_reply fault)
   answered : (task : LiftedTask) (game : Task) (reply : Reply) → DescribeGround texts task game → Answers task game reply → TaskReply texts Answers reply
 
--- the reply of a command that works on a certificate of a task: a refusal of its files; the first fault of a text that spells no
--- certificate of the task that they describe; or an answer to the certificate that the text spells
+-- the reply of a command that works on a certificate: a refusal of its files; a rejection of the certificate's text with its first
+-- fault, if it spells no certificate of the ground task of the task that the files describe; or the answer to the certificate
 pub data CertReply (texts : Texts) (cert : List ℕ) (Answers : LiftedTask → Task → Cert → Reply → Type 0) : Reply → Type 0 where
   refused : (fault : Fault) → IsRefusal texts fault → CertReply texts cert Answers (fault_reply fault)
   no_cert : (task : LiftedTask) (game : Task) (code byte : ℕ) → DescribeGround texts task game → IsCertFault game cert code byte → CertReply texts cert Answers (cert_reply code byte)
   answered : (task : LiftedTask) (game : Task) (read : Cert) (reply : Reply) → DescribeGround texts task game → IsCertText game read cert → Answers task game read reply → CertReply texts cert Answers reply
 
--- no answer to any certificate
+-- no answer: for replies that only refuse or reject
 abbrev pub NoAnswer : LiftedTask → Task → Cert → Reply → Type 0
 NoAnswer task game read reply = ⊥

@@ -27,8 +27,8 @@ verdict_ending verdict = Rejected
 abbrev pub verdict_reply : Task → Cert → Verdict → Reply
 verdict_reply game cert verdict = record { text = verdict_text game cert verdict; ending = verdict_ending verdict }
 
--- what `check` answers to a certificate of a task with this ground task: it is correct, and then what it claims of the task is true; or
--- it has this fault
+-- what `check` answers to a certificate of a task with this ground task: it is accepted as correct, and then what it claims of the task is
+-- true; or it is rejected with its fault
 pub data AnswersCheck (task : LiftedTask) (game : Task) (read : Cert) : Reply → Type 0 where
   accepted : (lean : Bool) → IsVerdict game read (Accepted lean) → Claim task game read → AnswersCheck task game read (verdict_reply game read (Accepted lean))
   rejected : (verdict : Verdict) → IsVerdict game read verdict → IsFault verdict → AnswersCheck task game read (verdict_reply game read verdict)

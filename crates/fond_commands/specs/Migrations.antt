@@ -25,8 +25,8 @@ IsCoverText game (Policy layers pairs rules reach) text =
     (items : List Item) × (start : ℕ) × IsCertText game (Covered layers pairs rules items start) text × IsRightCover game layers pairs rules items start × AreLeanItems game (firsts_of rules) items
 IsCoverText game cert text = ⊥
 
--- what `migrate` answers to a certificate of a ground task, which has this text: it has this fault; or it is correct and is given a
--- cover; or it is correct and is written as it stands
+-- what `migrate` answers to a certificate of a ground task, which has this text: it is rejected with its fault; or it is correct and
+-- is given a cover; or it is correct, is none that is given a cover, and is written as it stands
 pub data AnswersMigrate (text : List ℕ) (game : Task) (read : Cert) : Reply → Type 0 where
   rejected : (verdict : Verdict) → IsVerdict game read verdict → IsFault verdict → AnswersMigrate text game read (verdict_reply game read verdict)
   covered : (written : List ℕ) → IsRight game read → IsToCover read → IsCoverText game read written → AnswersMigrate text game read (record { text = written; ending = Done })

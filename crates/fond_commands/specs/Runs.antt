@@ -12,7 +12,7 @@ use Rattle.fond_front.specs.Texts.{Texts}
 use Rattle.fond_commands.specs.Certified.{CertReply, rules_of}
 use Rattle.fond_commands.specs.Replies.{Reply, script_reply, trace_reply}
 
--- what `run` answers to a certificate of a task with this ground task: a rejection of its script, or the trace
+-- what `run` answers to a certificate of a task with this ground task: a rejection of the script, or the trace
 pub data AnswersRun (script : List ℕ) (task : LiftedTask) (game : Task) (read : Cert) : Reply → Type 0 where
   bad_script : (byte : ℕ) → IsScriptFault script byte → AnswersRun script task game read (script_reply byte)
   ran : (numbers lines : List ℕ) (last : State) → IsScript script numbers → Trace as_recorded task game (rules_of read) (initial task) numbers lines last → AnswersRun script task game read (trace_reply task lines last)

@@ -12,7 +12,8 @@ use Rattle.fond_demo.specs.Words.{drawn_words}
 use Rattle.fond_commands.specs.Certified.{CertReply, rules_of}
 use Rattle.fond_commands.specs.Replies.{Reply, trace_reply}
 
--- what `simulate` answers to a certificate of a task with this ground task: the trace over as many drawn words as there are steps
+-- what `simulate` answers to a certificate of a task with this ground task: the trace over the first words, as many as there
+-- are steps, that are drawn from the seed
 pub data AnswersSimulate (seed steps : ℕ) (task : LiftedTask) (game : Task) (read : Cert) : Reply → Type 0 where
   ran : (lines : List ℕ) (last : State) → Trace by_remainder task game (rules_of read) (initial task) (drawn_words seed steps) lines last → AnswersSimulate seed steps task game read (trace_reply task lines last)
 

@@ -1,4 +1,4 @@
-//! Who picks the outcomes of a trace.
+//! How words pick the outcomes of a trace.
 
 ghost use Rattle.std.specs.Prelude.{◌≡◌, ◌<◌};
 
@@ -8,13 +8,13 @@ pub trait Picks {
 
     ghost pick_of: { Self → Pick };
 
-    /// The number that the word picks if there are so many outcomes. It need not be below their count.
+    /// The number that the word picks among `count` outcomes. It may be `count` or more.
     fn pick(&self, count: u32, word: u32) -> u32
         requires { 0 < count }
         ensures { result ≡ pick_of self.now count word };
 }
 
-/// Each word is the number of the outcome that occurred.
+/// Each word is the number of the outcome.
 #[derive(Clone, Copy)]
 pub struct AsRecorded;
 

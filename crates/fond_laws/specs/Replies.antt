@@ -67,13 +67,13 @@ abbrev pub SolutionsNeverStick : Type 0
 SolutionsNeverStick = (pick : Pick) (task : LiftedTask) (game : Task) (rules : List Rule) (words lines : List ℕ) (last : State) → IsSolution task (rules_policy task game rules)
     → (trace : Trace pick task game rules (initial task) words lines last) → ¬ EndsStuck trace
 
--- a certificate is a policy
+-- a certificate is that of a policy, of either version
 abbrev pub IsPolicyCert : Cert → Type 0
 IsPolicyCert (Refusal layers) = ⊥
 IsPolicyCert cert = ⊤
 
--- no trace of the rules of a correct policy, of either version, ends with the line `stuck`, whatever the words are and however they
--- pick outcomes
+-- no trace of the rules of a correct policy, from the initial state of a task with this ground task, ends with the line `stuck`,
+-- whatever the words are and however they pick outcomes
 abbrev pub CorrectPoliciesNeverStick : Type 0
 CorrectPoliciesNeverStick = (pick : Pick) (task : LiftedTask) (game : Task) (read : Cert) (words lines : List ℕ) (last : State) → IsGroundOf task game → IsRight game read → IsPolicyCert read
     → (trace : Trace pick task game (rules_of read) (initial task) words lines last) → ¬ EndsStuck trace

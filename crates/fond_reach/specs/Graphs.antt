@@ -22,14 +22,15 @@ pub record LeadsEach (task : Task) (states : List (List Bool)) (state : List Boo
   pub holds : IsTrue (is_true state act.pre)
   pub each : AllZip (Leads states state) act.outcomes nexts
 
--- a node tells what there is at a state: it is a goal; it is no goal, and no applicable action is chosen in it; or it is no goal, and
--- the chosen action leads to the states of these numbers
+-- the node of a state: `Goal` if it is a goal; otherwise `Stuck` if the policy gives no action, or one that is not applicable there;
+-- otherwise `Acts`, with the action and, for each of its outcomes in order, the number of the state to which it leads
 abbrev pub IsNode : Task → Policy → List (List Bool) → List Bool → Node → Type 0
 IsNode task policy states state Goal = IsGoal task state
 IsNode task policy states state Stuck = (¬ IsGoal task state) × ((number : ℕ) → policy state ≡ Some number → ¬ IsApplicable task state number)
 IsNode task policy states state (Acts number nexts) = (¬ IsGoal task state) × (policy state ≡ Some number) × LeadsEach task states state number nexts
 
--- a graph is that of a policy: its states are those that the policy reaches, each once and the initial one first, and each has its node
+-- a graph is that of a policy: its states are those that the policy reaches, each once, in any order but for the initial one, which is
+-- the first; and each has its node
 pub record IsGraph (task : Task) (policy : Policy) (states : List (List Bool)) (nodes : List Node) : Type 0 where
   pub first : slice_get states 0 ≡ Some task.init
   pub once : AreDistinct states

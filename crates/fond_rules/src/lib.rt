@@ -1,4 +1,4 @@
-//! Lists of which the first item that matches a state counts (`Ordered`), such as lists of rules over partial states; forbidden
+//! Lists in which the first item that matches a state counts (`Ordered`), such as lists of rules over partial states; forbidden
 //! pairs of a partial state and an action (Muise, McIlraith and Beck, Improved non-deterministic planning by exploiting state
 //! relevance, 2012). Rules and pairs are tested for being sure and lean: `lean` is about any conditions that pass a test, and would
 //! not without any one of their literals. Stepping through the states of a task, and reading and writing certificates, are

@@ -1,4 +1,4 @@
-//! Lists of which the first that matches counts.
+//! Lists in which the first match counts.
 
 ghost use Rattle.fond_match.specs.Besides.{is_beside};
 ghost use Rattle.fond_state.specs.Cubes.{lies_in};
@@ -13,8 +13,8 @@ use fond_text::fault::NoMemory;
 use std::alloc::Global;
 use std::marker::Model;
 
-/// Fewer than 2^32 items, in order, each with a cube: in a state, the first one whose cube has the state counts. The cubes of all
-/// but a few of the items are indexed.
+/// Fewer than 2^32 items, in order, each with a cube. For a state, only the first item whose cube contains it counts. The cubes of
+/// all but a few of the items are indexed.
 #[derive(Drop)]
 pub struct Ordered<T: HasCube + Drop> {
     pub(crate) items: Vec<T>,
@@ -92,7 +92,7 @@ impl<T: HasCube + Drop> Ordered<T> {
         true
     }
 
-    /// The number of the first item whose literals all hold in the state, if there is one. Takes time in the number of
+    /// The index of the first item whose cube contains the state, if there is one. Takes time in the number of
     /// cubes that share their first literals with the state, times that of the atoms.
     pub fn select(&self, s: &State) -> Option<u32>
         requires { All (λ item. length (T.cube item) ≡ length s.now) self.now }
@@ -101,7 +101,7 @@ impl<T: HasCube + Drop> Ordered<T> {
         self.index.first(self.items.as_slice(), s)
     }
 
-    /// The number of the first item whose cube the given one does not contradict, if there is one. Takes time in the number of
+    /// The index of the first item whose cube the given one does not contradict, if there is one. Takes time in the number of
     /// branches of the index whose literals the cube does not oppose, and in that of the atoms for each cube there.
     pub fn first_beside(&self, c: &Cube) -> Option<u32>
         requires { All (λ item. length (T.cube item) ≡ length c.now) self.now }
