@@ -1,5 +1,5 @@
 -- Replies to certificates, from what was read of the files and of the certificate's text.
-use Rattle.std.proofs.Common.{◌≡◌, ℕ, List, Result, IfOk, IfErr, IsErrAnd, sym, subst}
+use Rattle.std.proofs.Common.{◌≡◌, ℕ, List, Result, IfOk, IfErr, IsErrAnd, subst}
 use Rattle.std.proofs.lemmas.Result.{IfOk-weaker}
 use Rattle.fond_ast.specs.declared.task.LiftedTask.{LiftedTask}
 use Rattle.fond_cert.specs.Faults.{IsCertFault}

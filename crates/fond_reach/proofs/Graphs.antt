@@ -1,5 +1,5 @@
 -- The walk that makes the graph of a policy.
-use Rattle.std.proofs.Common.{inl, inr, ◌≡◌, ℕ, ◌+◌, ◌<◌, ◌≤◌, List, [], ◌∷◌, ◌++◌, Bool, Some, length, take, slice_get, take_all, refl, sym, ap, ◌∙◌, subst, ⊎_elim, arith}
+use Rattle.std.proofs.Common.{◌≡◌, ℕ, ◌+◌, ◌<◌, ◌≤◌, List, [], ◌∷◌, ◌++◌, Bool, Some, length, take, slice_get, take_all, refl, sym, ap, ◌∙◌, subst, ⊎_elim, arith}
 use Rattle.std.specs.List.{AllZip}
 use Rattle.std.specs.Prelude.{Contains}
 use Rattle.std.proofs.lemmas.List.{length-append, take-append-le}
@@ -7,7 +7,6 @@ use Rattle.std.proofs.lemmas.Option.{same_Some, slice_get_within}
 use Rattle.fond_text.specs.Lists.{AreDistinct}
 use Rattle.fond_task.specs.declared.task.Task.{Task}
 use Rattle.fond_task.specs.declared.task.Act.{Act}
-use Rattle.fond_task.specs.declared.task.Entry.{Entry}
 use Rattle.fond_task.specs.Policies.{IsGoal, IsNext, Policy, Reach, start, onward}
 use Rattle.fond_task.specs.Steps.{next_state}
 use Rattle.fond_task.proofs.Lists.{Contains_numbered, Contains-cases, number_of}

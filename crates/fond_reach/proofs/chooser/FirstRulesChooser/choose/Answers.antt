@@ -1,4 +1,4 @@
-use Rattle.std.proofs.Common.{◌≡◌, ◌∙◌, ◌<◌, List, Bool, Some, None, length, sym, subst}
+use Rattle.std.proofs.Common.{◌≡◌, ◌∙◌, ◌<◌, Some, None, length, sym, subst}
 use Rattle.fond_rules.specs.Select.{selected_rule}
 use Rattle.fond_task.specs.Policies.{selected}
 use Rattle.fond_policy.proofs.Walking.{act_there, chosen_none, chosen_some}
