@@ -10,7 +10,8 @@ import unittest
 
 here = os.path.dirname(os.path.abspath(__file__))
 sys.dont_write_bytecode = True
-sys.path.insert(0, os.path.dirname(here))
+sys.path[:0] = [os.path.dirname(here), here]
+from checkout import change, copy  # noqa: E402
 from fond.program import TOP  # noqa: E402
 
 PLAN = ["plan", "examples/coin/coin.d", "examples/coin/coin.p", "/dev/null", "10"]
@@ -20,15 +21,14 @@ BARE = {"PATH": "/usr/bin:/bin", "HOME": "/nonexistent", "XDG_CACHE_HOME": "/non
 SOURCES = ("crates", "crates.txt", "HANDLES", "dist", "docs", "dualfond", "examples", "tools")
 
 
-def copy_checkout(to):
-    """Copies what the launcher may read, without what was built."""
-    ignored = shutil.ignore_patterns("out", "__pycache__")
-    for name in SOURCES:
-        path = os.path.join(TOP, name)
-        if os.path.isdir(path):
-            shutil.copytree(path, os.path.join(to, name), ignore=ignored)
-        elif os.path.exists(path):
-            shutil.copy2(path, to)
+# A stand-in for the kit's command: it proves nothing, and notes that it was asked to build.
+RT = """#!/bin/sh
+case $1 in
+version) echo "$KIT" ;;
+ci) echo built >>"$ROOM/builds"; sleep 1; mkdir -p crates/dualfond/out && cp "$BUILT" crates/dualfond/out/dualfond && echo 'rt: dualfond proved' ;;
+try) shift; while [ "$1" != -- ]; do shift; done; shift; echo "tried $*" ;;
+esac
+"""
 
 
 @unittest.skipUnless(os.path.exists(os.path.join(TOP, "dist")), "there is no dist/")
@@ -38,13 +38,13 @@ class Launcher(unittest.TestCase):
         held = tempfile.TemporaryDirectory()
         cls.addClassCleanup(held.cleanup)
         cls.top = held.name
-        copy_checkout(cls.top)
+        copy(TOP, cls.top, SOURCES)
 
     def own_copy(self):
         """Another copy of the checkout, for a test that changes it."""
         held = tempfile.TemporaryDirectory()
         self.addCleanup(held.cleanup)
-        copy_checkout(held.name)
+        copy(TOP, held.name, SOURCES)
         self.top = held.name
 
     def run_in(self, folder, *words, env=None):
@@ -65,14 +65,13 @@ class Launcher(unittest.TestCase):
 
     def test_touched_sources_need_no_build(self):
         self.run_in(self.top, "./dualfond", *PLAN)
-        os.utime(os.path.join(self.top, "crates/fond_text/src/lib.rt"))
+        change(os.path.join(self.top, "crates/fond_text/src/lib.rt"), b"")
         self.assertEqual(self.run_in(self.top, "./dualfond", *PLAN).stdout, POLICY)
 
     def test_changed_sources_are_noticed(self):
         self.own_copy()
         self.assertEqual(self.run_in(self.top, "./dualfond", *PLAN).stdout, POLICY)
-        with open(os.path.join(self.top, "crates/fond_text/src/lib.rt"), "a", encoding="ascii") as file:
-            file.write("\n")
+        self.change_sources()
         ran = self.run_in(self.top, "./dualfond", *PLAN)
         self.assertEqual((ran.returncode, ran.stdout), (102, ""))
         self.assertIn("the sources are not those of dist/", ran.stderr)
@@ -93,6 +92,57 @@ class Launcher(unittest.TestCase):
     def as_nobody(self):
         """The words that start a command without the leave to write everywhere."""
         return ["setpriv", "--reuid=65534", "--regid=65534", "--clear-groups"] if os.geteuid() == 0 else []
+
+    def with_kit(self, built, kit="rattle-kit-13b logic dac8208d650f15bf"):
+        """A folder, and an environment in which the command rt is the stand-in, which gives the file `built` as the program."""
+        held = tempfile.TemporaryDirectory()
+        self.addCleanup(held.cleanup)
+        with open(os.path.join(held.name, "rt"), "w", encoding="ascii") as file:
+            file.write(RT)
+        os.chmod(os.path.join(held.name, "rt"), 0o755)
+        return held.name, {"PATH": f"{held.name}:/usr/bin:/bin", "HOME": held.name, "ROOM": held.name, "BUILT": built, "KIT": kit}
+
+    def change_sources(self):
+        change(os.path.join(self.top, "crates/fond_text/src/lib.rt"))
+
+    def test_prove_compares_the_programs(self):
+        self.own_copy()
+        shipped = os.path.join(self.top, "dist/dualfond-x86_64-linux")
+        with open(os.path.join(self.top, "dist/SOURCES.sha256"), encoding="ascii") as file:
+            kit = file.readline()[len("# kit ") :].strip()
+        _, env = self.with_kit(shipped, kit)
+        ran = self.run_in(self.top, "./dualfond", "--prove", env=env)
+        self.assertEqual(ran.returncode, 0, ran.stderr)
+        self.assertIn("the program is the shipped one, byte for byte", ran.stdout)
+        _, env = self.with_kit("/bin/true", kit)
+        ran = self.run_in(self.top, "./dualfond", "--prove", env=env)
+        self.assertEqual(ran.returncode, 105)
+        _, env = self.with_kit("/bin/true", "another kit")
+        ran = self.run_in(self.top, "./dualfond", "--prove", env=env)
+        self.assertEqual(ran.returncode, 0)
+        self.assertIn("another kit", ran.stdout)
+
+    def test_changed_sources_are_built_once(self):
+        self.own_copy()
+        self.change_sources()
+        room, env = self.with_kit("/bin/echo")
+        words = ["./dualfond", *PLAN]
+        runs = [subprocess.Popen(words, cwd=self.top, env=env, stdout=subprocess.PIPE, stderr=subprocess.PIPE, text=True) for _ in range(3)]
+        told = [run.communicate() for run in runs]
+        self.assertEqual([run.returncode for run in runs], [0, 0, 0])
+        self.assertEqual({out for out, _ in told}, {" ".join(PLAN) + "\n"})
+        with open(os.path.join(room, "builds"), encoding="ascii") as file:
+            self.assertEqual(file.read(), "built\n")
+        self.assertIn("not proved yet:\ntried plan file1 file2", "".join(err for _, err in told))
+        self.assertIn("proved here", self.run_in(self.top, "./dualfond", "--version", env=env).stdout)
+
+    def test_failed_build_says_where_to_look(self):
+        self.own_copy()
+        self.change_sources()
+        _, env = self.with_kit("/nonexistent/program")
+        ran = self.run_in(self.top, "./dualfond", *PLAN, env=env)
+        self.assertEqual((ran.returncode, ran.stdout), (104, ""))
+        self.assertIn("build.log", ran.stderr)
 
     def test_other_program(self):
         ran = self.run_in(self.top, "./dualfond", "--version", env={**BARE, "DUALFOND_PROGRAM": "/bin/echo"})
