@@ -1,5 +1,15 @@
-"""Tasks of growing size: each function returns the texts of a domain, a problem and a side list."""
+#!/usr/bin/env python3
+"""Tasks of growing size: each function returns the texts of a domain, a problem and a side list.
+
+usage: bench/tasks.py --write FOLDER [WORD ..]
+
+Writes the tasks whose names contain one of the words, or all of them, as folders NAME with the files NAME.d, NAME.p and
+NAME.unfair, as examples/ has them; tools/batch takes such a FOLDER.
+"""
+import argparse
 import dataclasses
+import os
+import re
 import typing
 
 
@@ -380,6 +390,17 @@ class Task:
         head, comma, tail = self.kind.partition(",")
         return f"{head} {self.size}{comma}{tail}"
 
+    @property
+    def file_name(self):
+        """The name in words that are joined by `-`."""
+        return "-".join(re.findall(r"\w+", self.name))
+
+    def write(self, folder, files):
+        """Writes the texts into three files of a folder."""
+        for file, text in zip(files, self.texts()):
+            with open(os.path.join(folder, file), "w", encoding="ascii") as out:
+                out.write(text)
+
 
 def sized(kind, make, sizes, join=" ", **how):
     """Tasks of a kind: the function that makes them takes a number, or several, as a size."""
@@ -415,3 +436,19 @@ TASKS = [
     *sized("bridge", bridge, (4, 12, 40)),
     *sized("islands", islands, (3, 6, 9, 10)),
 ]
+
+
+def main():
+    ap = argparse.ArgumentParser(description=__doc__, formatter_class=argparse.RawDescriptionHelpFormatter)
+    ap.add_argument("--write", metavar="FOLDER", required=True)
+    ap.add_argument("words", nargs="*")
+    given = ap.parse_args()
+    for task in TASKS:
+        if not given.words or any(word in task.name for word in given.words):
+            name = task.file_name
+            os.makedirs(os.path.join(given.write, name), exist_ok=True)
+            task.write(os.path.join(given.write, name), (f"{name}.d", f"{name}.p", f"{name}.unfair"))
+
+
+if __name__ == "__main__":
+    main()
