@@ -148,8 +148,8 @@ def figures(ran):
 
 
 def decide(program, files, folder, limits, budget=BUDGET):
-    """Plans a task, and checks the certificate that comes of it. Returns a row without its name; the certificate is the file `cert` of
-    the folder."""
+    """Plans a task, and checks the certificate that comes of it, which is the file `cert` of the folder. Returns a row without its
+    name."""
     cert, said = os.path.join(folder, "cert"), os.path.join(folder, "verdict")
     planned = run([program, "plan", *files, str(budget)], folder, cert, limits)
     status = "" if planned.status is None else str(planned.status)
