@@ -11,14 +11,15 @@ import math
 import os
 import re
 import resource
+import signal
 import subprocess
 import sys
 import time
 
 BUDGET = 1000000
 SET_CHILD_SUBREAPER = 36
-# Prints the number of the process that becomes the program once the shell has ended and a line comes. The limit of the shell ends a
-# program whose measurer was killed.
+# Prints the number of the process that becomes the program once the shell has ended and a line comes. The limit of processor time
+# ends the program also if what measures it was killed.
 STARTER = 'exec 3<&0; ulimit -S -t "$1"; out=$2; shift 2; { read go <&3 && exec "$@" 3<&- >"$out" 2>/dev/null; } & echo $!'
 COLUMNS = ("name", "status", "answer", "seconds", "megabytes", "rules", "pairs", "items", "cubes", "bytes",
            "check", "check_seconds", "check_megabytes")
@@ -71,7 +72,7 @@ def started(words, folder, output, seconds):
     if libc.prctl(SET_CHILD_SUBREAPER, 1, 0, 0, 0) != 0:
         raise OSError(ctypes.get_errno(), "this system cannot make a process a subreaper")
     most = resource.getrlimit(resource.RLIMIT_CPU)[1]
-    seconds = math.ceil(10 * seconds) + 1
+    seconds = math.ceil(2 * seconds) + 1
     seconds = seconds if most == resource.RLIM_INFINITY else min(seconds, most)
     shell = ["sh", "-c", STARTER, "sh", str(seconds), os.path.abspath(output), *words]
     with subprocess.Popen(shell, cwd=folder, stdin=subprocess.PIPE, stdout=subprocess.PIPE) as starter:
@@ -100,15 +101,17 @@ def run(words, folder, output, limits):
                 break
             stopped = limit_reached(pid, since, limits)
             if stopped:
-                os.kill(pid, 9)
+                os.kill(pid, signal.SIGKILL)
                 _, status, usage = os.wait4(pid, 0)
                 break
             time.sleep(pause)
             pause = min(1.1 * pause, 0.01)
     except BaseException:
-        os.kill(pid, 9)
+        os.kill(pid, signal.SIGKILL)
         raise
-    status = None if stopped else os.waitstatus_to_exitcode(status)
+    status = os.waitstatus_to_exitcode(status)
+    stopped = "out of time" if status == -signal.SIGXCPU else stopped
+    status = None if stopped else status
     return Run(status, stopped, usage.ru_utime, usage.ru_maxrss * 1024 / 1e6)
 
 
