@@ -5,6 +5,7 @@ executed the program. That of a child of Python therefore includes Python itself
 show. So a shell, of less than 1 MB, starts the program and ends. The program then becomes a child of this process, which is a
 subreaper (prctl(2)), and wait4(2) returns the program's own peak.
 """
+import contextlib
 import ctypes
 import dataclasses
 import math
@@ -66,11 +67,20 @@ def spent_by(pid):
     return int(fields[11]) / os.sysconf("SC_CLK_TCK"), int(fields[21]) * os.sysconf("SC_PAGE_SIZE") / 1e6
 
 
-def started(words, folder, output, seconds):
-    """Starts a program in a folder, with its output in a file, and returns the number of its process."""
+@contextlib.contextmanager
+def adopting():
+    """Makes this process the parent of each process below it that loses its own, for a while."""
     libc = ctypes.CDLL(None, use_errno=True)
     if libc.prctl(SET_CHILD_SUBREAPER, 1, 0, 0, 0) != 0:
         raise OSError(ctypes.get_errno(), "this system cannot make a process a subreaper")
+    try:
+        yield
+    finally:
+        libc.prctl(SET_CHILD_SUBREAPER, 0, 0, 0, 0)
+
+
+def started(words, folder, output, seconds):
+    """Starts a program in a folder, with its output in a file, and returns the number of its process."""
     most = resource.getrlimit(resource.RLIMIT_CPU)[1]
     seconds = math.ceil(2 * seconds) + 1
     seconds = seconds if most == resource.RLIM_INFINITY else min(seconds, most)
@@ -90,29 +100,33 @@ def limit_reached(pid, since, limits):
     return "out of memory" if held > limits.megabytes else ""
 
 
+def waited(pid, limits):
+    """Waits for the end of a process, or ends it at a limit. Returns the limit, the status and what it used, as wait4(2) has them."""
+    since, pause = time.monotonic(), 0.001
+    while True:
+        ended, status, usage = os.wait4(pid, os.WNOHANG)
+        if ended:
+            return "", status, usage
+        stopped = limit_reached(pid, since, limits)
+        if stopped:
+            os.kill(pid, signal.SIGKILL)
+            return stopped, *os.wait4(pid, 0)[1:]
+        time.sleep(pause)
+        pause = min(1.1 * pause, 0.01)
+
+
 def run(words, folder, output, limits):
     """Runs the words of a command in a folder, with its output in a file."""
-    since, stopped, pause = time.monotonic(), "", 0.001
-    pid = started(words, folder, output, limits.seconds)
-    try:
-        while True:
-            ended, status, usage = os.wait4(pid, os.WNOHANG)
-            if ended:
-                break
-            stopped = limit_reached(pid, since, limits)
-            if stopped:
-                os.kill(pid, signal.SIGKILL)
-                _, status, usage = os.wait4(pid, 0)
-                break
-            time.sleep(pause)
-            pause = min(1.1 * pause, 0.01)
-    except BaseException:
-        os.kill(pid, signal.SIGKILL)
-        raise
+    with adopting():
+        pid = started(words, folder, output, limits.seconds)
+        try:
+            stopped, status, usage = waited(pid, limits)
+        except BaseException:
+            os.kill(pid, signal.SIGKILL)
+            raise
     status = os.waitstatus_to_exitcode(status)
     stopped = "out of time" if status == -signal.SIGXCPU else stopped
-    status = None if stopped else status
-    return Run(status, stopped, usage.ru_utime, usage.ru_maxrss * 1024 / 1e6)
+    return Run(None if stopped else status, stopped, usage.ru_utime, usage.ru_maxrss * 1024 / 1e6)
 
 
 def parts(cert):
