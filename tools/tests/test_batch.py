@@ -222,15 +222,25 @@ class Cut(Batch):
         rows, self.out = table(self.out), out
         return unmeasured(rows)
 
-    def test_killed_and_continued(self):
-        """After kill -9 half way, the same command ends with the table of a whole run, and no task that was logged runs again."""
+    def cut_by(self, number):
+        """Sends a signal to a batch of the examples, as a terminal does, once some tasks are done. Returns the exit status."""
         running = subprocess.Popen(self.words(*self.examples), start_new_session=True, stdin=subprocess.DEVNULL,
-                                   stdout=subprocess.DEVNULL, stderr=subprocess.DEVNULL)
+                                   stdout=subprocess.DEVNULL, stderr=subprocess.DEVNULL,
+                                   preexec_fn=lambda: signal.signal(signal.SIGINT, signal.SIG_DFL))
         while len(logged(self.out)) < 3:
             self.assertIsNone(running.poll())
             time.sleep(0.01)
-        os.killpg(running.pid, signal.SIGKILL)
-        running.wait()
+        os.killpg(running.pid, number)
+        return running.wait()
+
+    def test_interrupted_and_continued(self):
+        self.assertEqual(self.cut_by(signal.SIGINT), 130)
+        self.batch(*self.examples)
+        self.assertEqual(unmeasured(table(self.out)), self.whole())
+
+    def test_killed_and_continued(self):
+        """After kill -9 half way, the same command ends with the table of a whole run. No task that was logged runs again."""
+        self.cut_by(signal.SIGKILL)
         before = logged(self.out)
         self.assertFalse(os.path.exists(os.path.join(self.out, "results.csv")))
         self.batch(*self.examples)
