@@ -213,7 +213,8 @@ class Answers(Batch):
 class Cut(Batch):
     def setUp(self):
         super().setUp()
-        self.examples = [os.path.join(top, "examples", name) for name in ("coin", "faults", "islands", "miner", "spiky-tire", "tire")]
+        names = ("coin", "faults", "islands", "miner", "spiky-tire", "tire")
+        self.examples = [os.path.join(top, "examples", name) for name in names]
 
     def whole(self):
         """The table of a run that nothing cuts."""
