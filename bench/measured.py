@@ -101,7 +101,7 @@ def limit_reached(pid, since, limits):
 
 
 def waited(pid, limits):
-    """Waits for the end of a process, or ends it at a limit. Returns the limit, the status and what it used, as wait4(2) has them."""
+    """Waits for the end of a process, or ends it at a limit. Returns the limit, and the status and the usage of wait4(2)."""
     since, pause = time.monotonic(), 0.001
     while True:
         ended, status, usage = os.wait4(pid, os.WNOHANG)
