@@ -51,10 +51,8 @@ fn last_steps(alloc: Global, coin: &Task, rules: &Rules) -> Result<Option<(bool,
         ensures { result ≡ count - 1 }
     { count - 1 };
     let mut sim = Simulator::new(run, last);
-    let mut are_last = true;
-    for _ in 0..3 {
-        are_last = are_last && sim.steps() < 10 && is_last(sim.step());
-    }
+    let are_two_last = is_last(sim.step()) && sim.steps() < 10 && is_last(sim.step());
+    let are_last = are_two_last && sim.steps() < 10 && is_last(sim.step());
     Ok(Some((are_last && !sim.done(), sim.steps())))
 }
 
