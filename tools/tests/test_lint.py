@@ -30,9 +30,9 @@ from fond import faults, lint_ground, lint_model, program  # noqa: E402
 from fond.lint_files import KINDS, Files  # noqa: E402
 from fond.tree import read_tree  # noqa: E402
 
-built = os.path.join(top, "out", "dualfond")
-if "DUALFOND_PROGRAM" not in os.environ and os.path.exists(built):
-    os.environ["DUALFOND_PROGRAM"] = built
+for built in ("out/dualfond", "dist/dualfond-x86_64-linux"):
+    if "DUALFOND_PROGRAM" not in os.environ and os.path.exists(os.path.join(top, built)):
+        os.environ["DUALFOND_PROGRAM"] = os.path.join(top, built)
 needs_program = unittest.skipUnless("DUALFOND_PROGRAM" in os.environ, "program")
 
 MUTATIONS = int(os.environ.get("DUALFOND_SWEEP", "500"))
