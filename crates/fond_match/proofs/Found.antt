@@ -51,6 +51,9 @@ module _ {X : Type 0} (cube : X → List (Option Bool)) where
   pub cube_read : (items : List X) (k : ℕ) (item : X) → k < length items → item ≡ get_or items k item → slice_get (map cube items) k ≡ Some (cube item)
   cube_read items k item small is = slice_get-map cube items k ∙ ap (option_map cube) (slice_get-get_or items k item small ∙ ap (λ x. Some x) (sym is))
 
+  pub cube_found : (items : List X) (k : ℕ) (item : X) → k < length items → item ≡ get_or items k item → cube_at (map cube items) k ≡ cube item
+  cube_found items k item small is = get_or-map cube items k item [] small ∙ ap cube (sym is)
+
 module _ {X : Type 0} (cube : X → List (Option Bool)) (lies : List (Option Bool) → Bool) (visited : List ℕ) where
   -- each item whose cube passes was visited
   abbrev pub VisitsPassing : List X → Type 0

@@ -48,6 +48,10 @@ module _ (lies : List (Option Bool) → Bool) (cubes : List (List (Option Bool))
   pub skipped_least : best ≤ (out-Node node).least → IsLeast lies cubes best (visits has node) best
   skipped_least large = record { small = omega arith; from = inl refl; least = λ number visited passes. omega (arith, large, not_below has node number visited) }
 
+  -- if the cube of the least number passes, no number of the node is below it
+  pub passed_least : (out-Node node).least ≤ best → lies (cube_at cubes (out-Node node).least) ≡ true → IsLeast lies cubes best (visits has node) (out-Node node).least
+  passed_least small passes = record { small = small; from = inr passes; least = λ number visited passed. not_below has node number visited }
+
   -- a node that the query does not enter is passed over
   pub not_entered : enters has (out-Node node).literal ≡ false → IsLeast lies cubes best (visits has node) best
   not_entered out = record { small = omega arith; from = inl refl; least = λ number visited passes. absurd (false≢true (sym out ∙ is_entered has node number visited)) }

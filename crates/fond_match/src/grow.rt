@@ -1,21 +1,19 @@
 //! How the tree of an index is built: the numbers at a node are sorted by the first literals of their cubes past the
-//! atoms at which all of these agree. Each cube is gone through row by row, and about once.
+//! atoms at which all of these agree. Numbers of equal cubes get a branch for each literal of theirs, one below the other:
+//! a query that lacks one of these literals passes over all the numbers at once. Each cube is gone through row by row, and
+//! about once, or once more for each such branch.
 
 ghost use Rattle.fond_match.specs.Visits.{Keeps, entered, visits};
 ghost use Rattle.std.specs.Prelude.{◌≡◌, ◌<◌, ◌≤◌, All, map, length, IfOk};
 
-use crate::node::{Literal, Node};
+use crate::node::{FEW, Literal, Node};
 use crate::part::{Parts, part};
 use fond_state::has_cube::HasCube;
 use fond_text::fault::NoMemory;
 use std::alloc::Global;
 
-/// How many numbers a node keeps without sorting them. Few, since a branch costs a search one look at a literal, and a
-/// number up to one for each atom.
-const FEW: usize = 2;
-
-/// The first atom from `from` on at which the cubes of the numbers differ, or the number of atoms. Only how fast a
-/// search is depends on it.
+/// The atom from which on the cubes of the numbers are sorted by their first literals: the first from `from` on at which they
+/// differ, or `from` if they are equal from there on. Only how fast a search is depends on it.
 fn first_split<T: HasCube>(items: &[T], numbers: &[u32], from: u32) -> u32
     requires { All (λ number. number < length items.now) numbers.now }
 {
@@ -23,11 +21,12 @@ fn first_split<T: HasCube>(items: &[T], numbers: &[u32], from: u32) -> u32
         return from;
     };
     let cube = items[*first as usize].cube();
-    let mut end = from.max(cube.len() as u32);
+    let atoms = from.max(cube.len() as u32);
+    let mut end = atoms;
     for number in numbers {
         end = cube.first_difference(items[*number as usize].cube(), from, end);
     }
-    end
+    if end < atoms { end } else { from }
 }
 
 /// A number that none of these is below.
@@ -44,7 +43,7 @@ fn least_of(numbers: &[u32]) -> u32
 }
 
 /// The node of a literal over these numbers, sorted by the literals of their cubes from this atom on, along at most
-/// this many branches.
+/// this many branches. Where a branch passes over literals that all these cubes share, it starts at this atom again.
 pub(crate) fn grow<T: HasCube>(
     alloc: Global,
     items: &[T],
@@ -67,11 +66,13 @@ pub(crate) fn grow<T: HasCube>(
         });
     }
     let split = first_split(items, &numbers, from);
-    let Parts { rest, mut runs } = part(alloc, items, numbers, split)?;
+    let Parts { rest, mut runs } = part(alloc, items, numbers, from, split)?;
     let mut branches = Vec::new(alloc);
     while let Some(run) = runs.pop() {
-        let at = run.literal.atom;
-        branches.push(grow(alloc, items, Some(run.literal), run.numbers, at, depth - 1)?)?;
+        let own = run.literal;
+        let past = own.atom.saturating_add(1);
+        let next = if split > from { from } else { past };
+        branches.push(grow(alloc, items, Some(own), run.numbers, next, depth - 1)?)?;
     }
     Ok(Node {
         literal,

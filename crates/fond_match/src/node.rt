@@ -6,6 +6,10 @@ ghost use Rattle.fond_match.specs.Visits.{IsLeast, enters, visits, better};
 use crate::query::Query;
 use fond_state::has_cube::HasCube;
 
+/// How many numbers a node keeps without sorting them. Few, since a branch costs a search one look at a literal, and a
+/// number up to one for each atom.
+pub(crate) const FEW: usize = 2;
+
 /// A literal of an atom.
 #[derive(Clone, Copy, PartialEq, Eq, PartialOrd, Ord)]
 pub(crate) struct Literal {
@@ -62,6 +66,10 @@ impl Node {
         }
         if !enters(query, self.literal) {
             return best;
+        }
+        // more numbers are mostly of equal cubes, of which only the least number counts
+        if self.numbers.len() > FEW && query.lies_in(items[self.least as usize].cube()) {
+            return self.least;
         }
         let mut found = least(&self.numbers, items, query, best);
         for branch in &self.branches {

@@ -25,7 +25,7 @@ pub(crate) struct Run {
     pub(crate) numbers: Vec<u32>,
 }
 
-/// Numbers in runs by the first literals of their cubes from some atom on, and those whose cubes have none there.
+/// Numbers in runs by literals of their cubes, and those whose cubes have no further literal.
 #[derive(Drop)]
 pub(crate) struct Parts {
     pub(crate) rest: Vec<u32>,
@@ -44,12 +44,23 @@ fn first_literal(cube: &Cube, from: u32) -> Option<Literal>
     None
 }
 
-/// The numbers whose cubes have no literal from this atom on, and the others, with the first such literals.
+/// The cube's first literal from the split on, or from `from` on if there is none.
+fn sorting_literal(cube: &Cube, from: u32, split: u32) -> Option<Literal>
+    ensures { IfSome result (λ literal. literal_at cube.now literal.atom ≡ Some literal.sign) }
+{
+    match first_literal(cube, split) {
+        Some(literal) => Some(literal),
+        None => first_literal(cube, from),
+    }
+}
+
+/// The numbers whose cubes have no literal from `from` on, and the others, with their literals to be sorted by.
 fn entries_of<T: HasCube>(
     alloc: Global,
     items: &[T],
     numbers: &[u32],
     from: u32,
+    split: u32,
 ) -> Result<(Vec<u32>, Vec<Entry>), NoMemory>
     requires { All (λ number. number < length items.now) numbers.now }
     ensures { IfOk result (λ parts. Keeps (map T.cube items.now) (λ _. numbers.now) (λ has. parts.0.items ++ picked has parts.1.items)) }
@@ -57,7 +68,7 @@ fn entries_of<T: HasCube>(
     let mut rest = Vec::new(alloc);
     let mut entries = Vec::new(alloc);
     for number in numbers {
-        match first_literal(items[*number as usize].cube(), from) {
+        match sorting_literal(items[*number as usize].cube(), from, split) {
             Some(literal) => entries.push(Entry {
                 literal,
                 number: *number,
@@ -100,17 +111,19 @@ fn runs_of(alloc: Global, entries: &[Entry]) -> Result<Vec<Run>, NoMemory>
     Ok(runs)
 }
 
-/// Sorts the numbers by the first literals of their cubes from this atom on.
+/// Sorts the numbers by the first literals of their cubes from the split on. Those whose cubes have none there are sorted
+/// by the first ones from `from` on.
 pub(crate) fn part<T: HasCube>(
     alloc: Global,
     items: &[T],
     numbers: Vec<u32>,
     from: u32,
+    split: u32,
 ) -> Result<Parts, NoMemory>
     requires { All (λ number. number < length items.now) numbers.items }
     ensures { IfOk result (λ parts. Keeps (map T.cube items.now) (λ _. numbers.items) (λ has. parts.rest.items ++ run_visits has parts.runs.items)) }
 {
-    let (rest, mut entries) = entries_of(alloc, items, &numbers, from)?;
+    let (rest, mut entries) = entries_of(alloc, items, &numbers, from, split)?;
     entries.sort()?;
     let runs = runs_of(alloc, &entries)?;
     Ok(Parts { rest, runs })

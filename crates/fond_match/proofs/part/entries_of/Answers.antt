@@ -18,7 +18,7 @@ loop-number-preserved g c =
     let cube = g.T.HasCube.cube in
     let within : i < length numbers = c.loop-number-test.true in
     let own = cube_read cube items number item (c.requires i 0 within) c.index-items-number.is in
-    elim c.match-first_literal.branch [
+    elim c.match-sorting_literal.branch [
       | in-Some+in_ok-push-in-Some w ↦ Keeps-entry_read (map cube items) numbers i c.loop-number.rest.items _ c.loop-number.entries.items _ (record { literal = w.in-Some.literal; number = number }) (cube item) within refl own
           (ap (λ x. literal_at x w.in-Some.literal.atom) (sym c.cube.ensures) ∙ w.in-Some.ensures) (rw w.rest-is refl) (rw w.entries-is w.in_ok-push-in-Some.ensures.items) c.loop-number.invariant
       | in-None+in_ok-push-in-None w ↦ Keeps-rest_read (map cube items) numbers i c.loop-number.rest.items _ c.loop-number.entries.items _ within (rw w.rest-is w.in_ok-push-in-None.ensures.items) (rw w.entries-is refl) c.loop-number.invariant
