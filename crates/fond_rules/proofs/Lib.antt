@@ -1,6 +1,6 @@
 pub mod First
 pub mod Held
-pub mod Linked
+pub mod Grouped
 pub mod SureTargets
 pub mod Earlier
 pub mod Literals

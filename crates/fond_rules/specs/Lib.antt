@@ -1,6 +1,6 @@
 pub mod Select
 pub mod Belongs
-pub mod Links
+pub mod Groups
 pub mod Targets
 pub mod Laws
 pub mod Leans

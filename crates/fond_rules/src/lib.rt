@@ -5,6 +5,7 @@
 //! left to the crates above.
 #![tactic(auto)]
 
+mod groups;
 pub mod laws;
 pub mod lean;
 pub mod ordered;

@@ -5,39 +5,31 @@ ghost use Rattle.fond_rules.specs.Belongs.{ArePairsOver};
 ghost use Rattle.fond_rules.specs.Targets.{AllContradict};
 ghost use Rattle.std.specs.Prelude.{◌≡◌, ◌<◌, [], ◌∷◌, ◌++◌, length, slice_get, Some, Decides, OnOk, OnErr};
 
+use crate::groups::Groups;
 use fond_state::cube::Cube;
 use fond_task::rule::Pair;
 use fond_text::fault::NoMemory;
 use std::alloc::Global;
-use std::collections::HashMap;
 use std::marker::Model;
 
-/// A pair, and the number of the last one before it of the same action.
-#[derive(Drop)]
-struct Linked {
-    pair: Pair,
-    before: Option<usize>,
-}
-
-/// Forbidden pairs, in order. The pairs of one action are found without the others: a hash gives the last of them, and
-/// each is linked to the one before it.
+/// Forbidden pairs, in order. The conditions of the pairs of one action are found without the others, by an index of copies
+/// of them.
 #[derive(Drop)]
 pub struct Pairs {
-    items: Vec<Linked>,
-    last: HashMap<u32, usize>,
+    items: Vec<Pair>,
+    groups: Groups,
 }
 
 impl Model for Pairs {
     ghost use Rattle.fond_task.specs.declared.rule.Pair.{Pair};
-    ghost use Rattle.fond_rules.specs.Links.{AreLinked};
-    ghost use Rattle.std.specs.HashMap.{get};
-    ghost use Rattle.std.specs.Prelude.{List, map, nat_eq};
+    ghost use Rattle.fond_rules.specs.Groups.{AreGrouped};
+    ghost use Rattle.std.specs.Prelude.{List};
 
     ghost Value = { List Pair };
 
-    ghost view = { λ x. map (λ linked. linked.pair) x.items.items };
+    ghost view = { λ x. x.items.items };
 
-    ghost invariant = { λ x. AreLinked (map (λ linked. linked.pair) x.items.items) (map (λ linked. linked.before) x.items.items) (get nat_eq x.last) };
+    ghost invariant = { λ x. AreGrouped x.items.items x.groups };
 }
 
 impl Pairs {
@@ -47,7 +39,7 @@ impl Pairs {
     {
         Pairs {
             items: Vec::new(alloc),
-            last: HashMap::new(alloc),
+            groups: Groups::new(alloc),
         }
     }
 
@@ -58,8 +50,9 @@ impl Pairs {
     {
         // with room for the pair, the last step cannot fail, and a failure before it changes nothing
         self.items.reserve(1)?;
-        let before = self.last.insert(p.act, self.items.len())?;
-        self.items.push(Linked { pair: p, before })?;
+        let cond = p.cond.copy(*self.items.allocator())?;
+        self.groups.add(p.act, cond)?;
+        self.items.push(p)?;
         Ok(())
     }
 
@@ -75,35 +68,31 @@ impl Pairs {
         requires { i < length self.now }
         ensures { slice_get self.now i ≡ Some result.now }
     {
-        &self.items[i as usize].pair
+        &self.items[i as usize]
     }
 
     /// Whether the conditions of all pairs are over this many atoms. Takes time in the number of pairs.
     pub fn are_over(&self, atoms: usize) -> bool
         ensures { Decides result (ArePairsOver atoms self.now) }
     {
-        for linked in self.items.as_slice() {
-            if linked.pair.cond.len() != atoms {
+        for pair in self.items.as_slice() {
+            if pair.cond.len() != atoms {
                 return false;
             }
         }
         true
     }
 
-    /// Whether the cube contradicts the condition of each pair of the action. Takes time in the number of these pairs
-    /// times that of the atoms, however many other pairs there are.
+    /// Whether the cube contradicts the condition of each pair of the action. Takes time in the number of
+    /// branches of their index whose literals the cube does not oppose, and in that of the atoms for each condition there,
+    /// however many other pairs there are.
     pub fn all_contradict(&self, act: u32, cond: &Cube) -> bool
         requires { ArePairsOver (length cond.now) self.now }
         ensures { Decides result (AllContradict self.now act cond.now) }
     {
-        let mut next = self.last.get(&act).copied();
-        while let Some(number) = next {
-            let linked = &self.items[number];
-            if !cond.contradicts(&linked.pair.cond) {
-                return false;
-            }
-            next = linked.before;
+        match self.groups.list(act) {
+            Some(list) => list.first_beside(cond).is_none(),
+            None => true,
         }
-        true
     }
 }
