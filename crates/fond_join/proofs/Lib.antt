@@ -11,3 +11,5 @@ pub mod Weights
 pub mod Rising
 pub mod Rowed
 pub mod Covering
+pub mod Bared
+pub mod FixedValues

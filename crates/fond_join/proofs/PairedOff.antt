@@ -9,12 +9,14 @@ use Rattle.fond_ast.specs.declared.task.LSchema.{LSchema}
 use Rattle.fond_ast.specs.declared.task.LiftedTask.{LiftedTask}
 use Rattle.fond_ast.specs.Conditions.{tuples}
 use Rattle.fond_ast.proofs.Members.{Member, Contains-from_Member, Member-from_flat_map, Member-from_map}
+use Rattle.fond_task.specs.declared.form.Kleene.{Kleene}
+use Rattle.fond_task.specs.declared.form.Kleene.TheVariants.{No, Unknown}
 use Rattle.fond_join.specs.Barren.{IsBarrenPair}
 use Rattle.fond_join.specs.Kept.{is_kept, is_no, kept_args, open_value}
 use Rattle.fond_join.specs.Partial.{partial_value}
 use Rattle.fond_join.specs.Values.{condition_value}
 use Rattle.fond_join.proofs.Completed.{no_told}
-use Rattle.fond_join.proofs.Sound.{told}
+use Rattle.fond_join.proofs.Sound.{Tells, told}
 use Rattle.fond_join.specs.Agree.{Agree}
 
 none_filtered : {X : Type 0} (p : X → Bool) (xs : List X) → ((x : X) → Member xs x → p x ≡ false) → filter p xs ≡ []
@@ -54,6 +56,14 @@ tuple_at (range ∷ ranges) objects (suc parameter) m within =
 
 at_default : (xs : List ℕ) (k x : ℕ) → k < length xs → get_or xs k x ≡ x → get_or xs k 0 ≡ x
 at_default xs k x within is = get_or_default xs k 0 x within ∙ is
+
+-- no action is kept if a value that tells the precondition for all objects is No
+pub none_kept_if : (task : LiftedTask) (schema : LSchema) (value : Kleene) → value ≡ No → ((objects : List ℕ) → Tells false value (condition_value (open_value task) objects schema.pre)) → kept_args task schema ≡ []
+none_kept_if task schema value is tells = none_filtered (is_kept task schema) (tuples (objects_of schema.ranges)) (λ objects m. by objects (tells objects))
+  where
+    by : (objects : List ℕ) → Tells false value (condition_value (open_value task) objects schema.pre) → is_kept task schema objects ≡ false
+    by objects (inl same) = ap (λ v. not (is_no v)) (sym same ∙ is)
+    by objects (inr unknown) = let other : No ≡ Unknown = sym is ∙ unknown.0 in absurd (cc (other))
 
 -- a parameter has the object that it had before
 pub given_back : (env : List (Option ℕ)) (parameter : ℕ) (object before : Option ℕ) → before ≡ get_or env parameter before → set (set env parameter object) parameter before ≡ env

@@ -58,7 +58,7 @@ Tells-lesser full a b c d (inr e) (inl f) = rw (e.0, f) (by d)
     by Yes = inr (refl, e.1)
 Tells-lesser full a b c d (inr e) (inr f) = inr ((λ i. lesser (e.0 i) (f.0 i)), e.1)
 
-Tells-opposite : (full : Bool) (a b : Kleene) → Tells full a b → Tells full (opposite a) (opposite b)
+pub Tells-opposite : (full : Bool) (a b : Kleene) → Tells full a b → Tells full (opposite a) (opposite b)
 Tells-opposite full a b (inl e) = inl (ap opposite e)
 Tells-opposite full a b (inr e) = inr (ap opposite e.0, e.1)
 
@@ -71,12 +71,12 @@ turned Unknown Unknown = refl
 turned Unknown Yes = refl
 turned Yes b = refl
 
-Tells-greater : (full : Bool) (a b c d : Kleene) → Tells full a b → Tells full c d → Tells full (greater a c) (greater b d)
+pub Tells-greater : (full : Bool) (a b c d : Kleene) → Tells full a b → Tells full c d → Tells full (greater a c) (greater b d)
 Tells-greater full a b c d first second =
     subst (λ v. Tells full v (greater b d)) (turned a c) (subst (λ v. Tells full (opposite (lesser (opposite a) (opposite c))) v) (turned b d)
     (Tells-opposite full _ _ (Tells-lesser full (opposite a) (opposite b) (opposite c) (opposite d) (Tells-opposite full a b first) (Tells-opposite full c d second))))
 
-Tells-joined : (full : Bool) (junction : Junction) (a b c d : Kleene) → Tells full a b → Tells full c d → Tells full (joined junction a c) (joined junction b d)
+pub Tells-joined : (full : Bool) (junction : Junction) (a b c d : Kleene) → Tells full a b → Tells full c d → Tells full (joined junction a c) (joined junction b d)
 Tells-joined full All a b c d first second = Tells-lesser full a b c d first second
 Tells-joined full Any a b c d first second = Tells-greater full a b c d first second
 

@@ -7,3 +7,4 @@ pub mod Barren
 pub mod Rows
 pub mod Agree
 pub mod Candidates
+pub mod Fixed

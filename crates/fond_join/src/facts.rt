@@ -1,12 +1,14 @@
 //! The initial atoms of a task, found by a hash.
 
 ghost use Rattle.fond_join.specs.Rows.{AreRowed};
+ghost use Rattle.fond_join.specs.Fixed.{AreBare};
+ghost use Rattle.fond_join.specs.Kept.{open_value};
 ghost use Rattle.fond_join.specs.Tables.{is_entered, IsEnteredBeside};
 ghost use Rattle.fond_ast.specs.Ranges.{is_among};
 ghost use Rattle.fond_text.specs.declared.atom.Atom.{Atom};
 ghost use Rattle.fond_ast.specs.Solutions.{initial};
 ghost use Rattle.std.specs.FinSet as set;
-ghost use Rattle.std.specs.Prelude.{◌≡◌, ◌<◌, ℕ, List, Some, true, false, vec_len, length, slice_get, slice_index_or, IfOk, IfSome, OnOk};
+ghost use Rattle.std.specs.Prelude.{◌≡◌, ◌<◌, ℕ, List, Some, true, false, not, map, vec_len, length, slice_get, slice_index_or, IfOk, IfSome, OnOk};
 
 use crate::rows::{MOST_ROWED, Rows, row_of, rows_of};
 use fond_ast::task::LiftedTask;
@@ -15,16 +17,19 @@ use fond_text::atom::Atom;
 use fond_text::fault::NoMemory;
 use std::alloc::Global;
 
-/// A task with an index of its initial atoms: for each predicate the lists of objects of its initial atoms, and for each
-/// object at a position of one of them the objects beside it.
+/// A task with an index of its initial atoms: for each predicate the lists of objects of its initial atoms, for each object
+/// at a position of one of them the objects beside it, and for each predicate whether it is bare: static and without initial
+/// atoms.
 #[derive(Drop)]
 pub struct Facts<'a> {
     pub task: &'a LiftedTask,
     tables: Vec<TupleIndex>,
     rows: Rows,
+    pub(crate) bare: Vec<bool>,
     ghost rowed: { AreRowed rows.numbers rows.lists.items task.now.init },
     ghost entered: { (predicate : ℕ) (objects : List ℕ)
         → is_entered tables.items predicate objects ≡ set.contains (initial task.now) (record { predicate = predicate; objects = objects }) },
+    ghost bared: { AreBare (open_value task.now) bare.items },
 }
 
 /// An empty table for each of some predicates.
@@ -62,6 +67,28 @@ fn tables_of(alloc: Global, task: &LiftedTask) -> Result<Vec<TupleIndex>, NoMemo
     Ok(tables)
 }
 
+/// For each predicate whether it is static.
+fn static_tests(alloc: Global, task: &LiftedTask) -> Result<Vec<bool>, NoMemory>
+    ensures { IfOk result (λ tests. tests.items ≡ map (λ predicate. not predicate.fluent) task.now.predicates) }
+{
+    let mut tests = Vec::with_capacity(alloc, task.predicates.len())?;
+    for i in 0..task.predicates.len() {
+        tests.push(!task.predicates.get(i).fluent)?;
+    }
+    Ok(tests)
+}
+
+/// For each predicate whether it is static and has no initial atom.
+fn bare_tests(alloc: Global, task: &LiftedTask) -> Result<Vec<bool>, NoMemory>
+    ensures { IfOk result (λ bare. AreBare (open_value task.now) bare.items) }
+{
+    let mut bare = static_tests(alloc, task)?;
+    for atom in task.init.as_slice() {
+        bare[atom.predicate as usize] = false;
+    }
+    Ok(bare)
+}
+
 impl<'a> Facts<'a> {
     /// The index of a task. Takes time and memory in the number of the objects of initial atoms.
     pub fn of(alloc: Global, task: &'a LiftedTask) -> Result<Facts<'a>, NoMemory>
@@ -69,7 +96,13 @@ impl<'a> Facts<'a> {
     {
         let tables = tables_of(alloc, task)?;
         let rows = rows_of(alloc, task.init.as_slice())?;
-        Ok(Facts { task, tables, rows })
+        let bare = bare_tests(alloc, task)?;
+        Ok(Facts {
+            task,
+            tables,
+            rows,
+            bare,
+        })
     }
 
     /// The objects at a position of the initial atoms of a predicate that have this object at another position, if both are

@@ -6,6 +6,7 @@
 mod barren;
 mod candidates;
 pub mod facts;
+pub mod fixed;
 pub mod matching;
 mod rows;
 mod search;

@@ -1,15 +1,19 @@
 //! The kept argument lists of a schema. Parameters are given objects in the order of their declarations, so that the lists
-//! are found in order. Before that, each pair of parameters is looked at alone: if it leaves nothing, there is no search.
+//! are found in order. Before that, the precondition is looked at without objects, and each pair of parameters alone: if
+//! nothing can be left, there is no search.
 
 ghost use Rattle.fond_ast.specs.declared.task.LSchema.{LSchema};
 ghost use Rattle.fond_join.specs.Kept.{kept_args};
 ghost use Rattle.std.specs.List.{range_with_len};
-ghost use Rattle.std.specs.Prelude.{◌≡◌, ◌<◌, ◌≤◌, Some, None, length, replicate, slice_get, IfOk, MatchOption};
+ghost use Rattle.std.specs.Prelude.{◌≡◌, ◌<◌, ◌≤◌, [], true, Some, None, length, replicate, slice_get, IfOk, MatchOption, OnOk};
 
 use crate::barren::has_barren_pair;
 use crate::facts::Facts;
+use crate::fixed::fixed_value;
 use crate::search::search;
 use crate::value::Scope;
+use fond_ast::task::LSchema;
+use fond_task::form::Kleene;
 use fond_text::atom::Objects;
 use fond_text::fault::NoMemory;
 use fond_text::list::List;
@@ -39,6 +43,19 @@ fn no_objects(alloc: Global, count: usize) -> Result<Scope, NoMemory>
     })
 }
 
+/// Whether it is clear without a search that no ground action is kept: the precondition is false whatever the objects are,
+/// or two parameters leave none.
+fn leaves_none(facts: &Facts, schema: &LSchema, scope: &mut Scope) -> Result<bool, NoMemory>
+    requires { scope.old.env.items ≡ replicate (length schema.now.ranges) None }
+    ensures none { IfOk result (λ none. none ≡ true → kept_args facts.now.task.now schema.now ≡ []) }
+    ensures same { OnOk result (scope.new.env.items ≡ scope.old.env.items) }
+{
+    if let Kleene::No = fixed_value(&facts.bare, &schema.pre) {
+        return Ok(true);
+    }
+    has_barren_pair(facts, schema, scope)
+}
+
 /// The argument lists of the kept ground actions of a schema, in order, or none if there are more than `most`. Takes the
 /// time of one value of the precondition for each partial list that is reached and each object that is tried after it, and
 /// memory for no more than `most` lists. If a static atom that the precondition demands has the next parameter and an
@@ -59,7 +76,7 @@ pub fn matches_within(
     let count = schema.ranges.len();
     let order = declared_order(alloc, count)?;
     let mut scope = no_objects(alloc, count)?;
-    if has_barren_pair(facts, schema, &mut scope)? {
+    if leaves_none(facts, schema, &mut scope)? {
         return Ok(Some(List::new(alloc)));
     }
     let mut found = List::new(alloc);
