@@ -1,5 +1,5 @@
 -- The value that a condition has by its form is its value, or Unknown.
-use Rattle.std.proofs.Common.{◌≡◌, inl, inr, ℕ, Bool, true, false, List, [], ◌∷◌, ◌++◌, map, refl, sym, ap, subst, ◌∙◌}
+use Rattle.std.proofs.Common.{◌≡◌, ◌≢◌, inl, inr, ℕ, Bool, true, false, List, [], ◌∷◌, ◌++◌, map, refl, sym, ap, subst, ◌∙◌, Option, Some}
 use Rattle.std.specs.Prelude.{fold, if◌then◌else◌, slice_index_or}
 use Rattle.std.specs.List.{flat_map}
 use Rattle.fond_text.specs.declared.atom.Atom.{Atom}
@@ -14,6 +14,8 @@ use Rattle.fond_task.specs.declared.form.Kleene.{Kleene}
 use Rattle.fond_task.specs.declared.form.Kleene.TheVariants.{No, Unknown, Yes}
 use Rattle.fond_task.specs.Junctions.{joined, joined_all, neutral}
 use Rattle.fond_join.specs.Fixed.{are_filled, AreBare, fixed_step, fixed_value, over}
+use Rattle.fond_ast.specs.declared.task.LiftedTask.{LiftedTask}
+use Rattle.fond_join.specs.Partial.{partial_step, partial_value}
 use Rattle.fond_join.specs.Values.{condition_step, condition_value}
 use Rattle.fond_join.proofs.Joined.{joined_first}
 use Rattle.fond_join.proofs.Sound.{Tells, Tells-greater, Tells-joined, Tells-opposite}
@@ -75,6 +77,22 @@ module _ {X : Type 0} (junction : Junction) (a : Kleene) (of : X → Kleene) (ea
       by true e = all_told xs (some e)
       by false e = inl (sym (ap (λ ys. joined_all junction (map of ys)) (none e)))
 
+-- a value that is the same for all tuples, and not Unknown, gives that of a quantifier
+pub over_is : (junction : Junction) (a : Kleene) (of : List ℕ → Kleene) → ((objects : List ℕ) → Tells false a (of objects)) → a ≢ Unknown → (ranges : List (List ℕ)) → over ranges junction a ≡ joined_all junction (map of (tuples ranges))
+over_is junction a of each known ranges = by (over_told junction a of each ranges (tuples ranges) (some_tuples ranges) (no_tuples ranges))
+  where
+    open_neither : (junction : Junction) → neutral junction ≡ Unknown → ⊥
+    open_neither All e = cc (e)
+    open_neither Any e = cc (e)
+
+    never : (b : Bool) → (if b then a else neutral junction) ≡ Unknown → ⊥
+    never true e = known e
+    never false e = open_neither junction e
+
+    by : Tells false (over ranges junction a) (joined_all junction (map of (tuples ranges))) → over ranges junction a ≡ joined_all junction (map of (tuples ranges))
+    by (inl same) = same
+    by (inr unknown) = absurd (never (are_filled ranges) unknown.0)
+
 module _ (bare : List Bool) (known : Atom → Kleene) (are_bare : AreBare known bare) where
   abbrev ToldByForm : LCond → Type 0
   ToldByForm condition = (objects : List ℕ) → Tells false (fixed_value bare condition) (condition_value known objects condition)
@@ -119,3 +137,41 @@ module _ (bare : List Bool) (known : Atom → Kleene) (are_bare : AreBare known 
   told_by_form = ind-LCond ToldByForm (λ x y is objects.
       rw (fold-roll-LCond Kleene (fixed_step bare) x, fold-roll-LCond (List ℕ → Kleene) (condition_step known) x)
       (let P : LCond-F LCond → Type 0 = λ z. Tells false (fixed_layer z) (whole_layer z objects) in subst P is (layer_told y objects)))
+
+module _ (task : LiftedTask) where
+  abbrev ToldOpen : LCond → Type 0
+  ToldOpen condition = (env : List (Option ℕ)) → Tells false (fixed_value [] condition) (partial_value task env condition)
+
+  abbrev open_conditions : List ((condition : LCond) × ToldOpen condition) → List LCond
+  open_conditions parts = map (λ e. e.0) parts
+
+  open_parts_told : (junction : Junction) (env : List (Option ℕ)) (parts : List ((condition : LCond) × ToldOpen condition)) (a b : Kleene) → Tells false a b →
+      Tells false (fold (joined junction) a (map (fixed_value []) (open_conditions parts)))
+      (fold (joined junction) b (map (λ (part : List (Option ℕ) → Kleene). part env) (map (λ condition around. partial_value task around condition) (open_conditions parts))))
+  open_parts_told junction env [] a b h = h
+  open_parts_told junction env (part ∷ parts) a b h = open_parts_told junction env parts _ _ (Tells-joined false junction a b _ _ h (part.1 env))
+
+  abbrev open_layer : LCond-F LCond → Kleene
+  open_layer layer = fixed_step [] (map-LCond LCond Kleene (fold-LCond Kleene (fixed_step [])) layer)
+
+  abbrev partial_layer : LCond-F LCond → List (Option ℕ) → Kleene
+  partial_layer layer = partial_step task (map-LCond LCond (List (Option ℕ) → Kleene) (fold-LCond (List (Option ℕ) → Kleene) (partial_step task)) layer)
+
+  open_layer_told : (layer : LCond-F ((condition : LCond) × ToldOpen condition)) (env : List (Option ℕ)) →
+      Tells false (open_layer (map-LCond ((condition : LCond) × ToldOpen condition) LCond (λ e. e.0) layer)) (partial_layer (map-LCond ((condition : LCond) × ToldOpen condition) LCond (λ e. e.0) layer) env)
+  open_layer_told Truth env = inl refl
+  open_layer_told (Holds atom) env = inr (refl, refl)
+  open_layer_told (Equal term other) env = inr (refl, refl)
+  open_layer_told (And parts) env = open_parts_told All env parts.items Yes Yes (inl refl)
+  open_layer_told (Or parts) env = open_parts_told Any env parts.items No No (inl refl)
+  open_layer_told (Not part) env = Tells-opposite false _ _ (part.value.1 env)
+  open_layer_told (Imply part other) env = Tells-greater false _ _ _ _ (Tells-opposite false _ _ (part.value.1 env)) (other.value.1 env)
+  open_layer_told (Forall ranges part) env =
+      over_told All _ (λ more. partial_value task (env ++ map Some more) part.value.0) (λ more. part.value.1 (env ++ map Some more)) (objects_of ranges) (tuples (objects_of ranges)) (some_tuples (objects_of ranges)) (no_tuples (objects_of ranges))
+  open_layer_told (Exists ranges part) env =
+      over_told Any _ (λ more. partial_value task (env ++ map Some more) part.value.0) (λ more. part.value.1 (env ++ map Some more)) (objects_of ranges) (tuples (objects_of ranges)) (some_tuples (objects_of ranges)) (no_tuples (objects_of ranges))
+
+  pub told_open : (condition : LCond) → ToldOpen condition
+  told_open = ind-LCond ToldOpen (λ x y is env.
+      rw (fold-roll-LCond Kleene (fixed_step []) x, fold-roll-LCond (List (Option ℕ) → Kleene) (partial_step task) x)
+      (let P : LCond-F LCond → Type 0 = λ z. Tells false (open_layer z) (partial_layer z env) in subst P is (open_layer_told y env)))

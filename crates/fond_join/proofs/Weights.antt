@@ -19,8 +19,8 @@ weight_step (open_condition.And parts) = total parts.items + 2
 weight_step (open_condition.Or parts) = total parts.items + 2
 weight_step (open_condition.Not part) = part.value + 1
 weight_step (open_condition.Imply part other) = part.value + other.value + 1
-weight_step (open_condition.Forall ranges part) = part.value + length ranges + 2
-weight_step (open_condition.Exists ranges part) = part.value + length ranges + 2
+weight_step (open_condition.Forall ranges part) = part.value + length ranges + 3
+weight_step (open_condition.Exists ranges part) = part.value + length ranges + 3
 
 pub weight : LCond → ℕ
 weight = fold-LCond ℕ weight_step
@@ -41,11 +41,11 @@ pub weight-Imply : (part other : Box LCond Global) → weight (Imply part other)
 unfolding weight
 weight-Imply part other = ap weight (sym (rolls-Imply part other)) ∙ fold-roll-LCond ℕ weight_step (open_condition.Imply part other)
 
-pub weight-Forall : (ranges : RangeList) (part : Box LCond Global) → weight (Forall ranges part) ≡ weight part.value + length ranges + 2
+pub weight-Forall : (ranges : RangeList) (part : Box LCond Global) → weight (Forall ranges part) ≡ weight part.value + length ranges + 3
 unfolding weight
 weight-Forall ranges part = ap weight (sym (rolls-Forall ranges part)) ∙ fold-roll-LCond ℕ weight_step (open_condition.Forall ranges part)
 
-pub weight-Exists : (ranges : RangeList) (part : Box LCond Global) → weight (Exists ranges part) ≡ weight part.value + length ranges + 2
+pub weight-Exists : (ranges : RangeList) (part : Box LCond Global) → weight (Exists ranges part) ≡ weight part.value + length ranges + 3
 unfolding weight
 weight-Exists ranges part = ap weight (sym (rolls-Exists ranges part)) ∙ fold-roll-LCond ℕ weight_step (open_condition.Exists ranges part)
 

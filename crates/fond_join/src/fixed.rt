@@ -23,7 +23,7 @@ fn are_filled(ranges: &[Range]) -> bool
 }
 
 /// The value of a quantifier, if that of its part is the same for all objects.
-fn over(ranges: &[Range], junction: Junction, value: Kleene) -> Kleene
+pub fn over(ranges: &[Range], junction: Junction, value: Kleene) -> Kleene
     ensures { result ≡ over (objects_of ranges.now) junction value }
 {
     if are_filled(ranges) {

@@ -10,6 +10,7 @@ ghost use Rattle.fond_task.specs.declared.form.Kleene.{Kleene};
 ghost use Rattle.std.specs.Prelude.{◌≡◌, ◌++◌, List, Some, None, true, map, fold, if◌then◌else◌, IfOk, OnOk};
 
 use crate::facts::Facts;
+use crate::fixed::{fixed_value, over};
 use fond_ast::form::{LAtom, LCond, LTerm, Range};
 use fond_task::form::{Junction, Kleene};
 use fond_text::fault::NoMemory;
@@ -107,10 +108,10 @@ pub(crate) fn value(facts: &Facts, scope: &mut Scope, condition: &LCond) -> Resu
             Ok(first.greater(value(facts, scope, other)?))
         }
         LCond::Forall(ranges, part) => {
-            range_value(facts, scope, ranges.as_slice(), part, Junction::All)
+            quantified_value(facts, scope, ranges.as_slice(), part, Junction::All)
         }
         LCond::Exists(ranges, part) => {
-            range_value(facts, scope, ranges.as_slice(), part, Junction::Any)
+            quantified_value(facts, scope, ranges.as_slice(), part, Junction::Any)
         }
     }
 }
@@ -136,7 +137,26 @@ fn parts_value(
     Ok(all)
 }
 
-/// The value of the junction of a condition over the lists of objects of some ranges.
+/// The value of the junction of a condition over the lists of objects of some ranges. If the value of the condition follows
+/// from its form, it is not looked at for each list.
+#[cycle(evaluating)]
+fn quantified_value(
+    facts: &Facts,
+    scope: &mut Scope,
+    ranges: &[Range],
+    part: &LCond,
+    junction: Junction,
+) -> Result<Kleene, NoMemory>
+    ensures value { IfOk result (λ value. value ≡ joined_all junction (map (λ objects. partial_value facts.now.task.now (scope.old.env.items ++ map Some objects) part.now) (tuples (objects_of ranges.now)))) }
+    ensures same { OnOk result (scope.new.env.items ≡ scope.old.env.items) }
+{
+    match fixed_value(&[], part) {
+        Kleene::Unknown => range_value(facts, scope, ranges, part, junction),
+        fixed => Ok(over(ranges, junction, fixed)),
+    }
+}
+
+/// The value of the junction of a condition over the lists of objects of some ranges, list by list.
 #[cycle(evaluating)]
 fn range_value(
     facts: &Facts,

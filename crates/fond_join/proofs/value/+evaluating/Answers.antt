@@ -1,4 +1,4 @@
-use Rattle.std.proofs.Common.{◌≡◌, ◌+◌, ◌-◌, ◌++◌, ◌∷◌, [], Some, length, map, take, drop, get_or, refl, sym, ap, subst, ◌∙◌, IfOk, vec_len, arith}
+use Rattle.std.proofs.Common.{◌≡◌, ◌+◌, ◌-◌, ◌++◌, ◌∷◌, [], Some, length, map, take, drop, get_or, refl, sym, ap, subst, ◌∙◌, IfOk, vec_len, false, arith}
 use Rattle.std.proofs.lemmas.Grind.{common_steps}
 use Rattle.std.specs.Prelude.{fold}
 use Rattle.std.proofs.lemmas.List.{get_or_default}
@@ -8,8 +8,10 @@ use Rattle.fond_ast.specs.Conditions.{tuples}
 use Rattle.fond_task.specs.Junctions.{joined, joined_all}
 use Rattle.fond_task.specs.declared.form.Junction.TheVariants.{All, Any}
 use Rattle.fond_join.specs.Partial.{partial_value}
+use Rattle.fond_join.proofs.FixedValues.{over_is, told_open}
 use Rattle.fond_join.proofs.Items.{first_item, rest_length, popped}
 use Rattle.fond_join.proofs.Joined.{at_exists, at_forall, joined_next, over_first, over_rest}
+use Rattle.fond_join.proofs.Sound.{Tells}
 use Rattle.fond_join.proofs.Weights.{total, weight, weight-And, weight-Or, weight-Not, weight-Imply, weight-Forall, weight-Exists, part_weight}
 use Rattle.fond_join.proofs.value.+evaluating.Goals as goal
 
@@ -110,18 +112,18 @@ value-returns-in-Forall-clause-value t c =
     let task = c.args.facts.now.task.now in
     let env = c.args.scope.now.env.items in
     let all = λ (ranges : RangeList) (part : LCond). joined_all All (map (λ objects. partial_value task (env ++ map Some objects) part) (tuples (objects_of ranges))) in
-    subst (λ v. IfOk c.range_value.result (λ value. value ≡ v))
+    subst (λ v. IfOk c.quantified_value.result (λ value. value ≡ v))
     (ap (λ ranges. all ranges c.deref-in-Forall.result.now) c.as_slice.ensures ∙ ap (all c.in-Forall.ranges) c.deref-in-Forall.ensures
-    ∙ at_forall task env c.in-Forall.ranges c.in-Forall.part ∙ ap (partial_value task env) (sym c.in-Forall.is)) c.range_value.ensures.value
+    ∙ at_forall task env c.in-Forall.ranges c.in-Forall.part ∙ ap (partial_value task env) (sym c.in-Forall.is)) c.quantified_value.ensures.value
 
 pub value-returns-in-Exists-clause-value : goal.value-returns-in-Exists-clause-value
 value-returns-in-Exists-clause-value t c =
     let task = c.args.facts.now.task.now in
     let env = c.args.scope.now.env.items in
     let all = λ (ranges : RangeList) (part : LCond). joined_all Any (map (λ objects. partial_value task (env ++ map Some objects) part) (tuples (objects_of ranges))) in
-    subst (λ v. IfOk c.range_value-in-Exists.result (λ value. value ≡ v))
+    subst (λ v. IfOk c.quantified_value-in-Exists.result (λ value. value ≡ v))
     (ap (λ ranges. all ranges c.deref-in-Exists.result.now) c.as_slice-in-Exists.ensures ∙ ap (all c.in-Exists.ranges) c.deref-in-Exists.ensures
-    ∙ at_exists task env c.in-Exists.ranges c.in-Exists.part ∙ ap (partial_value task env) (sym c.in-Exists.is)) c.range_value-in-Exists.ensures.value
+    ∙ at_exists task env c.in-Exists.ranges c.in-Exists.part ∙ ap (partial_value task env) (sym c.in-Exists.is)) c.quantified_value-in-Exists.ensures.value
 
 pub value-parts_value-requires : goal.value-parts_value-requires
 value-parts_value-requires t c =
@@ -142,8 +144,8 @@ pub value-value-requires-in-Imply-2 : goal.value-value-requires-in-Imply-2
 value-value-requires-in-Imply-2 t c =
     (let heavy = ap weight c.in-Imply.is ∙ weight-Imply c.in-Imply.part c.in-Imply.other in let other = ap weight c.deref-in-Imply-2.ensures in omega arith, tt)
 
-pub value-range_value-requires : goal.value-range_value-requires
-value-range_value-requires t c = (
+pub value-quantified_value-requires : goal.value-quantified_value-requires
+value-quantified_value-requires t c = (
   let heavy = ap weight c.in-Forall.is ∙ weight-Forall c.in-Forall.ranges c.in-Forall.part in
       let part = ap weight c.deref-in-Forall.ensures in
       let long = ap length c.as_slice.ensures in
@@ -151,11 +153,24 @@ value-range_value-requires t c = (
   tt,
 )
 
-pub value-range_value-requires-in-Exists : goal.value-range_value-requires-in-Exists
-value-range_value-requires-in-Exists t c = (
+pub value-quantified_value-requires-in-Exists : goal.value-quantified_value-requires-in-Exists
+value-quantified_value-requires-in-Exists t c = (
   let heavy = ap weight c.in-Exists.is ∙ weight-Exists c.in-Exists.ranges c.in-Exists.part in
       let part = ap weight c.deref-in-Exists.ensures in
       let long = ap length c.as_slice-in-Exists.ensures in
       omega arith,
   tt,
 )
+
+pub quantified_value-returns-in_default : goal.quantified_value-returns-in_default
+quantified_value-returns-in_default t c =
+    let task = c.args.facts.now.task.now in
+    let env = c.args.scope.now.env.items in
+    let part = c.args.part.now in
+    record {
+      value = c.over.ensures
+          ∙ over_is c.args.junction c.fixed_value.result (λ objects. partial_value task (env ++ map Some objects) part)
+          (λ objects. subst (λ v. Tells false v (partial_value task (env ++ map Some objects) part)) (sym c.fixed_value.ensures) (told_open task part (env ++ map Some objects)))
+          c.in_default.not-Unknown (objects_of c.args.ranges.now);
+      same = refl;
+    }

@@ -14,6 +14,9 @@ decreases-value l = weight l.condition.now
 abbrev pub decreases-parts_value : goal.decreases-parts_value
 decreases-parts_value l = total (map weight l.parts.now) + 1
 
+abbrev pub decreases-quantified_value : goal.decreases-quantified_value
+decreases-quantified_value l = weight l.part.now + length l.ranges.now + 2
+
 abbrev pub decreases-range_value : goal.decreases-range_value
 decreases-range_value l = weight l.part.now + length l.ranges.now + 1
 
