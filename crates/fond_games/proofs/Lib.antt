@@ -1,0 +1,13 @@
+pub mod Lists
+pub mod Stages
+pub mod Walking
+pub mod Refuting
+pub mod Ranked
+pub mod Tours
+pub mod Trapped
+pub mod Decided
+pub mod Raised
+pub mod Hopped
+pub mod Keeping
+pub mod Touring
+pub mod Toured

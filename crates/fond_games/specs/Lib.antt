@@ -1,0 +1,10 @@
+pub mod Walks
+pub mod Lassos
+pub mod Rankings
+pub mod Finite
+pub mod Graphs
+pub mod Levels
+pub mod Hops
+pub mod Keeping
+pub mod Visits
+pub mod Laws
