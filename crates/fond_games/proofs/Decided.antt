@@ -74,7 +74,7 @@ module _ {S A : Type 0} (game : Game S A) (policy : Policy S A) (finite : IsFini
   pub bounds_walks : AllUnfair game → IsSolution game policy → WalksBounded game policy
   bounds_walks all solution =
       let ranked = solution_ranked game policy finite solution in
-      (ranked.0 game.first, λ states last walk. walks_short game policy ranked.0 ranked.1.is_ranking all game.first states last walk start)
+      (ranked.0 game.first, λ states last walk. walks_short game policy ranked.0 ranked.1.is_ranking all solution.acts game.first states last walk start)
 
 -- a game that is given by tests and lists is decided by them
 finite_of : {S A : Type 0} (tests : Tests S A) (policy : Policy S A) (states : List S) → ReachesOnly (game_of tests) policy states → IsFinite (game_of tests) policy

@@ -10,6 +10,7 @@ use Rattle.fond_games.specs.Rankings.{IsNearer, IsRanking, IsLeastRanking}
 use Rattle.fond_games.specs.Finite.{IsFinite}
 use Rattle.fond_games.proofs.Lists.{search_list, any_has, any_from, all_at, all_from, passing, passing_from, passing_has, and_left, and_right, and_both, not_true, not_false, both_ways, decided}
 use Rattle.fond_games.proofs.Stages.{stable}
+use Rattle.fond_games.proofs.Refuting.{applies}
 use Rattle.fond_games.proofs.Walking.{step_of}
 
 -- what is not true is false
@@ -225,7 +226,7 @@ module _ {S A : Type 0} (game : Game S A) (policy : Policy S A) (rank : S → �
       (λ goal. ([], state, stay state, goal))
       (λ open_.
       let choice = acts state reached open_ in
-      let next = ranking.fair state choice.0 reached open_ choice.1 (none choice.0) in
+      let next = ranking.fair state choice.0 reached open_ choice.1 (none state choice.0 choice.2) in
       let step = step_of game policy state choice.0 next.0 open_ choice.1 next.1 in
       ⊎_elim
       (λ goal. (state ∷ [], next.0, leave state next.0 next.0 [] step (stay next.0), goal))
@@ -241,9 +242,9 @@ module _ {S A : Type 0} (game : Game S A) (policy : Policy S A) (rank : S → �
   ends state states last goal (leave s t u rest step walk) = absurd (step.open_ goal)
 
   -- where every action is unfair, no walk is longer than the rank of its first state
-  pub walks_short : AllUnfair game → (state : S) (states : List S) (last : S) → Walk (Step game policy) state states last → Reach game policy state → length states ≤ rank state
-  walks_short all state states last (stay s) reached = omega arith
-  walks_short all state states last (leave s t u rest step walk) reached = ⊎_elim
+  pub walks_short : AllUnfair game → ActsEverywhere game policy → (state : S) (states : List S) (last : S) → Walk (Step game policy) state states last → Reach game policy state → length states ≤ rank state
+  walks_short all acts state states last (stay s) reached = omega arith
+  walks_short all acts state states last (leave s t u rest step walk) reached = ⊎_elim
       (λ goal. omega (arith, ends t rest u goal walk, ranking.some s reached step.open_))
-      (λ less. omega (arith, walks_short all t rest u walk (onward s step.choice t reached step.open_ step.chosen step.next), less))
-      (ranking.unfair s step.choice t reached step.open_ step.chosen (all step.choice) step.next)
+      (λ less. omega (arith, walks_short all acts t rest u walk (onward s step.choice t reached step.open_ step.chosen step.next), less))
+      (ranking.unfair s step.choice t reached step.open_ step.chosen (all s step.choice (applies game policy acts s step.choice reached step.open_ step.chosen)) step.next)

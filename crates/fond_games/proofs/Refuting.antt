@@ -1,8 +1,8 @@
 -- What refutes a solution, and what suffices for one, in games of any kind.
-use Rattle.std.proofs.Common.{inl, inr, ⊎_elim, ◌≡◌, ℕ, zero, suc, ◌<◌, ◌≤◌, List, [], ◌∷◌, ◌++◌, length, sym, ◌∙◌, subst, length-append, arith}
+use Rattle.std.proofs.Common.{inl, inr, ⊎_elim, ◌≡◌, ℕ, zero, suc, ◌<◌, ◌≤◌, List, [], ◌∷◌, ◌++◌, Some, length, sym, ◌∙◌, subst, length-append, arith}
 use Rattle.std.specs.Prelude.{◌⊎◌, Contains}
 use Rattle.std.proofs.lemmas.Option.{same_Some}
-use Rattle.fond_state.specs.Games.{Game, Policy, start, StaysIn, IsTrap, IsSolution}
+use Rattle.fond_state.specs.Games.{Game, Policy, Reach, start, StaysIn, IsTrap, IsSolution}
 use Rattle.fond_games.specs.Walks.{Walk, stay, leave, IsInReach}
 use Rattle.fond_games.specs.Lassos.{Step, Lasso, Stuck, ActsEverywhere, NoneUnfair, AllUnfair, GoalsInReach, WalksBounded}
 use Rattle.fond_games.specs.Rankings.{IsRanking}
@@ -69,21 +69,30 @@ module _ {S A : Type 0} (game : Game S A) (policy : Policy S A) where
   pub ranked_free : (rank : S → ℕ) → IsRanking game policy rank → ((action : A) → game.IsUnfair action ⊎ (¬ game.IsUnfair action)) → (trap : List S) → ¬ IsTrap game policy trap
   ranked_free rank ranking known trap is = none_below rank ranking known trap is (suc (rank is.some.0)) is.some.0 is.some.1 (omega arith)
 
-  module _ (trap : List S) (is : IsTrap game policy trap) where
+  -- in a reached state that is no goal, what is chosen is applicable
+  pub applies : ActsEverywhere game policy → (state : S) (choice : A) → Reach game policy state → ¬ game.IsGoal state → policy state ≡ Some choice → game.IsApplicable state choice
+  applies acts state choice reached open_ chosen =
+      let acting = acts state reached open_ in
+      subst (λ c. game.IsApplicable state c) (same_Some acting.0 choice (sym acting.1 ∙ chosen)) acting.2
+
+  module _ (acts : ActsEverywhere game policy) (trap : List S) (is : IsTrap game policy trap) where
+    applicable : (state : S) (has : Contains trap state) → game.IsApplicable state (is.each state has).choice
+    applicable state has = let stays = is.each state has in applies acts state stays.choice stays.reached stays.open_ stays.chosen
+
     -- where no action is unfair, a walk does not leave a trap
     never : NoneUnfair game → (state : S) (states : List S) (goal : S) → Contains trap state → Walk (Step game policy) state states goal → ¬ game.IsGoal goal
     never none state states goal has (stay s) = (is.each s has).open_
     never none state states goal has (leave s t u rest step walk) =
         let stays = is.each s has in
         let same : step.choice ≡ stays.choice = same_Some step.choice stays.choice (sym step.chosen ∙ stays.chosen) in
-        never none t rest u (stays.fair (none stays.choice) t (subst (λ c. game.IsNext s c t) same step.next)) walk
+        never none t rest u (stays.fair (none s stays.choice (applicable s has)) t (subst (λ c. game.IsNext s c t) same step.next)) walk
 
     -- where every action is unfair, walks within a trap are as long as one likes
     long : AllUnfair game → (n : ℕ) (state : S) → Contains trap state → (states : List S) × (last : S) × Walk (Step game policy) state states last × (n ≤ length states)
     long all zero state has = ([], state, stay state, omega arith)
     long all (suc n) state has =
         let stays = is.each state has in
-        let next = stays.unfair (all stays.choice) in
+        let next = stays.unfair (all state stays.choice (applicable state has)) in
         let rest = long all n next.0 next.2 in
         (state ∷ rest.0, rest.1, leave state next.0 rest.1 rest.0 (step_of game policy state stays.choice next.0 stays.open_ stays.chosen next.1) rest.2, omega (arith, rest.3))
 
@@ -93,7 +102,7 @@ module _ {S A : Type 0} (game : Game S A) (policy : Policy S A) where
     free = λ trap is.
         let first = is.each is.some.0 is.some.1 in
         let way = goals is.some.0 first.reached in
-        never trap is none is.some.0 way.0 way.1 is.some.1 way.2 way.3;
+        never acts trap is none is.some.0 way.0 way.1 is.some.1 way.2 way.3;
   }
 
   pub unfair_solution : AllUnfair game → ActsEverywhere game policy → WalksBounded game policy → IsSolution game policy
@@ -102,7 +111,7 @@ module _ {S A : Type 0} (game : Game S A) (policy : Policy S A) where
     free = λ trap is.
         let first = is.each is.some.0 is.some.1 in
         let stem = walk_to game policy is.some.0 first.reached in
-        let walk = long trap is all (suc bounded.0) is.some.0 is.some.1 in
+        let walk = long acts trap is all (suc bounded.0) is.some.0 is.some.1 in
         let short = bounded.1 (stem.0 ++ walk.0) walk.1 (join game.first stem.0 is.some.0 walk.0 walk.1 stem.1 walk.2) in
         omega (arith, short, walk.3, length-append stem.0 walk.0);
   }

@@ -8,7 +8,7 @@ use Rattle.fond_games.specs.Graphs.{IsEdge, HasEdge, successors_of}
 use Rattle.fond_games.specs.Lassos.{Step}
 
 -- a graph over the numbers of states keeps edges of a policy if each edge is a step of the policy, out of a state with an edge there
--- is one to each next state of a fair choice, and there is an edge out of each end of an edge
+-- is one to each next state of a fair choice, and there is an edge out of each node that an edge leads to
 pub record IsKept {S A : Type 0} (game : Game S A) (policy : Policy S A) (states : List S) (graph : List (List ℕ)) : Type 0 where
   pub long : length graph ≡ length states
   pub steps : (node after : ℕ) (state : S) → IsEdge graph node after → slice_get states node ≡ Some state → (other : S) × (slice_get states after ≡ Some other) × Step game policy state other
@@ -19,8 +19,8 @@ pub record IsKept {S A : Type 0} (game : Game S A) (policy : Policy S A) (states
 abbrev pub MovesOn : List Kind → List (List ℕ) → Type 0
 MovesOn kinds graph = (node : ℕ) → node < length graph → ¬ (kind_at kinds node ≡ Goal) → HasEdge graph node
 
--- the edges that are kept out of a node lead from a node without a level to such nodes; they are all edges of a fair one, and some of
--- any other
+-- the edges that are kept out of a node lead from a node without a level to such nodes; of a fair one without a level they
+-- are all edges, and of any other without a level there is at least one
 pub record KeptAt (kinds : List Kind) (graph : List (List ℕ)) (table : List ℕ) (node : ℕ) (kept : List ℕ) : Type 0 where
   pub edges : (after : ℕ) → Contains kept after → (level_at table node ≡ 0) × IsEdge graph node after × (level_at table after ≡ 0)
   pub fair : (after : ℕ) → level_at table node ≡ 0 → kind_at kinds node ≡ Fair → IsEdge graph node after → Contains kept after

@@ -29,7 +29,7 @@ Acts {S} {A} game policy state = (choice : A) × (policy state ≡ Some choice) 
 abbrev pub ActsEverywhere : {S A : Type 0} → Game S A → Policy S A → Type 0
 ActsEverywhere {S} game policy = (state : S) → Reach game policy state → ¬ game.IsGoal state → Acts game policy state
 
--- a policy is stuck in a reached state that is no goal if it chooses no applicable action in it
+-- a policy is stuck if it chooses no applicable action in some reached state that is no goal
 pub record Stuck {S A : Type 0} (game : Game S A) (policy : Policy S A) : Type 0 where
   pub state : S
   pub reached : Reach game policy state
@@ -40,13 +40,13 @@ pub record Stuck {S A : Type 0} (game : Game S A) (policy : Policy S A) : Type 0
 abbrev pub AlwaysLeads : {S A : Type 0} → Game S A → Type 0
 AlwaysLeads {S} {A} game = (state : S) (action : A) → game.IsApplicable state action → (after : S) × game.IsNext state action after
 
--- no action is unfair
+-- no action that is applicable somewhere is unfair
 abbrev pub NoneUnfair : {S A : Type 0} → Game S A → Type 0
-NoneUnfair {S} {A} game = (action : A) → ¬ game.IsUnfair action
+NoneUnfair {S} {A} game = (state : S) (action : A) → game.IsApplicable state action → ¬ game.IsUnfair action
 
--- every action is unfair
+-- every action that is applicable somewhere is unfair
 abbrev pub AllUnfair : {S A : Type 0} → Game S A → Type 0
-AllUnfair {S} {A} game = (action : A) → game.IsUnfair action
+AllUnfair {S} {A} game = (state : S) (action : A) → game.IsApplicable state action → game.IsUnfair action
 
 -- from each reached state a goal is in reach by choices of the policy
 abbrev pub GoalsInReach : {S A : Type 0} → Game S A → Policy S A → Type 0

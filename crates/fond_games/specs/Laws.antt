@@ -12,21 +12,24 @@ use Rattle.fond_games.specs.Keeping.{IsKept}
 abbrev pub LassosRefute : Type 0 → Type 0 → Type 0
 LassosRefute S A = (tests : Tests S A) (policy : Policy S A) → Stuck (game_of tests) policy ⊎ Lasso (game_of tests) policy → ¬ IsSolution (game_of tests) policy
 
--- a policy that reaches finitely many states and is no solution is stuck or has a lasso
+-- where each applicable action may lead to some state, a policy that reaches finitely many states and is no solution is stuck or has a
+-- lasso
 abbrev pub LassosAreFound : Type 0 → Type 0 → Type 0
 LassosAreFound S A = (tests : Tests S A) (policy : Policy S A) (states : List S) → AlwaysLeads (game_of tests) → ReachesOnly (game_of tests) policy states → ¬ IsSolution (game_of tests) policy → Stuck (game_of tests) policy ⊎ Lasso (game_of tests) policy
 
--- where no action is unfair, a policy is a solution if and only if it acts everywhere and goals stay in reach
+-- where no applicable action is unfair, a policy that reaches finitely many states is a solution if and only if it acts everywhere and
+-- goals stay in reach
 abbrev pub FairSolutions : Type 0 → Type 0 → Type 0
 FairSolutions S A = (tests : Tests S A) (policy : Policy S A) (states : List S) → NoneUnfair (game_of tests) → ReachesOnly (game_of tests) policy states →
     (IsSolution (game_of tests) policy → ActsEverywhere (game_of tests) policy × GoalsInReach (game_of tests) policy) × (ActsEverywhere (game_of tests) policy × GoalsInReach (game_of tests) policy → IsSolution (game_of tests) policy)
 
--- where every action is unfair, a policy is a solution if and only if it acts everywhere and its walks are bounded
+-- where every applicable action is unfair, a policy that reaches finitely many states is a solution if and only if it acts everywhere
+-- and its walks are bounded
 abbrev pub UnfairSolutions : Type 0 → Type 0 → Type 0
 UnfairSolutions S A = (tests : Tests S A) (policy : Policy S A) (states : List S) → AllUnfair (game_of tests) → ReachesOnly (game_of tests) policy states →
     (IsSolution (game_of tests) policy → ActsEverywhere (game_of tests) policy × WalksBounded (game_of tests) policy) × (ActsEverywhere (game_of tests) policy × WalksBounded (game_of tests) policy → IsSolution (game_of tests) policy)
 
--- a policy that acts everywhere is a solution if it has a ranking, and a solution that reaches finitely many states has a least one
+-- of policies that act everywhere and reach finitely many states, one that has a ranking is a solution, and a solution has a least one
 abbrev pub RankingsDecide : Type 0 → Type 0 → Type 0
 RankingsDecide S A = (tests : Tests S A) (policy : Policy S A) (states : List S) → ReachesOnly (game_of tests) policy states → ActsEverywhere (game_of tests) policy →
     (((rank : S → ℕ) × IsRanking (game_of tests) policy rank) → IsSolution (game_of tests) policy) × (IsSolution (game_of tests) policy → (rank : S → ℕ) × IsLeastRanking (game_of tests) policy rank)

@@ -4,7 +4,7 @@ use Rattle.fond_games.specs.Graphs.{IsEdge, HasEdge}
 use Rattle.fond_games.specs.declared.kind.Kind.{Kind}
 use Rattle.fond_games.specs.declared.kind.Kind.TheVariants.{Goal, Fair, Unfair}
 
--- the kind of a node
+-- the kind of a node: a goal past the end
 abbrev pub kind_at : List Kind → ℕ → Kind
 kind_at kinds node = slice_index_or kinds node Goal
 
@@ -16,8 +16,8 @@ level_at table node = slice_index_or table node 0
 abbrev pub IsBelow : List ℕ → ℕ → ℕ → Type 0
 IsBelow table level node = (0 < level_at table node) × (level_at table node < level)
 
--- a node that is no goal falls below a level: by some edge if chance picks, by each of its edges, of which there is one, if an
--- opponent does
+-- a node that is no goal falls below a level: by some edge if chance picks, by each of its edges, of which there is at least
+-- one, if an opponent does
 abbrev pub Falls : Kind → List (List ℕ) → List ℕ → ℕ → ℕ → Type 0
 Falls Goal graph table level node = ¬ ⊤
 Falls Fair graph table level node = (after : ℕ) × IsEdge graph node after × IsBelow table level after
@@ -40,7 +40,7 @@ pub record AreLevels (kinds : List Kind) (graph : List (List ℕ)) (table : List
   pub falls : (node : ℕ) → 1 < level_at table node → Falls (kind_at kinds node) graph table (level_at table node) node
   pub least : (node level : ℕ) → Falls (kind_at kinds node) graph table level node → IsBelow table (level + 1) node
 
--- the level of a node before any round
+-- the level of a node of this kind before any round
 abbrev pub first_level : Kind → ℕ
 first_level Goal = 1
 first_level Fair = 0
@@ -52,7 +52,8 @@ zeros [] = zero
 zeros (zero ∷ table) = suc (zeros table)
 zeros (suc level ∷ table) = zeros table
 
--- a round gives this level to those nodes before this one that had none and fall below it
+-- a round gives this level to nodes alone that had none and fall below it, and to all of them before this one; it is told whether
+-- there was one
 pub record IsRound (kinds : List Kind) (graph : List (List ℕ)) (level : ℕ) (first table : List ℕ) (is_raised : Bool) (node : ℕ) : Type 0 where
   pub long : length table ≡ length first
   pub kept : (other : ℕ) → 0 < level_at first other → level_at table other ≡ level_at first other

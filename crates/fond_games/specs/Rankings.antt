@@ -1,4 +1,4 @@
--- Rankings: how many lucky steps a policy needs at most until it is at a goal.
+-- Rankings: bounds on how many lucky steps a policy needs until it is at a goal.
 use Rattle.std.specs.Prelude.{◌≡◌, ◌⊎◌, ℕ, ◌<◌, ◌≤◌, Some}
 use Rattle.fond_state.specs.Games.{Game, Policy, Reach}
 

@@ -20,7 +20,7 @@ pub record IsTouring (graph : List (List ℕ)) (knot node : ℕ) (walk : List �
   pub walked : Walk (IsEdge graph) knot walk at
   pub full : (before after : ℕ) → before < node → IsInReach (IsEdge graph) knot before → IsEdge graph before after → Follows (walk ++ at ∷ []) before after
 
--- a search for a recurrent node has come to a knot, with its table, which is in reach of those nodes before this one that are in
+-- a search for a recurrent node has come to a knot, with its table; the knot is in reach of those nodes before this one that are in
 -- its own reach
 pub record IsSeeking (graph : List (List ℕ)) (from knot : ℕ) (back : List ℕ) (node : ℕ) : Type 0 where
   pub reached : IsInReach (IsEdge graph) from knot
