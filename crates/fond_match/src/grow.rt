@@ -13,18 +13,19 @@ use fond_text::fault::NoMemory;
 use std::alloc::Global;
 
 /// The atom from which on the cubes of the numbers are sorted by their first literals: the first from `from` on at which they
-/// differ, or `from` if they are equal from there on. Only how fast a search is depends on it.
-fn first_split<T: HasCube>(items: &[T], numbers: &[u32], from: u32) -> u32
+/// differ, or `from` if they are equal from there on. They are known to agree before `agreed`, which is not looked at again.
+/// Only how fast a search is depends on it.
+fn first_split<T: HasCube>(items: &[T], numbers: &[u32], from: u32, agreed: u32) -> u32
     requires { All (λ number. number < length items.now) numbers.now }
 {
     let Some(first) = numbers.first() else {
         return from;
     };
     let cube = items[*first as usize].cube();
-    let atoms = from.max(cube.len() as u32);
+    let atoms = agreed.max(cube.len() as u32);
     let mut end = atoms;
     for number in numbers {
-        end = cube.first_difference(items[*number as usize].cube(), from, end);
+        end = cube.first_difference(items[*number as usize].cube(), agreed, end);
     }
     if end < atoms { end } else { from }
 }
@@ -42,14 +43,16 @@ fn least_of(numbers: &[u32]) -> u32
     least
 }
 
-/// The node of a literal over these numbers, sorted by the literals of their cubes from this atom on, along at most
-/// this many branches. Where a branch passes over literals that all these cubes share, it starts at this atom again.
+/// The node of a literal over these numbers, sorted by the literals of their cubes from `from` on, along at most `depth`
+/// branches. The cubes agree from there up to `agreed`. A branch that passes over literals that all these cubes share starts
+/// at `from` again.
 pub(crate) fn grow<T: HasCube>(
     alloc: Global,
     items: &[T],
     literal: Option<Literal>,
     numbers: Vec<u32>,
     from: u32,
+    agreed: u32,
     depth: u32,
 ) -> Result<Node, NoMemory>
     requires { All (λ number. number < length items.now) numbers.items }
@@ -65,14 +68,26 @@ pub(crate) fn grow<T: HasCube>(
             branches,
         });
     }
-    let split = first_split(items, &numbers, from);
+    let split = first_split(items, &numbers, from, agreed);
     let Parts { rest, mut runs } = part(alloc, items, numbers, from, split)?;
     let mut branches = Vec::new(alloc);
     while let Some(run) = runs.pop() {
         let own = run.literal;
         let past = own.atom.saturating_add(1);
-        let next = if split > from { from } else { past };
-        branches.push(grow(alloc, items, Some(own), run.numbers, next, depth - 1)?)?;
+        let next = if split > from && own.atom >= split {
+            from
+        } else {
+            past
+        };
+        branches.push(grow(
+            alloc,
+            items,
+            Some(own),
+            run.numbers,
+            next,
+            agreed.max(past),
+            depth - 1,
+        )?)?;
     }
     Ok(Node {
         literal,

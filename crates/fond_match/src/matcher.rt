@@ -71,7 +71,7 @@ impl Matcher {
     {
         let count = items.len() as u32;
         let numbers = numbers_below(alloc, count)?;
-        let root = grow(alloc, items, None, numbers, 0, DEPTH)?;
+        let root = grow(alloc, items, None, numbers, 0, 0, DEPTH)?;
         Ok(Matcher { root, count })
     }
 
