@@ -1,17 +1,14 @@
 -- How many states a policy reaches, and whether it acts in each.
-use Rattle.std.specs.Prelude.{◌≡◌, ◌<◌, ℕ, List, Bool, true, false, None, length, Contains}
-use Rattle.fond_text.specs.Lists.{AreDistinct}
+use Rattle.std.specs.Prelude.{◌≡◌, ◌<◌, ℕ, List, Bool, true, false, None}
+use Rattle.fond_state.specs.Games as games
 use Rattle.fond_task.specs.declared.task.Task.{Task}
 use Rattle.fond_task.specs.declared.rule.Rule.{Rule}
-use Rattle.fond_task.specs.Policies.{IsGoal, Policy, Reach, selected}
+use Rattle.fond_task.specs.Policies.{IsGoal, Policy, Reach, game, selected}
 use Rattle.fond_task.specs.Certificates.{ReachesCount}
 
--- a policy reaches more than this many states: a list of distinct reached states is longer
-pub record ReachesMore (task : Task) (policy : Policy) (bound : ℕ) : Type 0 where
-  pub states : List (List Bool)
-  pub once : AreDistinct states
-  pub reached : (state : List Bool) → Contains states state → Reach task policy state
-  pub longer : bound < length states
+-- a policy of a task reaches more than this many states
+abbrev pub ReachesMore : Task → Policy → ℕ → Type 0
+ReachesMore task = games.ReachesMore (game task)
 
 -- a policy reaches fewer than this many states
 abbrev pub ReachesFewer : Task → Policy → ℕ → Type 0

@@ -1,9 +1,11 @@
 //! Policies that choose an action in each state, or none.
 
 ghost use Rattle.fond_rules.specs.Belongs.{BelongTo};
+ghost use Rattle.fond_rules.specs.Tables.{BelongAsRows};
 ghost use Rattle.std.specs.Prelude.{◌≡◌, ◌<◌, length, IfSome};
 
 use fond_rules::rules::Rules;
+use fond_rules::table::Table;
 use fond_state::state::State;
 use fond_task::task::Task;
 use std::marker::Model;
@@ -70,5 +72,52 @@ impl<'a> Chooser for FirstRules<'a> {
             return None;
         };
         Some(self.rules.get(rule).act)
+    }
+}
+
+/// The choices of the first rows of a table that hold in the states of a task.
+#[derive(Drop)]
+pub struct FirstRows<'a> {
+    task: &'a Task,
+    table: &'a Table,
+}
+
+impl<'a> Model for FirstRows<'a> {
+    ghost use Rattle.fond_rules.specs.Tables.{BelongAsRows};
+    ghost use Rattle.fond_reach.specs.Choices.{TaskTable};
+    ghost use Rattle.fond_task.specs.contracts.form.Form as form;
+    ghost use Rattle.std.specs.Coded.{codes};
+
+    ghost Value = { TaskTable };
+
+    ghost coded = { Prim.hlevel (codes, form.the_row.coded) };
+
+    ghost view = { λ c. record { task = c.task.now; rows = c.table.now } };
+
+    ghost invariant = { λ c. BelongAsRows c.task.now c.table.now };
+}
+
+impl<'a> FirstRows<'a> {
+    /// The choices of this table, which belongs to the task.
+    pub fn new(task: &'a Task, table: &'a Table) -> FirstRows<'a>
+        requires { BelongAsRows task.now table.now }
+        ensures { result ≡ record { task = task.now; rows = table.now } }
+    {
+        FirstRows { task, table }
+    }
+}
+
+impl<'a> Chooser for FirstRows<'a> {
+    ghost use Rattle.fond_rules.specs.Tables.{table_choice};
+
+    ghost task = { λ c. c.task };
+
+    ghost policy = { λ c. table_choice c.rows };
+
+    fn choose(&self, state: &State) -> Option<u32> {
+        let Some(row) = self.table.select(state) else {
+            return None;
+        };
+        Some(self.table.get(row).act)
     }
 }

@@ -4,3 +4,4 @@ pub mod Groups
 pub mod Targets
 pub mod Laws
 pub mod Leans
+pub mod Tables

@@ -60,6 +60,13 @@ pub record ReachesCount {S A : Type 0} (game : Game S A) (policy : Policy S A) (
   pub all : (state : S) → Reach game policy state → Contains states state
   pub counted : length states ≡ count
 
+-- a policy reaches more than this many states: a list of distinct reached states is longer
+pub record ReachesMore {S A : Type 0} (game : Game S A) (policy : Policy S A) (bound : ℕ) : Type 0 where
+  pub states : List S
+  pub once : AreDistinct states
+  pub reached : (state : S) → Contains states state → Reach game policy state
+  pub longer : bound < length states
+
 -- more than this many states are reachable: a list of distinct states, each at the end of a walk by any actions, is
 -- longer
 pub record More {S A : Type 0} (game : Game S A) (bound : ℕ) : Type 0 where
