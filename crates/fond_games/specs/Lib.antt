@@ -8,3 +8,5 @@ pub mod Hops
 pub mod Keeping
 pub mod Visits
 pub mod Laws
+pub mod Findings
+pub mod Renaming
