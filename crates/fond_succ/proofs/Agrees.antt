@@ -1,4 +1,4 @@
--- A ground task agrees with its task on solutions, reached states and their number.
+-- A ground task agrees with its task on solutions, reached states, stuck runs, lassos and rankings.
 use Rattle.std.proofs.Common.{◌≡◌, ℕ, List, ◌∷◌, Bool, Option, Some, map, length, refl, sym, ap, ◌∙◌, subst}
 use Rattle.std.specs.Prelude.{◌↔◌, ◌==◌, slice_get, IsTrue, option_and_then, option_map}
 use Rattle.std.specs.List.{position}
@@ -25,6 +25,7 @@ use Rattle.fond_succ.proofs.Lists.{Member-at}
 use Rattle.fond_succ.proofs.Firsts.{same_tests, has_position, item-at, one_place}
 use Rattle.fond_succ.proofs.Kept.{mapped}
 use Rattle.fond_succ.proofs.Bridges.{Correspond, IsBridge, Naming, count_down, count_up, more_down, more_up, reach_down, reach_up, solution_down, solution_up}
+use Rattle.fond_succ.proofs.Shown.{acts_everywhere_down, acts_everywhere_up, least_down, reaches_more_down, reaches_more_up, shown_lasso_down, stuck_down}
 use Rattle.fond_succ.proofs.Maps.{and_then, solvable_down, solvable_up}
 use Rattle.fond_succ.proofs.Plays.{distinct, long, plays}
 use Rattle.fond_succ.proofs.States.{restrict_stands}
@@ -154,4 +155,15 @@ module _ (task : LiftedTask) (game : Task) (is : IsGroundOf task game) where
         );
         solvable = (solvable_down names above below bridge is_same_state same_state_is, solvable_up names above below bridge);
         more = λ bound. (more_down names above below bridge bound, more_up names above below bridge bound);
+        reaches_more = λ choose bound. (
+          reaches_more_down names above below bridge choose (lifted_policy task game choose) (policies_correspond choose) bound,
+          reaches_more_up names above below bridge choose (lifted_policy task game choose) (policies_correspond choose) bound,
+        );
+        acts = λ choose. (
+          acts_everywhere_down names above below bridge choose (lifted_policy task game choose) (policies_correspond choose),
+          acts_everywhere_up names above below bridge choose (lifted_policy task game choose) (policies_correspond choose),
+        );
+        stuck = λ choose listed stem. stuck_down names above below bridge choose (lifted_policy task game choose) (policies_correspond choose) listed stem;
+        lasso = λ choose listed stem cycle. shown_lasso_down names above below bridge choose (lifted_policy task game choose) (policies_correspond choose) listed stem cycle;
+        least = λ choose rank acts. least_down names above below bridge choose (lifted_policy task game choose) (policies_correspond choose) acts rank;
       }

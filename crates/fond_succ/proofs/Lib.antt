@@ -20,3 +20,4 @@ pub mod Texts
 pub mod Traces
 pub mod Truths
 pub mod Values
+pub mod Shown
