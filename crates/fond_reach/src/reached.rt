@@ -2,7 +2,7 @@
 
 ghost use Rattle.fond_policy.specs.Counts.{ReachesMore};
 ghost use Rattle.fond_reach.specs.Graphs.{IsGraph};
-ghost use Rattle.std.specs.Prelude.{◌≡◌, ◌∷◌, [], length, MatchOption, IfOk};
+ghost use Rattle.std.specs.Prelude.{◌≡◌, ◌≤◌, ◌∷◌, [], length, MatchOption, IfOk};
 
 use crate::chooser::Chooser;
 use crate::node::Node;
@@ -53,7 +53,7 @@ fn walk_on<C: Chooser>(
     requires next_long { length scratch.old.next ≡ length t.now.atoms }
     requires first { states.old ≡ t.now.init ∷ [] }
     ensures { IfOk result (λ found. MatchOption found (ReachesMore t.now (C.policy chooser.now) limit)
-        (λ nodes. IsGraph t.now (C.policy chooser.now) states.new nodes.items)) }
+        (λ nodes. IsGraph t.now (C.policy chooser.now) states.new nodes.items × (length states.new ≤ limit))) }
 {
     let mut nodes = Vec::new(alloc);
     let mut at = 0;
@@ -82,7 +82,7 @@ fn walk_from<C: Chooser>(
     requires task { C.task chooser.now ≡ t.now }
     requires first { states.old ≡ t.now.init ∷ [] }
     ensures { IfOk result (λ found. MatchOption found (ReachesMore t.now (C.policy chooser.now) limit)
-        (λ nodes. IsGraph t.now (C.policy chooser.now) states.new nodes.items)) }
+        (λ nodes. IsGraph t.now (C.policy chooser.now) states.new nodes.items × (length states.new ≤ limit))) }
 {
     let mut scratch = scratch_of(alloc, t)?;
     walk_on(alloc, t, chooser, limit, &mut scratch, states)
@@ -99,7 +99,7 @@ pub fn reach<C: Chooser>(
 ) -> Result<Option<Reached>, NoMemory>
     requires { C.task chooser.now ≡ t.now }
     ensures { IfOk result (λ found. MatchOption found (ReachesMore t.now (C.policy chooser.now) limit)
-        (λ reached. IsGraph t.now (C.policy chooser.now) reached.states reached.nodes.items)) }
+        (λ reached. IsGraph t.now (C.policy chooser.now) reached.states reached.nodes.items × (length reached.states ≤ limit))) }
 {
     let mut states = one_state(alloc, &t.init)?;
     let Some(nodes) = walk_from(alloc, t, chooser, limit, &mut states)? else {

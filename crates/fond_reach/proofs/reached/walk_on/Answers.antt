@@ -54,5 +54,7 @@ loop-at-preserved g c =
 pub returns : goal.returns
 returns g c =
     let so_far = c.loop-at.invariant in
-    let end : length c.loop-at.states ≤ length c.loop-at.nodes.items = omega (arith, c.loop-at-test.false, c.len.ensures.counted, so_far.counted) in
-    whole c.args.t.now (g.C.Chooser.policy c.args.chooser.now) c.loop-at.states c.loop-at.nodes.items so_far.begun end c.len.ensures.distinct
+    let end : length c.loop-at.states ≤ length c.loop-at.nodes.items = omega (arith, c.loop-at-test.false, c.len.ensures.counted, so_far.counted) in (
+      whole c.args.t.now (g.C.Chooser.policy c.args.chooser.now) c.loop-at.states c.loop-at.nodes.items so_far.begun end c.len.ensures.distinct,
+      omega (arith, c.if-len-limit-2.false, c.len-2.ensures.counted),
+    )
