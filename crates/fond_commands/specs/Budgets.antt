@@ -10,6 +10,10 @@ WritesUpTo most word number = (1 ≤ number) × (number ≤ most) × (word ≡ d
 abbrev pub IsBudget : List ℕ → ℕ → Type 0
 IsBudget = WritesUpTo 1000000
 
+-- a word is a number of states up to which `explain` judges a policy
+abbrev pub IsLimit : List ℕ → ℕ → Type 0
+IsLimit = WritesUpTo 1000
+
 -- a word is the size of a task of `demo`
 abbrev pub IsSize : List ℕ → ℕ → Type 0
 IsSize = WritesUpTo 100

@@ -13,3 +13,4 @@ pub mod Simulations
 pub mod Successors
 pub mod Tasks
 pub mod Words
+pub mod Explanations

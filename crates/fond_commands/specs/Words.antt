@@ -3,10 +3,10 @@ use Rattle.std.specs.Prelude.{◌≡◌, ◌≢◌, ℕ, ⊤, List, [], ◌∷�
 use Rattle.fond_commands.specs.declared.words.Command.{Command}
 use Rattle.fond_commands.specs.declared.words.Command.TheVariants as c
 use Rattle.fond_commands.specs.declared.words.Job.{Job}
-use Rattle.fond_commands.specs.declared.words.Job.TheVariants.{Succ, Run, Check, Plan, Migrate, Simulate, Demo}
+use Rattle.fond_commands.specs.declared.words.Job.TheVariants.{Succ, Run, Check, Plan, Migrate, Simulate, Demo, Explain, Graph, Duel}
 use Rattle.fond_tree.specs.Spelling.{IsReadAs}
 use Rattle.fond_succ.specs.Actions.{is_leaf_node}
-use Rattle.fond_commands.specs.Budgets.{IsBudget, IsSeed, IsSize}
+use Rattle.fond_commands.specs.Budgets.{IsBudget, IsLimit, IsSeed, IsSize}
 
 -- the word of a command
 abbrev pub word_of : Command → List ℕ
@@ -17,6 +17,9 @@ word_of c.Plan = codes "plan"
 word_of c.Migrate = codes "migrate"
 word_of c.Simulate = codes "simulate"
 word_of c.Demo = codes "demo"
+word_of c.Explain = codes "explain"
+word_of c.Graph = codes "graph"
+word_of c.Duel = codes "duel"
 
 -- how many names of files follow the word of a command
 abbrev pub file_count : Command → ℕ
@@ -27,6 +30,9 @@ file_count c.Plan = 3
 file_count c.Migrate = 4
 file_count c.Simulate = 4
 file_count c.Demo = 0
+file_count c.Explain = 4
+file_count c.Graph = 4
+file_count c.Duel = 4
 
 -- the command of a job
 abbrev pub command_of : Job → Command
@@ -37,9 +43,12 @@ command_of (Plan budget) = c.Plan
 command_of Migrate = c.Migrate
 command_of (Simulate seed steps) = c.Simulate
 command_of (Demo size) = c.Demo
+command_of (Explain limit) = c.Explain
+command_of (Graph limit) = c.Graph
+command_of (Duel steps) = c.Duel
 
--- the words after the names of files say what a job needs beside its files: an action, a budget, a seed and a number of steps,
--- a size, or nothing
+-- the words after the names of files say what a job needs beside its files: an action, a budget, a number of states or of steps, a seed
+-- and a number of steps, a size, or nothing
 abbrev pub Say : List (List ℕ) → Job → Type 0
 Say (word ∷ []) (Succ action) = IsReadAs word action × (is_leaf_node action ≡ true)
 Say [] Run = ⊤
@@ -48,6 +57,9 @@ Say (word ∷ []) (Plan budget) = IsBudget word budget
 Say [] Migrate = ⊤
 Say (seed_word ∷ steps_word ∷ []) (Simulate seed steps) = IsSeed seed_word seed × IsBudget steps_word steps
 Say (word ∷ []) (Demo size) = IsSize word size
+Say (word ∷ []) (Explain limit) = IsLimit word limit
+Say (word ∷ []) (Graph limit) = IsBudget word limit
+Say (word ∷ []) (Duel steps) = IsBudget word steps
 Say words job = ⊥
 
 -- a word is the name of a file: it is not empty

@@ -26,6 +26,8 @@ pub enum Status {
     Stopped,
     /// Memory ran out, and nothing was written.
     NoMemory,
+    /// The policy of a table is no solution.
+    NotSolution,
 }
 
 /// How a reply ends once its text is written: as the tool does, but for a write fault and for want of memory.
@@ -39,6 +41,7 @@ pub enum Ending {
     ReadFault,
     Rejected,
     Stopped,
+    NotSolution,
 }
 
 impl Ending {
@@ -55,6 +58,7 @@ impl Ending {
             Ending::ReadFault => Status::ReadFault,
             Ending::Rejected => Status::Rejected,
             Ending::Stopped => Status::Stopped,
+            Ending::NotSolution => Status::NotSolution,
         }
     }
 }
@@ -75,6 +79,7 @@ impl Status {
             Status::Rejected => 7,
             Status::Stopped => 8,
             Status::NoMemory => 9,
+            Status::NotSolution => 10,
         }
     }
 }

@@ -1,8 +1,8 @@
 //! The words of a command line: each is read once, into the job that they ask for.
 
-ghost use Rattle.fond_commands.specs.Budgets.{IsBudget, IsSeed, IsSize, WritesUpTo};
+ghost use Rattle.fond_commands.specs.Budgets.{IsBudget, IsLimit, IsSeed, IsSize, WritesUpTo};
 ghost use Rattle.fond_commands.specs.Words.{word_of, file_count, command_of, Say, SayNone, IsFileName, AskFor, AskForNone};
-ghost use Rattle.fond_commands.specs.declared.words.Command.TheVariants.{Succ as IsSucc, Plan as IsPlan, Simulate as IsSimulate, Demo as IsDemo};
+ghost use Rattle.fond_commands.specs.declared.words.Command.TheVariants.{Succ as IsSucc, Plan as IsPlan, Simulate as IsSimulate, Demo as IsDemo, Explain as IsExplain, Graph as IsGraph, Duel as IsDuel};
 ghost use Rattle.std.specs.Prelude.{◌≡◌, ◌≢◌, ◌<◌, [], ℕ, List, All, length, Decides, IfOk, MatchOption};
 
 use fond_succ::action::read_action;
@@ -22,6 +22,9 @@ pub enum Command {
     Migrate,
     Simulate,
     Demo,
+    Explain,
+    Graph,
+    Duel,
 }
 
 /// The command of a word, and how many names of files follow the word.
@@ -36,6 +39,9 @@ fn row_of(word: &Word) -> Option<(Command, usize)>
         b"migrate" => Some((Command::Migrate, 4)),
         b"simulate" => Some((Command::Simulate, 4)),
         b"demo" => Some((Command::Demo, 0)),
+        b"explain" => Some((Command::Explain, 4)),
+        b"graph" => Some((Command::Graph, 4)),
+        b"duel" => Some((Command::Duel, 4)),
         _ => None,
     }
 }
@@ -54,6 +60,12 @@ pub enum Job {
     Simulate { seed: u64, steps: u32 },
     /// A size from 1 to 100.
     Demo { size: u32 },
+    /// A number of states from 1 to 1,000.
+    Explain { limit: u32 },
+    /// A number of states from 1 to 1,000,000.
+    Graph { limit: u32 },
+    /// A number of steps from 1 to 1,000,000.
+    Duel { steps: u32 },
 }
 
 /// A job, and the names of its files.
@@ -83,6 +95,13 @@ fn read_budget(word: &Word) -> Option<u32>
     ensures { MatchOption result ((budget : ℕ) → ¬ IsBudget word.now budget) (IsBudget word.now) }
 {
     read_up_to(word, 1_000_000)
+}
+
+/// The number of states for `explain` that a word writes, if it is one.
+fn read_limit(word: &Word) -> Option<u32>
+    ensures { MatchOption result ((limit : ℕ) → ¬ IsLimit word.now limit) (IsLimit word.now) }
+{
+    read_up_to(word, 1000)
 }
 
 /// The size that a word writes, if it is one.
@@ -154,6 +173,45 @@ fn read_demo(rest: &[Word]) -> Option<Job>
     }
 }
 
+/// The job of `explain` for the words after the names of its files.
+fn read_explain(rest: &[Word]) -> Option<Job>
+    ensures { MatchOption result (SayNone IsExplain rest.now) (λ job. (command_of job ≡ IsExplain) × Say rest.now job) }
+{
+    let [word] = rest else {
+        return None;
+    };
+    match read_limit(word) {
+        Some(limit) => Some(Job::Explain { limit }),
+        None => None,
+    }
+}
+
+/// The job of `graph` for the words after the names of its files.
+fn read_graph(rest: &[Word]) -> Option<Job>
+    ensures { MatchOption result (SayNone IsGraph rest.now) (λ job. (command_of job ≡ IsGraph) × Say rest.now job) }
+{
+    let [word] = rest else {
+        return None;
+    };
+    match read_budget(word) {
+        Some(limit) => Some(Job::Graph { limit }),
+        None => None,
+    }
+}
+
+/// The job of `duel` for the words after the names of its files.
+fn read_duel(rest: &[Word]) -> Option<Job>
+    ensures { MatchOption result (SayNone IsDuel rest.now) (λ job. (command_of job ≡ IsDuel) × Say rest.now job) }
+{
+    let [word] = rest else {
+        return None;
+    };
+    match read_budget(word) {
+        Some(steps) => Some(Job::Duel { steps }),
+        None => None,
+    }
+}
+
 /// A job that needs nothing beside its files, if there are no words after their names.
 fn read_bare(rest: &[Word], job: Job) -> Option<Job>
     requires alone { (words : List (List ℕ)) → Say words job → words ≡ [] }
@@ -175,6 +233,9 @@ fn read_job(alloc: Global, command: Command, rest: &[Word]) -> Result<Option<Job
         Command::Migrate => Ok(read_bare(rest, Job::Migrate)),
         Command::Simulate => Ok(read_simulate(rest)),
         Command::Demo => Ok(read_demo(rest)),
+        Command::Explain => Ok(read_explain(rest)),
+        Command::Graph => Ok(read_graph(rest)),
+        Command::Duel => Ok(read_duel(rest)),
     }
 }
 

@@ -10,3 +10,4 @@ pub mod Visits
 pub mod Laws
 pub mod Findings
 pub mod Renaming
+pub mod Told

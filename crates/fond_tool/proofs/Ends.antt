@@ -2,7 +2,7 @@
 use Rattle.std.proofs.Common.{◌≡◌, ℕ, Bool, true, false, List, ◌∙◌, refl, sym, ap, true≢false}
 use Rattle.fond_edge.specs.Written.{Appended}
 use Rattle.fond_commands.specs.declared.status.Ending.{Ending}
-use Rattle.fond_commands.specs.declared.status.Ending.TheVariants.{Done, Unsolvable, Undecided, Refused, BadWords, ReadFault, Rejected, Stopped}
+use Rattle.fond_commands.specs.declared.status.Ending.TheVariants.{Done, Unsolvable, Undecided, Refused, BadWords, ReadFault, Rejected, Stopped, NotSolution}
 use Rattle.fond_commands.specs.declared.status.Status.{Status}
 use Rattle.fond_commands.specs.declared.status.Status.TheVariants.{NoMemory}
 use Rattle.fond_tool.specs.Ends.{ToolReply, Ends, Writes}
@@ -23,6 +23,7 @@ ends_written words reads writes reply told appended = by reply.ending refl
     by ReadFault same = (reply, told, ap status_of (sym same), appended)
     by Rejected same = (reply, told, ap status_of (sym same), appended)
     by Stopped same = (reply, told, ap status_of (sym same), appended)
+    by NotSolution same = (reply, told, ap status_of (sym same), appended)
 
 -- whether a status is that of memory that ran out
 abbrev is_want : Status → Bool
@@ -38,6 +39,7 @@ no_want BadWords = refl
 no_want ReadFault = refl
 no_want Rejected = refl
 no_want Stopped = refl
+no_want NotSolution = refl
 
 -- no ending has the status of memory that ran out
 pub has_memory : (ending : Ending) → ¬ status_of ending ≡ NoMemory
