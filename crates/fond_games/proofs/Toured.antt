@@ -20,10 +20,10 @@ same_map f g [] same = refl
 same_map f g (x ∷ xs) same = ap (λ y. y ∷ map f xs) (same x (Contains-here x xs)) ∙ ap (λ ys. g x ∷ ys) (same_map f g xs (λ y has. same y (Contains-later y x xs has)))
 
 -- each node of a tour has a successor
-tour_edge : (graph : List (List ℕ)) (knot : ℕ) (loop : List ℕ) → IsTour graph knot loop → (node : ℕ) → Contains loop node → HasEdge graph node
+pub tour_edge : (graph : List (List ℕ)) (knot : ℕ) (loop : List ℕ) → IsTour graph knot loop → (node : ℕ) → Contains loop node → HasEdge graph node
 tour_edge graph knot loop tour node has = let out = (passes knot loop knot tour.closes node has).1 in (out.0, out.1)
 
-knot_edge : (graph : List (List ℕ)) (knot : ℕ) (loop : List ℕ) → IsTour graph knot loop → HasEdge graph knot
+pub knot_edge : (graph : List (List ℕ)) (knot : ℕ) (loop : List ℕ) → IsTour graph knot loop → HasEdge graph knot
 knot_edge graph knot loop tour = tour_edge graph knot loop tour knot (turned knot loop knot tour.closes tour.moves)
 
 -- in a graph of kept edges each node in reach of a node with a successor has one
@@ -45,23 +45,22 @@ module _ {S A : Type 0} (game : Game S A) (policy : Policy S A) (states : List S
       let found = kept.steps node after (state_at node) edge (at node within) in
       (within, slice_get_within states after found.0 found.1, subst (λ s. Step game policy (state_at node) s) (sym (get_or_from_slice_get states after found.0 first found.1)) found.2)
 
-  module _ (reached : (state : S) → Contains states state → Reach game policy state) (from : ℕ) (nodes : List ℕ) (tour : IsTourFrom graph from nodes) where
+  module _ (from : ℕ) (nodes : List ℕ) (tour : IsTourFrom graph from nodes) where
     loop_within : (node : ℕ) → Contains tour.loop node → node < length states
     loop_within node has = let edge = tour_edge graph tour.knot tour.loop tour.is_tour node has in (edge_step node edge.0 edge.1).0
 
     knot_within : tour.knot < length states
     knot_within = loop_within tour.knot (turned tour.knot tour.loop tour.knot tour.is_tour.closes tour.is_tour.moves)
 
-    pub lasso_of_tour : Lasso game policy
-    lasso_of_tour =
+    lasso_of_tour : (stem : List S) → Walk (Step game policy) game.first stem (state_at tour.knot) → Lasso game policy
+    lasso_of_tour stem comes =
         let knot = tour.knot in
         let loop = tour.loop in
-        let stem = walk_to game policy (state_at knot) (reached (state_at knot) (knot, knot_within, same_default states knot (state_at knot) first knot_within)) in
         record {
-          stem = stem.0;
+          stem = stem;
           knot = state_at knot;
           loop = map state_at loop;
-          comes = stem.1;
+          comes = comes;
           closes = walk_map state_at (λ i j edge. (edge_step i j edge).2) knot loop knot tour.is_tour.closes;
           moves = let long = length-map loop state_at in let some = tour.is_tour.moves in omega (arith, long, some);
           fair = λ state choice after has chosen fair next. follow state choice after (Contains-from_map state_at loop state has) chosen fair next;
@@ -95,9 +94,18 @@ module _ {S A : Type 0} (game : Game S A) (policy : Policy S A) (states : List S
         twice [] = refl
         twice (x ∷ xs) = ap (λ ys. Some (state_at x) ∷ ys) (twice xs)
 
-    pub is_lasso : (lasso : Lasso game policy) × (map (slice_get states) nodes ≡ map Some (lasso.loop ++ lasso.knot ∷ []))
+    -- a tour is the closed walk of a lasso with any stem that comes to its knot
+    pub lasso_with : (stem : List S) → Walk (Step game policy) game.first stem (state_at tour.knot) →
+        (lasso : Lasso game policy) × (lasso.stem ≡ stem) × (lasso.knot ≡ state_at tour.knot) × (map (slice_get states) nodes ≡ map Some (lasso.loop ++ lasso.knot ∷ []))
     unfolding lasso_of_tour
-    is_lasso = (lasso_of_tour, numbered)
+    lasso_with stem comes = (lasso_of_tour stem comes, refl, refl, numbered)
+
+    pub is_lasso : ((state : S) → Contains states state → Reach game policy state) → (lasso : Lasso game policy) × (map (slice_get states) nodes ≡ map Some (lasso.loop ++ lasso.knot ∷ []))
+    is_lasso reached =
+        let knot = tour.knot in
+        let stem = walk_to game policy (state_at knot) (reached (state_at knot) (knot, knot_within, same_default states knot (state_at knot) first knot_within)) in
+        let found = lasso_with stem.0 stem.1 in
+        (found.0, found.3)
 
 something_at : {S : Type 0} (states : List S) (at : ℕ) → at < length states → S
 something_at [] at less = absurd (omega (arith, less))
@@ -110,4 +118,4 @@ pub kept_tours_are_lassos_lem : (S A : Type 0) → KeptToursAreLassos S A
 kept_tours_are_lassos_lem S A tests policy states graph from nodes kept reached tour =
     let edge = knot_edge graph tour.knot tour.loop tour.is_tour in
     let some = something_at states tour.knot (omega (arith, edge_within graph tour.knot edge.0 edge.1, kept.long)) in
-    is_lasso (game_of tests) policy states graph kept some reached from nodes tour
+    is_lasso (game_of tests) policy states graph kept some from nodes tour reached

@@ -3,4 +3,8 @@
 //! what is chosen in a state is a policy here (`Chooser` of fond_reach). What is found is printed by the crates above.
 #![tactic(auto)]
 
+pub mod explain;
 pub mod finding;
+mod flat;
+mod judge;
+mod stem;
