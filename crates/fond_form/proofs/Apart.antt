@@ -87,6 +87,7 @@ same_or_apart : (kind other : LineKind) → (kind ≡ other) ⊎ (apart (form ki
 same_or_apart k.PolicyHeader k.PolicyHeader = inl refl
 same_or_apart k.RefusalHeader k.RefusalHeader = inl refl
 same_or_apart k.CoverHeader k.CoverHeader = inl refl
+same_or_apart k.TableHeader k.TableHeader = inl refl
 same_or_apart k.Layer k.Layer = inl refl
 same_or_apart k.Cube k.Cube = inl refl
 same_or_apart k.Pair k.Pair = inl refl
@@ -96,6 +97,7 @@ same_or_apart k.Reach k.Reach = inl refl
 same_or_apart k.GoalItem k.GoalItem = inl refl
 same_or_apart k.RuleItem k.RuleItem = inl refl
 same_or_apart k.Start k.Start = inl refl
+same_or_apart k.Row k.Row = inl refl
 same_or_apart k.End k.End = inl refl
 same_or_apart kind other = inr refl
 

@@ -64,6 +64,7 @@ pub clear : (kind : LineKind) → is_clear (form kind) ≡ true
 clear k.PolicyHeader = refl
 clear k.RefusalHeader = refl
 clear k.CoverHeader = refl
+clear k.TableHeader = refl
 clear k.Layer = refl
 clear k.Cube = refl
 clear k.Pair = refl
@@ -73,6 +74,7 @@ clear k.Reach = refl
 clear k.GoalItem = refl
 clear k.RuleItem = refl
 clear k.Start = refl
+clear k.Row = refl
 clear k.End = refl
 
 -- fields of one text have the same values

@@ -93,6 +93,7 @@ text_no_feed : (text : Text) → HasNoFeed (text_of text)
 text_no_feed t.PolicyHeader = refl
 text_no_feed t.RefusalHeader = refl
 text_no_feed t.CoverHeader = refl
+text_no_feed t.TableHeader = refl
 text_no_feed t.Layer = refl
 text_no_feed t.Cube = refl
 text_no_feed t.Pair = refl
@@ -103,6 +104,7 @@ text_no_feed t.Reach = refl
 text_no_feed t.GoalItem = refl
 text_no_feed t.Item = refl
 text_no_feed t.Start = refl
+text_no_feed t.Do = refl
 text_no_feed t.End = refl
 text_no_feed t.Space = refl
 text_no_feed t.Colon = refl

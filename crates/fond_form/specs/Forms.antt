@@ -1,4 +1,4 @@
--- The lines of certificates as a table: the fields of each kind of line, and what is written for them.
+-- The lines of certificates and of tables, as data: the fields of each kind of line, and what is written for them.
 use Rattle.std.specs.Prelude.{◌≡◌, ℕ, ◌<◌, List, [], ◌∷◌, ◌++◌, IsTrue, length, codes, ⊤}
 use Rattle.fond_form.specs.Lines.{IsGroup, group_text, is_number, is_target, AreWords, spaced, WrittenLiteral, AreProper, literals_text}
 use Rattle.fond_form.specs.declared.table.LineKind.{LineKind}
@@ -13,6 +13,7 @@ abbrev pub text_of : Text → List ℕ
 text_of t.PolicyHeader = codes "dualfond 1 policy"
 text_of t.RefusalHeader = codes "dualfond 1 refusal"
 text_of t.CoverHeader = codes "dualfond 2 policy"
+text_of t.TableHeader = codes "table 1"
 text_of t.Layer = codes "layer"
 text_of t.Cube = codes "cube"
 text_of t.Pair = codes "pair "
@@ -23,6 +24,7 @@ text_of t.Reach = codes "reach "
 text_of t.GoalItem = codes "item goal :"
 text_of t.Item = codes "item "
 text_of t.Start = codes "start "
+text_of t.Do = codes "do "
 text_of t.End = codes "end"
 text_of t.Space = codes " "
 text_of t.Colon = codes " :"
@@ -37,6 +39,7 @@ abbrev pub form : LineKind → List Field
 form k.PolicyHeader = (t.PolicyHeader, Nothing) ∷ []
 form k.RefusalHeader = (t.RefusalHeader, Nothing) ∷ []
 form k.CoverHeader = (t.CoverHeader, Nothing) ∷ []
+form k.TableHeader = (t.TableHeader, Nothing) ∷ []
 form k.Layer = (t.Layer, Nothing) ∷ []
 form k.Cube = (t.Cube, Literals) ∷ []
 form k.Pair = (t.Pair, Action) ∷ (t.Space, Short) ∷ (t.Space, Short) ∷ (t.Space, Short) ∷ (t.Colon, Literals) ∷ []
@@ -46,11 +49,12 @@ form k.Reach = (t.Reach, Long) ∷ []
 form k.GoalItem = (t.GoalItem, Literals) ∷ []
 form k.RuleItem = (t.Item, Short) ∷ (t.Empty, Shorts) ∷ (t.Colon, Literals) ∷ []
 form k.Start = (t.Start, Short) ∷ []
+form k.Row = (t.Do, Action) ∷ (t.Colon, Literals) ∷ []
 form k.End = (t.End, Nothing) ∷ []
 
 -- all kinds of lines
 abbrev pub kinds : List LineKind
-kinds = k.Cube ∷ k.FairRule ∷ k.RuleItem ∷ k.UnfairRule ∷ k.Pair ∷ k.GoalItem ∷ k.Layer ∷ k.Reach ∷ k.Start ∷ k.PolicyHeader ∷ k.RefusalHeader ∷ k.CoverHeader ∷ k.End ∷ []
+kinds = k.Cube ∷ k.FairRule ∷ k.RuleItem ∷ k.UnfairRule ∷ k.Row ∷ k.Pair ∷ k.GoalItem ∷ k.Layer ∷ k.Reach ∷ k.Start ∷ k.PolicyHeader ∷ k.RefusalHeader ∷ k.CoverHeader ∷ k.TableHeader ∷ k.End ∷ []
 
 -- what is written for a sort: the leaves of an action, the bytes of a number or a target, or of each of several, or literals
 abbrev pub Value : Sort → Type 0

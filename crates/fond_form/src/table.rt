@@ -1,5 +1,5 @@
-//! The lines of certificates as a table: a kind of line has a form, and a form is a list of fields. A new kind is a row in `form`
-//! and in `kinds`.
+//! The lines of certificates and of tables, as data: a kind of line has a form, and a form is a list of fields. A new kind is a row
+//! in `form` and in `kinds`.
 
 ghost use Rattle.fond_form.specs.Forms.{form, kinds, text_of};
 ghost use Rattle.std.specs.Prelude.{◌≡◌};
@@ -10,6 +10,7 @@ pub enum Text {
     PolicyHeader,
     RefusalHeader,
     CoverHeader,
+    TableHeader,
     Layer,
     Cube,
     Pair,
@@ -20,6 +21,7 @@ pub enum Text {
     GoalItem,
     Item,
     Start,
+    Do,
     End,
     Space,
     Colon,
@@ -49,6 +51,7 @@ pub enum LineKind {
     PolicyHeader,
     RefusalHeader,
     CoverHeader,
+    TableHeader,
     Layer,
     Cube,
     Pair,
@@ -58,6 +61,7 @@ pub enum LineKind {
     GoalItem,
     RuleItem,
     Start,
+    Row,
     End,
 }
 
@@ -69,6 +73,7 @@ pub(crate) fn bytes_of(text: Text) -> &'static [u8]
         Text::PolicyHeader => b"dualfond 1 policy",
         Text::RefusalHeader => b"dualfond 1 refusal",
         Text::CoverHeader => b"dualfond 2 policy",
+        Text::TableHeader => b"table 1",
         Text::Layer => b"layer",
         Text::Cube => b"cube",
         Text::Pair => b"pair ",
@@ -79,6 +84,7 @@ pub(crate) fn bytes_of(text: Text) -> &'static [u8]
         Text::GoalItem => b"item goal :",
         Text::Item => b"item ",
         Text::Start => b"start ",
+        Text::Do => b"do ",
         Text::End => b"end",
         Text::Space => b" ",
         Text::Colon => b" :",
@@ -94,6 +100,7 @@ pub fn form(kind: LineKind) -> &'static [Field]
         LineKind::PolicyHeader => &[(Text::PolicyHeader, Sort::Nothing)],
         LineKind::RefusalHeader => &[(Text::RefusalHeader, Sort::Nothing)],
         LineKind::CoverHeader => &[(Text::CoverHeader, Sort::Nothing)],
+        LineKind::TableHeader => &[(Text::TableHeader, Sort::Nothing)],
         LineKind::Layer => &[(Text::Layer, Sort::Nothing)],
         LineKind::Cube => &[(Text::Cube, Sort::Literals)],
         LineKind::Pair => &[
@@ -122,6 +129,7 @@ pub fn form(kind: LineKind) -> &'static [Field]
             (Text::Colon, Sort::Literals),
         ],
         LineKind::Start => &[(Text::Start, Sort::Short)],
+        LineKind::Row => &[(Text::Do, Sort::Action), (Text::Colon, Sort::Literals)],
         LineKind::End => &[(Text::End, Sort::Nothing)],
     }
 }
@@ -135,6 +143,7 @@ pub(crate) fn kinds() -> &'static [LineKind]
         LineKind::FairRule,
         LineKind::RuleItem,
         LineKind::UnfairRule,
+        LineKind::Row,
         LineKind::Pair,
         LineKind::GoalItem,
         LineKind::Layer,
@@ -143,6 +152,7 @@ pub(crate) fn kinds() -> &'static [LineKind]
         LineKind::PolicyHeader,
         LineKind::RefusalHeader,
         LineKind::CoverHeader,
+        LineKind::TableHeader,
         LineKind::End,
     ]
 }
