@@ -5,19 +5,18 @@ use Rattle.std.proofs.lemmas.Bool.Decides.{nat_tests}
 use Rattle.std.proofs.lemmas.List.{drop-drop}
 use Rattle.std.proofs.Math.Seq.{drop-nil}
 use Rattle.fond_cert.specs.declared.draft.Draft.{Draft}
-use Rattle.fond_policy.specs.declared.cert.Cert.{Cert}
 use Rattle.fond_policy.specs.declared.cert.Cert.TheVariants.{Policy, Refusal, Covered}
 use Rattle.fond_cert.specs.Drafts.{closed, count_of, is_few, order, order_of, HasOnly, HasNoneAfter, IsCounted, HasReached}
 use Rattle.fond_cert.specs.declared.due.Evidence.TheVariants.{Reach as ByReach, Cover as ByCover}
 use Rattle.fond_cert.specs.declared.due.Kind.{Kind}
-use Rattle.fond_cert.specs.declared.due.Kind.TheVariants.{Policy as OfPolicy, Refusal as OfRefusal}
+use Rattle.fond_cert.specs.declared.due.Kind.TheVariants.{Policy as OfPolicy, Refusal as OfRefusal, Table as OfTable}
 use Rattle.fond_cert.specs.declared.due.Due.{Due}
 use Rattle.fond_cert.specs.declared.due.Due.TheVariants.{Section as SectionDue, Nothing as NothingDue}
 use Rattle.fond_cert.specs.declared.due.Group.{Group}
 use Rattle.fond_cert.specs.declared.due.Group.TheVariants as g
 use Rattle.fond_cert.specs.declared.due.Section.{Section}
 use Rattle.fond_cert.specs.declared.due.Section.TheVariants.{One, Any, Few, Blocks}
-use Rattle.fond_cert.specs.Spellings.{all_layers, listed, parts_of, kind_of}
+use Rattle.fond_cert.specs.Spellings.{all_layers, listed, Content, parts_of, kind_of}
 use Rattle.fond_cert.specs.Sections.{sections, is_in, after_in, may_end, or_later, after_sections, due_after, if_few}
 use Rattle.fond_form.specs.declared.table.LineKind.{LineKind}
 use Rattle.fond_form.specs.declared.table.LineKind.TheVariants as k
@@ -51,10 +50,12 @@ rank k.GoalItem = 31
 rank k.RuleItem = 31
 rank k.Reach = 41
 rank k.Start = 51
+rank k.Row = 61
 rank k.End = 101
 rank k.PolicyHeader = 102
 rank k.CoverHeader = 103
 rank k.RefusalHeader = 104
+rank k.TableHeader = 105
 
 -- a group of which there is one number
 abbrev pub is_single : Group → Bool
@@ -79,8 +80,9 @@ pub all_known : (cert : Kind) → AreKnown 0 (sections cert)
 all_known (OfPolicy ByReach) = (tt, omega arith, ((omega arith, refl, refl), omega arith, ((omega arith, refl, refl), omega arith, ((omega arith, refl), omega arith, tt))))
 all_known (OfPolicy ByCover) = (tt, omega arith, ((omega arith, refl, refl), omega arith, ((omega arith, refl, refl), omega arith, ((omega arith, refl, refl), omega arith, ((omega arith, refl), omega arith, tt)))))
 all_known OfRefusal = (tt, omega arith, tt)
+all_known OfTable = ((omega arith, refl, refl), omega arith, tt)
 
--- a section of a certificate takes a line, after which this is due; the draft has the counts of the section, and no lines after it
+-- a section of a kind of text takes a line, after which this is due; the draft has the counts of the section, and no lines after it
 pub record IsAllowedIn (cert : Kind) (kind : LineKind) (next : Due) (draft : Draft) : Type 0 where
   pub section : Section
   pub later : List Section
@@ -197,24 +199,43 @@ some_if : (o : Option ℕ) → length (listed o) ≡ 1 → (n : ℕ) × (o ≡ S
 some_if None e = absurd (omega (arith, e))
 some_if (Some n) e = (n, refl)
 
--- a draft, closed, has the parts of a certificate of a kind
+-- a draft, closed, has the parts of a content of a kind
 abbrev pub IsWholeOf : Kind → Draft → Type 0
-IsWholeOf kind draft = (cert : Cert) × (kind_of cert ≡ kind) × (closed draft ≡ parts_of cert)
+IsWholeOf kind draft = (content : Content) × (kind_of content ≡ kind) × (closed draft ≡ parts_of content)
 
--- a draft that may end has the parts of a certificate
+-- a draft that may end has the parts of a content
 whole_of : (kind : Kind) (section : Section) (lines inner : ℕ) (draft : Draft) → HasOnly kind draft → ends_in (sections kind) ≡ Some section → IsCounted section draft lines inner → may_end section lines ≡ true → IsWholeOf kind draft
 whole_of (OfPolicy ByReach) (One g.Reach) lines inner draft only last counted ends =
     let one : lines ≡ 1 = grind (arith, nat_tests, ends) in
-    let reach = some_if draft.reach (counted ∙ one) in
-    (Policy (all_layers draft) draft.pairs draft.rules reach.0, refl, λ i. record (closed draft) { items = nil_if draft.items (only g.Item refl) i; reach = reach.1 i; start = none_if draft.start (only g.Start refl) i })
+    let reach = some_if draft.reach (counted ∙ one) in (
+      Content.certificate (Policy (all_layers draft) draft.pairs draft.rules reach.0),
+      refl,
+      λ i. record (closed draft) { items = nil_if draft.items (only g.Item refl) i; reach = reach.1 i; start = none_if draft.start (only g.Start refl) i; rows = nil_if draft.rows (only g.Row refl) i },
+    )
 whole_of (OfPolicy ByCover) (One g.Start) lines inner draft only last counted ends =
     let one : lines ≡ 1 = grind (arith, nat_tests, ends) in
-    let start = some_if draft.start (counted ∙ one) in
-    (Covered (all_layers draft) draft.pairs draft.rules draft.items start.0, refl, λ i. record (closed draft) { reach = none_if draft.reach (only g.Reach refl) i; start = start.1 i })
+    let start = some_if draft.start (counted ∙ one) in (
+      Content.certificate (Covered (all_layers draft) draft.pairs draft.rules draft.items start.0),
+      refl,
+      λ i. record (closed draft) { reach = none_if draft.reach (only g.Reach refl) i; start = start.1 i; rows = nil_if draft.rows (only g.Row refl) i },
+    )
 whole_of OfRefusal section lines inner draft only last counted ends = (
-  Refusal (all_layers draft),
+  Content.certificate (Refusal (all_layers draft)),
   refl,
   λ i. record (closed draft) {
+    pairs = nil_if draft.pairs (only g.Pair refl) i;
+    rules = nil_if draft.rules (only g.Rule refl) i;
+    items = nil_if draft.items (only g.Item refl) i;
+    reach = none_if draft.reach (only g.Reach refl) i;
+    start = none_if draft.start (only g.Start refl) i;
+    rows = nil_if draft.rows (only g.Row refl) i;
+  },
+)
+whole_of OfTable section lines inner draft only last counted ends = (
+  Content.table draft.rows,
+  refl,
+  λ i. record (closed draft) {
+    layers = nil_if (all_layers draft) (only g.Layer refl) i;
     pairs = nil_if draft.pairs (only g.Pair refl) i;
     rules = nil_if draft.rules (only g.Rule refl) i;
     items = nil_if draft.items (only g.Item refl) i;
@@ -224,7 +245,7 @@ whole_of OfRefusal section lines inner draft only last counted ends = (
 )
 whole_of kind section lines inner draft only last counted ends = absurd (cc)
 
--- a draft before the last line has all parts of a certificate
+-- a draft before the last line has all parts of a content
 pub before_end : (kind : Kind) (at lines inner : ℕ) (next : Due) (draft : Draft) → HasOnly kind draft → HasReached (drop at (sections kind)) draft lines inner →
     due_after (SectionDue kind at lines inner) k.End ≡ Some next → IsWholeOf kind draft × (next ≡ NothingDue)
 before_end kind at lines inner next draft only reached e = by (drop at (sections kind)) refl reached e

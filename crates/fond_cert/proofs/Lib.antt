@@ -14,6 +14,7 @@ pub mod OwnLiterals
 pub mod Meanings
 pub mod OwnLines
 pub mod OneFault
+pub mod Headers
 pub mod OneCert
 pub mod Adding
 pub mod Printed

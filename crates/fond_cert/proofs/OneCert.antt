@@ -1,9 +1,8 @@
--- Certificates of one text are the same.
-use Rattle.std.proofs.Common.{◌≡◌, ◌≢◌, ℕ, ◌+◌, ◌<◌, ◌≤◌, ◌∙◌, List, [], ◌∷◌, ◌++◌, All as Each, length, map, codes, refl, sym, ap, arith, append_assoc, length-append}
+-- Certificates of one text are the same, and so are tables.
+use Rattle.std.proofs.Common.{◌≡◌, ◌≢◌, ℕ, ◌+◌, ◌<◌, ◌≤◌, ◌∙◌, List, [], ◌∷◌, ◌++◌, All as Each, length, map, codes, refl, sym, ap, arith, append_assoc, length-append, get_or}
 use Rattle.std.specs.Prelude.{⊤}
 use Rattle.std.specs.List.{flat_map}
-use Rattle.std.proofs.lemmas.List.{append-nil}
-use Rattle.std.proofs.lemmas.List.Elements.{All-head, All-tail}
+use Rattle.std.proofs.lemmas.List.Elements.{All-head, All-tail, All-cons, All-nil, All-map, All-append}
 use Rattle.fond_task.specs.declared.task.Task.{Task}
 use Rattle.fond_task.specs.Layers.{CubeView}
 use Rattle.fond_task.specs.declared.rule.Pair.{Pair}
@@ -19,41 +18,55 @@ use Rattle.fond_policy.specs.declared.cert.Cert.TheVariants.{Policy, Refusal, Co
 use Rattle.fond_policy.specs.Belongs.{Belongs}
 use Rattle.fond_policy.specs.Sizes.{HasSmallNumbers}
 use Rattle.fond_form.specs.declared.table.LineKind.TheVariants as k
-use Rattle.fond_form.specs.Forms.{Line, line_text}
+use Rattle.fond_form.specs.Forms.{Line, line_text, IsProper}
+use Rattle.fond_form.proofs.Apart.{same_line}
+use Rattle.fond_form.proofs.FeedSplits.{line_no_feed, same_split}
+use Rattle.fond_rules.specs.declared.table.TableRow.{TableRow}
+use Rattle.fond_rules.specs.Tables.{BelongAsRows}
 use Rattle.fond_cert.specs.declared.due.Due.{Due}
 use Rattle.fond_cert.specs.declared.due.Due.TheVariants.{Header as HeaderDue, Nothing as NothingDue}
+use Rattle.fond_cert.specs.declared.due.Document.TheVariants.{Certificate}
 use Rattle.fond_cert.specs.declared.due.Evidence.TheVariants.{Reach as ByReach, Cover as ByCover}
-use Rattle.fond_cert.specs.declared.due.Kind.TheVariants.{Policy as OfPolicy, Refusal as OfRefusal}
+use Rattle.fond_cert.specs.declared.due.Kind.TheVariants.{Policy as OfPolicy, Refusal as OfRefusal, Table as OfTable}
 use Rattle.fond_cert.specs.declared.due.Group.{Group}
 use Rattle.fond_cert.specs.declared.due.Group.TheVariants as g
 use Rattle.fond_cert.specs.declared.due.Section.{Section}
 use Rattle.fond_cert.specs.declared.due.Section.TheVariants.{One as OneOf, Any, Few, Blocks}
 use Rattle.fond_cert.specs.declared.draft.Draft.{Draft}
 use Rattle.fond_cert.specs.Drafts.{order, IsEntryOf, IsDraftOf}
-use Rattle.fond_cert.specs.Items.{IsReadPair, IsReadRule, IsReadItem}
+use Rattle.fond_cert.specs.Items.{IsReadPair, IsReadRule, IsReadItem, IsRowOf}
 use Rattle.fond_cert.specs.Sections.{sections}
 use Rattle.fond_cert.specs.Faults.{Lead}
-use Rattle.fond_cert.specs.Filled.{pair_of, fair_of, unfair_of, goal_item_of, rule_item_of}
-use Rattle.fond_cert.specs.Spellings.{cube_line, layer_lines, pair_line, targets_line, rule_line, way_line, item_line, end_line, Entry, entry_line, all_layers, entries, lines_then, parts_of, cert_lines, lines_text, spelling}
+use Rattle.fond_cert.specs.Filled.{pair_of, fair_of, unfair_of, goal_item_of, rule_item_of, row_of}
+use Rattle.fond_cert.specs.Spellings.{cube_line, layer_lines, pair_line, targets_line, rule_line, way_line, item_line, row_line, end_line, Entry, entry_line, all_layers, entries, lines_then, header, Content, parts_of, cert_lines, table_lines, lines_text, spelling, table_spelling}
 use Rattle.fond_cert.proofs.Befores.{rank, AreKnown, all_known}
-use Rattle.fond_cert.proofs.Meanings.{line_same}
-use Rattle.fond_cert.proofs.OneFault.{same_first}
-use Rattle.fond_cert.proofs.OwnLines.{first_rank, low_order, pair_means, fair_means, unfair_means, goal_means, way_means, entry_rank, sections_above, parts_belong, cert_leads}
+use Rattle.fond_cert.proofs.Meanings.{line_good, line_same}
+use Rattle.fond_cert.proofs.OwnLines.{first_rank, low_order, pair_means, fair_means, unfair_means, goal_means, way_means, row_means, of_rows, entry_rank, sections_above, parts_belong, cert_leads}
 
--- lines that lead from one place have one text only if they are the same
+-- lines that are proper have one text only if they are the same
+
+line_apart : (line : Line) (lines : List Line) → lines_text (line ∷ lines) ≡ line_text line ++ (10 ∷ lines_text lines)
+line_apart line lines = append_assoc (line_text line) (codes "\n") (lines_text lines)
 
 some_text : (line : Line) (lines : List Line) → [] ≢ lines_text (line ∷ lines)
 some_text line lines e = omega (arith, ap length e, length-append (line_text line ++ codes "\n") (lines_text lines), length-append (line_text line) (codes "\n"))
 
-same_lines : (task : Task) (due end other_end : Due) (lines others : List Line) → Lead task due lines end → Lead task due others other_end → lines_text lines ≡ lines_text others → lines ≡ others
-same_lines task due end other_end [] [] lead other_lead e = refl
-same_lines task due end other_end [] (line ∷ others) lead other_lead e = absurd (some_text line others e)
-same_lines task due end other_end (line ∷ lines) [] lead other_lead e = absurd (some_text line lines (sym e))
-same_lines task due end other_end (line ∷ lines) (next ∷ others) lead other_lead e =
-    let first = same_first task due end other_end line next lines others [] [] lead other_lead (ap (λ text. text ++ []) e) in
-    let same = first.same in
-    let more = same_lines task first.next end other_end lines others first.lead first.other_lead (sym (append-nil (lines_text lines)) ∙ first.texts ∙ append-nil (lines_text others)) in
+same_lines : (lines others : List Line) → Each IsProper lines → Each IsProper others → lines_text lines ≡ lines_text others → lines ≡ others
+same_lines [] [] right other_right e = refl
+same_lines [] (line ∷ others) right other_right e = absurd (some_text line others e)
+same_lines (line ∷ lines) [] right other_right e = absurd (some_text line lines (sym e))
+same_lines (line ∷ lines) (next ∷ others) right other_right e =
+    let own = All-head IsProper line lines right in
+    let other_own = All-head IsProper next others other_right in
+    let split = same_split (line_text line) (line_text next) (lines_text lines) (lines_text others) (line_no_feed line own) (line_no_feed next other_own)
+    (sym (line_apart line lines) ∙ e ∙ line_apart next others) in
+    let same = same_line line next own other_own split.0 in
+    let more = same_lines lines others (All-tail IsProper line lines right) (All-tail IsProper next others other_right) split.1 in
     λ i. same i ∷ more i
+
+all_proper : (task : Task) (due end : Due) (lines : List Line) → Lead task due lines end → Each IsProper lines
+all_proper task due end [] lead = All-nil IsProper
+all_proper task due end (line ∷ lines) lead = All-cons IsProper line lines lead.0 (all_proper task lead.2.0 end lines lead.2.2)
 
 abbrev rest_of : List Line → List Line
 rest_of [] = []
@@ -129,6 +142,9 @@ module _ (task : Task) where
       let more = same_layers layers others s t (All-tail Long layer layers over) (All-tail Long other others other_over) after other_after first.1 in
       ((λ i. first.0 i ∷ more.0 i), more.1)
 
+  same_row : (row other : TableRow) → IsRowOf task row → IsRowOf task other → row_line task row ≡ row_line task other → row ≡ other
+  same_row row other h other_h e = ap row_of (line_same task k.Row (row.act, (row.cond, tt)) (other.act, (other.cond, tt)) (row_means task row h) (row_means task other other_h) e)
+
   -- entries of one line are the same
   same_entry : (group : Group) (entry other : Entry group) → 0 < order group → IsEntryOf task group entry → IsEntryOf task group other → entry_line task group entry ≡ entry_line task group other → entry ≡ other
   same_entry g.Layer entry other after h other_h e = absurd (omega (arith, after))
@@ -138,6 +154,7 @@ module _ (task : Task) where
   same_entry g.Item entry other after h other_h e = same_item entry other h other_h e
   same_entry g.Reach entry other after h other_h e = ap (λ meanings. meanings.0) (line_same task k.Reach (entry, tt) (other, tt) (h, tt) (other_h, tt) e)
   same_entry g.Start entry other after h other_h e = ap (λ meanings. meanings.0) (line_same task k.Start (entry, tt) (other, tt) (h, tt) (other_h, tt) e)
+  same_entry g.Row entry other after h other_h e = same_row entry other h other_h e
 
   module _ (draft other : Draft) (own : IsDraftOf task draft) (other_own : IsDraftOf task other) where
     -- two drafts have the same entries in a section, or in all of some
@@ -176,7 +193,7 @@ module _ (task : Task) where
   number_of [] = 0
   number_of (number ∷ numbers) = number
 
-  same_certs : (cert other : Cert) → IsDraftOf task (parts_of cert) → IsDraftOf task (parts_of other) → cert_lines task cert ≡ cert_lines task other → cert ≡ other
+  same_certs : (cert other : Cert) → IsDraftOf task (parts_of (Content.certificate cert)) → IsDraftOf task (parts_of (Content.certificate other)) → cert_lines task cert ≡ cert_lines task other → cert ≡ other
   same_certs (Policy layers pairs rules reach) (Policy other_layers other_pairs other_rules other_reach) own other_own e =
       let same = same_sections _ _ own other_own 0 (sections (OfPolicy ByReach)) (all_known (OfPolicy ByReach)) (ap rest_of e) in
       λ i. Policy (same.0 i) (same.1.0 i) (same.1.1.0 i) (number_of (same.1.1.1.0 i))
@@ -192,4 +209,23 @@ module _ (task : Task) where
 pub one_cert : (task : Task) (cert other : Cert) → Belongs task cert → Belongs task other → HasSmallNumbers cert → HasSmallNumbers other → spelling task cert ≡ spelling task other → cert ≡ other
 one_cert task cert other h other_h small other_small e =
     same_certs task cert other (parts_belong task cert h small) (parts_belong task other other_h other_small)
-    (same_lines task HeaderDue NothingDue NothingDue (cert_lines task cert) (cert_lines task other) (cert_leads task cert h small) (cert_leads task other other_h other_small) e)
+    (same_lines (cert_lines task cert) (cert_lines task other) (cert_proper cert h small) (cert_proper other other_h other_small) e)
+  where
+    cert_proper : (cert : Cert) → Belongs task cert → HasSmallNumbers cert → Each IsProper (cert_lines task cert)
+    cert_proper cert h small = all_proper task (HeaderDue Certificate) NothingDue (cert_lines task cert) (cert_leads task cert h small)
+
+-- tables of a task with one spelling are the same
+pub one_table : (task : Task) (rows others : List TableRow) → BelongAsRows task rows → BelongAsRows task others → table_spelling task rows ≡ table_spelling task others → rows ≡ others
+one_table task rows others h other_h e =
+    let own = of_rows task rows h in
+    let other_own = of_rows task others other_h in
+    let ends = end_line task ∷ [] in
+    let lines = same_lines (table_lines task rows) (table_lines task others) (table_proper rows own) (table_proper others other_own) e in
+    (same_items (row_line task) 61 (IsRowOf task) (λ row. refl) (same_row task) rows others ends ends own other_own (λ clash. omega (arith, clash)) (λ clash. omega (arith, clash)) (ap rest_of lines)).0
+  where
+    table_proper : (rows : List TableRow) → Each (IsRowOf task) rows → Each IsProper (table_lines task rows)
+    table_proper rows own =
+        let right = λ (row : TableRow) (of : IsRowOf task row). (line_good task k.Row (row.act, (row.cond, tt)) (row_means task row of)).0 in
+        let own_lines : Each IsProper (map (row_line task) rows) = All-map IsProper (row_line task) rows (λ n d lt. right (get_or rows n d) (own n d lt)) in
+        All-cons IsProper (header task OfTable) _ (line_good task k.TableHeader (tt, tt) (tt, tt)).0
+        (All-append IsProper (map (row_line task) rows) (end_line task ∷ []) own_lines (All-cons IsProper (end_line task) [] (line_good task k.End (tt, tt) (tt, tt)).0 (All-nil IsProper)))

@@ -2,10 +2,12 @@
 use Rattle.std.proofs.Common.{◌≡◌, inl, inr, ℕ, ◌+◌, List, [], ◌∷◌, ◌++◌, Option, Some, None, length, codes, sym, ap, subst, ◌∙◌, arith, append_assoc, length-append}
 use Rattle.std.proofs.lemmas.List.{append-nil}
 use Rattle.fond_task.specs.declared.task.Task.{Task}
+use Rattle.fond_cert.specs.declared.due.Document.{Document}
+use Rattle.fond_cert.specs.declared.due.Document.TheVariants.{Certificate}
 use Rattle.fond_cert.specs.declared.due.Due.{Due}
 use Rattle.fond_cert.specs.declared.due.Due.TheVariants.{Header as HeaderDue, Nothing as NothingDue}
 use Rattle.fond_cert.specs.Sections.{due_after}
-use Rattle.fond_cert.specs.Faults.{Lead, IsRefusedLine, IsRefusedRest, IsRefusedAt, IsCertFault}
+use Rattle.fond_cert.specs.Faults.{Lead, IsRefusedLine, IsRefusedRest, IsRefusedAt, IsFaultAs, IsCertFault}
 use Rattle.fond_form.specs.Feeds.{HasNoFeed}
 use Rattle.fond_form.specs.Forms.{Line, line_text, IsProper}
 use Rattle.fond_cert.specs.Spellings.{lines_text}
@@ -115,9 +117,9 @@ one_fault_by task due end other_end (line ∷ lines) (next ∷ others) rest othe
     (more.0, omega (arith, more.1, long, length-append (line_text line ++ codes "\n") (lines_text lines), length-append (line_text next ++ codes "\n") (lines_text others)))
 
 -- two faults of a text are the same
-pub one_fault : (task : Task) (text : List ℕ) (code byte other other_byte : ℕ) → IsCertFault task text code byte → IsCertFault task text other other_byte → (code ≡ other) × (byte ≡ other_byte)
-one_fault task text code byte other other_byte h k =
-    let same = one_fault_by task HeaderDue h.due k.due h.lines k.lines h.rest k.rest code h.at other k.at h.lead k.lead (sym h.split ∙ k.split) h.refused k.refused in
+pub one_fault : (document : Document) (task : Task) (text : List ℕ) (code byte other other_byte : ℕ) → IsFaultAs document task text code byte → IsFaultAs document task text other other_byte → (code ≡ other) × (byte ≡ other_byte)
+one_fault document task text code byte other other_byte h k =
+    let same = one_fault_by task (HeaderDue document) h.due k.due h.lines k.lines h.rest k.rest code h.at other k.at h.lead k.lead (sym h.split ∙ k.split) h.refused k.refused in
     (same.0, h.byte_is ∙ same.1 ∙ sym k.byte_is)
 
 no_fault_by : (task : Task) (due end : Due) (lines others : List Line) (rest : List ℕ) (code at : ℕ) → Lead task due lines NothingDue → Lead task due others end →
@@ -133,6 +135,10 @@ no_fault_by task due end (line ∷ lines) (next ∷ others) rest code at lead ot
     let first = same_first task due NothingDue end line next lines others [] rest lead other_lead e in
     no_fault_by task first.next end lines others rest code at first.lead first.other_lead first.texts h
 
--- the text of lines after which nothing is due has no fault
-pub no_fault : (task : Task) (lines : List Line) (code byte : ℕ) → Lead task HeaderDue lines NothingDue → ¬ IsCertFault task (lines_text lines) code byte
-no_fault task lines code byte lead h = no_fault_by task HeaderDue h.due lines h.lines h.rest code h.at lead h.lead (append-nil (lines_text lines) ∙ h.split) h.refused
+-- the text of lines after which nothing is due has no fault as a document
+pub no_fault_as : (document : Document) (task : Task) (lines : List Line) (code byte : ℕ) → Lead task (HeaderDue document) lines NothingDue → ¬ IsFaultAs document task (lines_text lines) code byte
+no_fault_as document task lines code byte lead h = no_fault_by task (HeaderDue document) h.due lines h.lines h.rest code h.at lead h.lead (append-nil (lines_text lines) ∙ h.split) h.refused
+
+-- the text of lines after which nothing is due has no fault as a certificate
+pub no_fault : (task : Task) (lines : List Line) (code byte : ℕ) → Lead task (HeaderDue Certificate) lines NothingDue → ¬ IsCertFault task (lines_text lines) code byte
+no_fault = no_fault_as Certificate

@@ -1,4 +1,4 @@
--- The lines of a certificate that belongs to a task lead from the header to the end, and none is refused.
+-- The lines of a certificate or a table that belongs to a task lead from the header to the end, and none is refused.
 use Rattle.std.proofs.Common.{◌≡◌, ℕ, ◌+◌, ◌<◌, ◌≤◌, ◌^◌, ◌∙◌, nat_lt, Bool, true, false, List, [], ◌∷◌, ◌++◌, Some, None, All as Each, length, map, drop, get_or, refl, sym, ap, arith, append_assoc}
 use Rattle.std.proofs.lemmas.Bool.Decides.{nat_tests}
 use Rattle.std.proofs.lemmas.List.{drop-drop}
@@ -18,14 +18,18 @@ use Rattle.fond_policy.specs.declared.item.Way.{Way}
 use Rattle.fond_policy.specs.declared.item.Way.TheVariants.{Goal as ToGoal, Rule as ByRule}
 use Rattle.fond_policy.specs.declared.cert.Cert.{Cert}
 use Rattle.fond_policy.specs.declared.cert.Cert.TheVariants.{Policy, Refusal, Covered}
+use Rattle.fond_rules.specs.declared.table.TableRow.{TableRow}
+use Rattle.fond_rules.specs.Tables.{BelongAsRows}
 use Rattle.fond_policy.specs.Belongs.{Belongs, BelongAsLayers, BelongAsPairs, BelongAsRules, BelongAsItems}
 use Rattle.fond_policy.specs.Sizes.{IsSmallPair, AreSmallTargets, IsSmallWay, HasSmallNumbers}
 use Rattle.fond_form.specs.declared.table.LineKind.{LineKind}
 use Rattle.fond_form.specs.declared.table.LineKind.TheVariants as k
 use Rattle.fond_form.specs.Forms.{form, Line, IsProper}
+use Rattle.fond_cert.specs.declared.due.Document.{Document}
+use Rattle.fond_cert.specs.declared.due.Document.TheVariants.{Certificate, Table}
 use Rattle.fond_cert.specs.declared.due.Evidence.TheVariants.{Reach as ByReach, Cover as ByCover}
 use Rattle.fond_cert.specs.declared.due.Kind.{Kind}
-use Rattle.fond_cert.specs.declared.due.Kind.TheVariants.{Policy as OfPolicy, Refusal as OfRefusal}
+use Rattle.fond_cert.specs.declared.due.Kind.TheVariants.{Policy as OfPolicy, Refusal as OfRefusal, Table as OfTable}
 use Rattle.fond_cert.specs.declared.due.Due.{Due}
 use Rattle.fond_cert.specs.declared.due.Due.TheVariants.{Header as HeaderDue, Section as SectionDue, Nothing as NothingDue}
 use Rattle.fond_cert.specs.declared.due.Group.{Group}
@@ -37,16 +41,16 @@ use Rattle.fond_cert.specs.Drafts.{order, order_of, count_of, IsEntryOf, AreEntr
 use Rattle.fond_cert.specs.Faults.{Lead}
 use Rattle.fond_cert.specs.Sections.{sections, is_in, after_in, may_end, due_after}
 use Rattle.fond_cert.proofs.Befores.{rank, IsKnown, AreKnown, all_known}
-use Rattle.fond_cert.specs.Items.{IsReadPair, IsReadRule, IsReadItem}
-use Rattle.fond_cert.specs.Spellings.{Meanings, AreOfTask, spelled_line, cube_line, layer_lines, targets_line, way_line, end_line, Entry, entry_line, all_layers, entries, lines_then, parts_of, cert_lines}
+use Rattle.fond_cert.specs.Items.{IsReadPair, IsReadRule, IsReadItem, IsRowOf}
+use Rattle.fond_cert.specs.Spellings.{Meanings, AreOfTask, spelled_line, cube_line, layer_lines, targets_line, way_line, end_line, Entry, entry_line, all_layers, entries, lines_then, Content, parts_of, cert_lines, table_lines}
 use Rattle.fond_cert.specs.Words.{line_refusal}
 use Rattle.fond_cert.proofs.Leads.{few}
 use Rattle.fond_cert.proofs.Meanings.{line_good}
-use Rattle.fond_cert.proofs.Wholes.{nothing_of}
+use Rattle.fond_cert.proofs.Wholes.{no_layers_of, nothing_of}
 
 -- the rank of the first line
 abbrev pub first_rank : List Line → ℕ
-first_rank [] = 105
+first_rank [] = 106
 first_rank (line ∷ lines) = rank line.kind
 
 -- a line of a kind is allowed where one thing is due, and another is due after it
@@ -64,6 +68,7 @@ in_order g.Item k.GoalItem after is = refl
 in_order g.Item k.RuleItem after is = refl
 in_order g.Reach k.Reach after is = refl
 in_order g.Start k.Start after is = refl
+in_order g.Row k.Row after is = refl
 in_order group kind after is = absurd (cc)
 
 -- a line above the rank of a group is not in it
@@ -88,7 +93,7 @@ module _ (task : Task) where
   abbrev IsGood : Line → Type 0
   IsGood line = IsProper line × (line_refusal task line ≡ None)
 
-  -- the meanings of pairs, rules and items that were read belong to the task
+  -- the meanings of pairs, rules, items and rows that were read belong to the task
 
   pub pair_means : (pair : Pair) → IsReadPair task pair → AreOfTask task (form k.Pair) (pair.act, (pair.outcome, (pair.layer, (pair.cube, (pair.cond, tt)))))
   pair_means pair h = (h.1, (h.2.0, (h.2.1, (h.2.2, (h.0, tt)))))
@@ -104,6 +109,9 @@ module _ (task : Task) where
 
   pub way_means : (rule : ℕ) (numbers : List ℕ) (cube : CubeView) → IsReadItem task (record { cube = cube; way = ByRule rule numbers }) → AreOfTask task (form k.RuleItem) (rule, (numbers, (cube, tt)))
   way_means rule numbers cube h = (h.2.0, ((h.1, h.2.1), (h.0, tt)))
+
+  pub row_means : (row : TableRow) → IsRowOf task row → AreOfTask task (form k.Row) (row.act, (row.cond, tt))
+  row_means row h = (h.1, (h.0, tt))
 
   choice_good : (act : ℕ) (targets : Targets) (cond : CubeView) → IsReadRule task (record { cond = cond; act = act; targets = targets }) → IsGood (targets_line task act targets cond)
   choice_good act (One outcome target) cond h = line_good task k.FairRule (act, (outcome, (target, (cond, tt)))) (fair_means act outcome target cond h)
@@ -122,6 +130,7 @@ module _ (task : Task) where
   entry_good g.Item item h = way_good item.way item.cube h
   entry_good g.Reach reach h = line_good task k.Reach (reach, tt) (h, tt)
   entry_good g.Start start h = line_good task k.Start (start, tt) (h, tt)
+  entry_good g.Row row h = line_good task k.Row (row.act, (row.cond, tt)) (row_means row h)
 
   choice_in : (act : ℕ) (targets : Targets) (cond : CubeView) → is_in g.Rule (targets_line task act targets cond).kind ≡ true
   choice_in act (One outcome target) cond = refl
@@ -256,11 +265,11 @@ module _ (task : Task) where
     all_lead later there known singles =
         layers_first cert later there (all_layers draft) _ own.layers (sections_above draft 1 later known (omega arith) (omega arith)) (sections_lead 1 1 later (ap (drop 1) there) known (omega arith) singles)
 
-  header_lead : (kind : LineKind) (meanings : Meanings (form kind)) (cert : Kind) (lines : List Line) → AreOfTask task (form kind) meanings → Allows HeaderDue (SectionDue cert 0 0 0) kind →
-      Lead task (SectionDue cert 0 0 0) lines NothingDue → Lead task HeaderDue (spelled_line task kind meanings ∷ lines) NothingDue
-  header_lead kind meanings cert lines of allowed lead = good_lead HeaderDue (SectionDue cert 0 0 0) NothingDue (spelled_line task kind meanings) lines (line_good task kind meanings of) allowed lead
+  header_lead : (document : Document) (kind : LineKind) (meanings : Meanings (form kind)) (cert : Kind) (lines : List Line) → AreOfTask task (form kind) meanings → Allows (HeaderDue document) (SectionDue cert 0 0 0) kind →
+      Lead task (SectionDue cert 0 0 0) lines NothingDue → Lead task (HeaderDue document) (spelled_line task kind meanings ∷ lines) NothingDue
+  header_lead document kind meanings cert lines of allowed lead = good_lead (HeaderDue document) (SectionDue cert 0 0 0) NothingDue (spelled_line task kind meanings) lines (line_good task kind meanings of) allowed lead
 
-  -- the entries of a certificate that belongs to a task
+  -- the entries of a certificate or a table that belongs to a task
 
   of_pairs : (pairs : List Pair) → BelongAsPairs task pairs → Each IsSmallPair pairs → AreEntriesOf task g.Pair pairs
   of_pairs pairs h small = (λ k d lt. (h.over k d lt, h.there k d lt, small k d lt), λ is. absurd (cc))
@@ -271,13 +280,16 @@ module _ (task : Task) where
   of_items : (items : List Item) → BelongAsItems task items → Each (λ (item : Item). IsSmallWay item.way) items → AreEntriesOf task g.Item items
   of_items items h small = (λ k d lt. (h.over k (get_or items k d) (slice_get-get_or items k d lt), h.numbered k d lt, small k d lt), λ is. h.few)
 
+  pub of_rows : (rows : List TableRow) → BelongAsRows task rows → Each (IsRowOf task) rows
+  of_rows rows h = λ k d lt. (h.over k d lt, h.there k d lt)
+
   of_number : (group : Group) (number : Entry group) → IsEntryOf task group number → AreEntriesOf task group (number ∷ [])
   of_number group number h = (All-cons (IsEntryOf task group) number [] h (All-nil (IsEntryOf task group)), λ is. omega arith)
 
-  pub parts_belong : (cert : Cert) → Belongs task cert → HasSmallNumbers cert → IsDraftOf task (parts_of cert)
+  pub parts_belong : (cert : Cert) → Belongs task cert → HasSmallNumbers cert → IsDraftOf task (parts_of (Content.certificate cert))
   parts_belong (Policy layers pairs rules reach) h small = record { layers = h.0; parts = parts }
     where
-      parts : (group : Group) → 0 < order group → AreEntriesOf task group (entries group (parts_of (Policy layers pairs rules reach)))
+      parts : (group : Group) → 0 < order group → AreEntriesOf task group (entries group (parts_of (Content.certificate (Policy layers pairs rules reach))))
       parts g.Layer after = absurd (omega (arith, after))
       parts g.Pair after = of_pairs pairs h.1 small.0
       parts g.Rule after = of_rules rules h.2 small.1
@@ -285,12 +297,12 @@ module _ (task : Task) where
       parts group after = nothing_of task group after
   parts_belong (Refusal layers) h small = record { layers = h; parts = parts }
     where
-      parts : (group : Group) → 0 < order group → AreEntriesOf task group (entries group (parts_of (Refusal layers)))
+      parts : (group : Group) → 0 < order group → AreEntriesOf task group (entries group (parts_of (Content.certificate (Refusal layers))))
       parts g.Layer after = absurd (omega (arith, after))
       parts group after = nothing_of task group after
   parts_belong (Covered layers pairs rules items start) h small = record { layers = h.0; parts = parts }
     where
-      parts : (group : Group) → 0 < order group → AreEntriesOf task group (entries group (parts_of (Covered layers pairs rules items start)))
+      parts : (group : Group) → 0 < order group → AreEntriesOf task group (entries group (parts_of (Content.certificate (Covered layers pairs rules items start))))
       parts g.Layer after = absurd (omega (arith, after))
       parts g.Pair after = of_pairs pairs h.1 small.0
       parts g.Rule after = of_rules rules h.2 small.1
@@ -299,10 +311,25 @@ module _ (task : Task) where
       parts group after = nothing_of task group after
 
   -- the lines of a certificate lead from the header to the end
-  pub cert_leads : (cert : Cert) → Belongs task cert → HasSmallNumbers cert → Lead task HeaderDue (cert_lines task cert) NothingDue
+  pub cert_leads : (cert : Cert) → Belongs task cert → HasSmallNumbers cert → Lead task (HeaderDue Certificate) (cert_lines task cert) NothingDue
   cert_leads cert h small = by cert (parts_belong cert h small)
     where
-      by : (cert : Cert) → IsDraftOf task (parts_of cert) → Lead task HeaderDue (cert_lines task cert) NothingDue
-      by (Policy layers pairs rules reach) own = header_lead k.PolicyHeader (tt, tt) (OfPolicy ByReach) _ (tt, tt) refl (all_lead _ own (OfPolicy ByReach) _ refl (all_known (OfPolicy ByReach)).2 (refl, tt))
-      by (Refusal layers) own = header_lead k.RefusalHeader (tt, tt) OfRefusal _ (tt, tt) refl (all_lead _ own OfRefusal _ refl (all_known OfRefusal).2 tt)
-      by (Covered layers pairs rules items start) own = header_lead k.CoverHeader (tt, tt) (OfPolicy ByCover) _ (tt, tt) refl (all_lead _ own (OfPolicy ByCover) _ refl (all_known (OfPolicy ByCover)).2 (refl, tt))
+      by : (cert : Cert) → IsDraftOf task (parts_of (Content.certificate cert)) → Lead task (HeaderDue Certificate) (cert_lines task cert) NothingDue
+      by (Policy layers pairs rules reach) own = header_lead Certificate k.PolicyHeader (tt, tt) (OfPolicy ByReach) _ (tt, tt) refl (all_lead _ own (OfPolicy ByReach) _ refl (all_known (OfPolicy ByReach)).2 (refl, tt))
+      by (Refusal layers) own = header_lead Certificate k.RefusalHeader (tt, tt) OfRefusal _ (tt, tt) refl (all_lead _ own OfRefusal _ refl (all_known OfRefusal).2 tt)
+      by (Covered layers pairs rules items start) own = header_lead Certificate k.CoverHeader (tt, tt) (OfPolicy ByCover) _ (tt, tt) refl (all_lead _ own (OfPolicy ByCover) _ refl (all_known (OfPolicy ByCover)).2 (refl, tt))
+
+  -- the parts of a table that belongs to a task
+  rows_belong : (rows : List TableRow) → BelongAsRows task rows → length rows < 2 ^ 32 → IsDraftOf task (parts_of (Content.table rows))
+  rows_belong rows h small = record { layers = no_layers_of task; parts = parts }
+    where
+      parts : (group : Group) → 0 < order group → AreEntriesOf task group (entries group (parts_of (Content.table rows)))
+      parts g.Layer after = absurd (omega (arith, after))
+      parts g.Row after = (of_rows rows h, λ is. small)
+      parts group after = nothing_of task group after
+
+  -- the lines of a table lead from the header to the end
+  pub table_leads : (rows : List TableRow) → BelongAsRows task rows → length rows < 2 ^ 32 → Lead task (HeaderDue Table) (table_lines task rows) NothingDue
+  table_leads rows h small =
+      let known : AreKnown 1 (sections OfTable) = ((omega arith, refl, refl), omega arith, tt) in
+      header_lead Table k.TableHeader (tt, tt) OfTable _ (tt, tt) refl (sections_lead (parts_of (Content.table rows)) (rows_belong rows h small) OfTable 0 1 (sections OfTable) refl known (omega arith) tt)

@@ -29,7 +29,7 @@ use Rattle.fond_cert.specs.Sections.{sections}
 use Rattle.fond_form.specs.Lines.{group_text, spaced, WrittenLiteral, sign_text, literals_text}
 use Rattle.fond_form.specs.Forms.{Field, text_of, form, value_text, Values, fields_text, Line}
 use Rattle.fond_cert.specs.Printed.{atom_literal_text, cube_text, fed, chosen_text, cond_text, pair_text, rule_text, way_text, item_text, layer_text, entry_text}
-use Rattle.fond_cert.specs.Spellings.{action_leaves, act_leaves, written_literal, written_cube, target_word, targets_line, layer_lines, pair_line, rule_line, way_line, item_line, reach_line, start_line, end_line, Entry, entry_line, all_layers, entries, lines_then, header, parts_of, kind_of, lines_text, spelling}
+use Rattle.fond_cert.specs.Spellings.{action_leaves, act_leaves, written_literal, written_cube, target_word, targets_line, layer_lines, pair_line, rule_line, way_line, item_line, reach_line, start_line, end_line, Entry, entry_line, all_layers, entries, lines_then, header, Content, parts_of, kind_of, lines_text, spelling}
 use Rattle.fond_cert.proofs.Acts.{leaves_text as action_leaves_text}
 use Rattle.fond_cert.proofs.CubeTexts.{leaves_text}
 use Rattle.fond_cert.proofs.Leads.{lines_append}
@@ -152,5 +152,8 @@ sections_are task draft (Blocks first second ∷ later) =
     (λ i. layers i ++ sections_are task draft later i) ∙ sym (lines_append (flat_map (layer_lines task) (all_layers draft)) (lines_then task draft later (end_line task ∷ [])))
 
 -- what is printed of a certificate is its text
-pub spelling_is : (task : Task) (cert same : Cert) → cert ≡ same → fed (header task (kind_of same)) ++ sections_text task (parts_of same) (sections (kind_of same)) ≡ spelling task cert
-spelling_is task cert same is = ap (λ t. fed (header task (kind_of same)) ++ t) (sections_are task (parts_of same) (sections (kind_of same))) ∙ ap (spelling task) (sym is)
+pub spelling_is : (task : Task) (cert same : Cert) → cert ≡ same →
+    fed (header task (kind_of (Content.certificate same))) ++ sections_text task (parts_of (Content.certificate same)) (sections (kind_of (Content.certificate same))) ≡ spelling task cert
+spelling_is task cert same is =
+    let kind = kind_of (Content.certificate same) in
+    ap (λ t. fed (header task kind) ++ t) (sections_are task (parts_of (Content.certificate same)) (sections kind)) ∙ ap (spelling task) (sym is)

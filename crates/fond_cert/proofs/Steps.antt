@@ -4,7 +4,7 @@ use Rattle.std.specs.Prelude.{⊤}
 use Rattle.std.proofs.Math.Bool.{or-true}
 use Rattle.std.proofs.Math.Seq.{drop-nil}
 use Rattle.std.proofs.lemmas.Bool.Decides.{nat_tests}
-use Rattle.std.specs.Option.{option_map}
+use Rattle.std.specs.Option.{option_map, option_map_or}
 use Rattle.std.proofs.lemmas.Grind.{flat_map-append}
 use Rattle.std.proofs.lemmas.List.{append-nil, map-append}
 use Rattle.std.proofs.lemmas.List.Elements.{All-head, All-tail, All-cons, All-nil, All-append}
@@ -17,23 +17,26 @@ use Rattle.fond_form.specs.declared.table.LineKind.TheVariants as k
 use Rattle.fond_form.specs.Forms.{form, Line}
 use Rattle.fond_policy.specs.Belongs.{BelongAsLayers}
 use Rattle.fond_cert.specs.Drafts.{draft_lines, IsEntryOf, AreEntriesOf, IsDraftOf, closed, with_entry, grown, is_few, count_of, order, order_of, has_order, HasOnly, HasNoneAfter, IsCounted, HasReached, FitsDue, HasRoom}
+use Rattle.fond_cert.specs.declared.due.Document.{Document}
+use Rattle.fond_cert.specs.declared.due.Document.TheVariants.{Certificate, Table}
 use Rattle.fond_cert.specs.declared.due.Evidence.TheVariants.{Reach as ByReach, Cover as ByCover}
 use Rattle.fond_cert.specs.declared.due.Kind.{Kind}
-use Rattle.fond_cert.specs.declared.due.Kind.TheVariants.{Policy as OfPolicy, Refusal as OfRefusal}
+use Rattle.fond_cert.specs.declared.due.Kind.TheVariants.{Policy as OfPolicy, Refusal as OfRefusal, Table as OfTable}
 use Rattle.fond_cert.specs.declared.due.Due.{Due}
 use Rattle.fond_cert.specs.declared.due.Due.TheVariants.{Header as HeaderDue, Section as SectionDue, Nothing as NothingDue}
 use Rattle.fond_cert.specs.declared.due.Group.{Group}
 use Rattle.fond_cert.specs.declared.due.Group.TheVariants as g
 use Rattle.fond_cert.specs.declared.due.Section.{Section}
 use Rattle.fond_cert.specs.declared.due.Section.TheVariants.{One, Any, Few, Blocks}
-use Rattle.fond_cert.specs.Sections.{sections, is_in, after_in, due_after}
-use Rattle.fond_cert.specs.Filled.{pair_of, fair_of, unfair_of, goal_item_of, rule_item_of}
-use Rattle.fond_cert.specs.Spellings.{Meanings, AreOfTask, spelled_line, cube_line, layer_lines, end_line, Entry, entry_line, with_current, all_layers, entries, section_lines, lines_then, header, no_parts, kind_of}
+use Rattle.fond_cert.specs.Sections.{sections, kind_document, is_in, after_in, due_after}
+use Rattle.fond_cert.specs.Filled.{pair_of, fair_of, unfair_of, goal_item_of, rule_item_of, row_of}
+use Rattle.fond_policy.specs.declared.cert.Cert.TheVariants.{Policy, Refusal, Covered}
+use Rattle.fond_cert.specs.Spellings.{Meanings, AreOfTask, spelled_line, cube_line, layer_lines, end_line, Entry, entry_line, with_current, all_layers, entries, section_lines, lines_then, header, no_parts, Content, document_of, kind_of}
 use Rattle.fond_cert.proofs.Befores.{some_is, passed, few_is, is_single, IsKnown, AreKnown, all_known, IsAllowedIn, IsWholeOf, section_of, nil_if, none_if, before_end}
 
 -- after a line, a draft fits what is due, with one more line
-pub record IsStepped (task : Task) (own : Line) (next : Due) (after : Draft) (lines : List Line) : Type 0 where
-  pub fits : FitsDue task next after (lines ++ (own ∷ []))
+pub record IsStepped (document : Document) (task : Task) (own : Line) (next : Due) (after : Draft) (lines : List Line) : Type 0 where
+  pub fits : FitsDue document task next after (lines ++ (own ∷ []))
   pub draft : IsDraftOf task after
 
 all_front : {X : Type 0} (P : X → Type 0) (xs ys : List X) → All P (xs ++ ys) → All P xs
@@ -83,6 +86,7 @@ kept g.Rule g.Rule draft entry after = inl refl
 kept g.Item g.Item draft entry after = inl refl
 kept g.Reach g.Reach draft entry after = inl refl
 kept g.Start g.Start draft entry after = inl refl
+kept g.Row g.Row draft entry after = inl refl
 kept group other draft entry after = inr refl
 
 layers_kept : (group : Group) (draft : Draft) (entry : Entry group) → 0 < order group → all_layers (with_entry group draft entry) ≡ all_layers draft
@@ -109,6 +113,7 @@ made task g.Item k.GoalItem draft m after is of = (goal_item_of m, refl, refl, (
 made task g.Item k.RuleItem draft m after is of = (rule_item_of m, refl, refl, (of.1.1.0, of.1.0.0, (of.0, of.1.0.1)))
 made task g.Reach k.Reach draft m after is of = (m.0, refl, refl, of.0)
 made task g.Start k.Start draft m after is of = (m.0, refl, refl, of.0)
+made task g.Row k.Row draft m after is of = (row_of m, refl, refl, (of.1.0, of.0))
 made task group kind draft m after is of = absurd (cc)
 
 -- there is room for what a line makes of which there are fewer than 2^32
@@ -117,10 +122,12 @@ room g.Rule k.FairRule draft is few = few refl
 room g.Rule k.UnfairRule draft is few = few refl
 room g.Item k.GoalItem draft is few = few refl
 room g.Item k.RuleItem draft is few = few refl
+room g.Row k.Row draft is few = few refl
 room group k.FairRule draft is few = absurd (cc)
 room group k.UnfairRule draft is few = absurd (cc)
 room group k.GoalItem draft is few = absurd (cc)
 room group k.RuleItem draft is few = absurd (cc)
+room group k.Row draft is few = absurd (cc)
 room group kind draft is few = tt
 
 -- what a line that a section takes makes of a draft: one line more of the section, with these counts, and nothing else
@@ -340,16 +347,17 @@ own_order at [] section later e = absurd (omega (arith, ap length e, ap length (
 own_order zero (x ∷ xs) section later e = let same : x ≡ section = cc in rw same (grind (arith, nat_tests))
 own_order (suc at) (x ∷ xs) section later e = let more = own_order at xs section later e in rw more (or-true (nat_eq (order_of x) (order_of section)))
 
--- certificates have layers
-layers_used : (cert : Kind) → has_order 0 (sections cert) ≡ true
-layers_used (OfPolicy ByReach) = refl
-layers_used (OfPolicy ByCover) = refl
-layers_used OfRefusal = refl
+-- a draft without layers has no cubes
+no_cubes : (layers : List (List CubeView)) (current : Option (List CubeView)) → length (with_current layers current) ≡ 0 → option_map_or (λ (layer : List CubeView). layer) current [] ≡ []
+no_cubes layers None none = refl
+no_cubes layers (Some cubes) none = absurd (omega (arith, none, one_more layers cubes))
 
-after_layers : (cert : Kind) (group : Group) → has_order (order group) (sections cert) ≡ false → 0 < order group
-after_layers cert g.Layer unused = let used = layers_used cert in absurd (cc)
-after_layers cert g.Cube unused = let used = layers_used cert in absurd (cc)
-after_layers cert group unused = omega arith
+-- a draft without lines of a group still has none after a section of another order took a line; if it is the cubes, there are no layers
+module _ (task : Task) (section : Section) (cert : Kind) (at : ℕ) (next : Due) (line : Line) (draft after : Draft) (one : IsMoved task section cert at next line draft after) where
+  still_none : (group : Group) → order group ≢ order_of section → (order group ≡ 0 → count_of g.Layer draft ≡ 0) → count_of group draft ≡ 0 → count_of group after ≡ 0
+  still_none g.Layer other layers none = ap length (one.layers_same (omega (arith, other))) ∙ none
+  still_none g.Cube other layers none = ap length (no_cubes after.layers after.current (ap length (one.layers_same (omega (arith, other))) ∙ layers refl))
+  still_none group other layers none = ap length (one.same group (omega arith) other) ∙ none
 
 -- a draft without parts has no lines
 none_of_empty : (group : Group) → count_of group no_parts ≡ 0
@@ -360,35 +368,44 @@ nothing_written : (task : Task) (cert : Kind) → draft_lines task cert no_parts
 nothing_written task (OfPolicy ByReach) = refl
 nothing_written task (OfPolicy ByCover) = refl
 nothing_written task OfRefusal = refl
+nothing_written task OfTable = refl
+
+-- a content is one of the document of its kind
+content_document : (content : Content) → document_of content ≡ kind_document (kind_of content)
+content_document (Content.certificate (Policy layers pairs rules reach)) = refl
+content_document (Content.certificate (Refusal layers)) = refl
+content_document (Content.certificate (Covered layers pairs rules items start)) = refl
+content_document (Content.table rows) = refl
 
 -- a draft without parts fits the first section
 first_reached : (cert : Kind) → HasReached (sections cert) no_parts 0 0
 first_reached (OfPolicy ByReach) = ((refl, refl, refl), λ group below. none_of_empty group)
 first_reached (OfPolicy ByCover) = ((refl, refl, refl), λ group below. none_of_empty group)
 first_reached OfRefusal = ((refl, refl, refl), λ group below. none_of_empty group)
+first_reached OfTable = (refl, λ group below. none_of_empty group)
 
-module _ (task : Task) (next : Due) (before after : Draft) (lines : List Line) (own : IsDraftOf task before) where
-  header_step : (cert : Kind) → before ≡ no_parts → lines ≡ [] → next ≡ SectionDue cert 0 0 0 → after ≡ closed before → IsStepped task (header task cert) next after lines
-  header_step cert empty none next_is is =
+module _ (document : Document) (task : Task) (next : Due) (before after : Draft) (lines : List Line) (own : IsDraftOf task before) where
+  header_step : (cert : Kind) → before ≡ no_parts → lines ≡ [] → kind_document cert ≡ document → next ≡ SectionDue cert 0 0 0 → after ≡ closed before → IsStepped document task (header task cert) next after lines
+  header_step cert empty none of_document next_is is =
       let same : after ≡ no_parts = is ∙ ap closed empty in record {
-        fits = rw (next_is, same) (ap (λ l. l ++ (header task cert ∷ [])) none ∙ ap (λ l. header task cert ∷ l) (sym (nothing_written task cert)), λ group unused. none_of_empty group, first_reached cert);
+        fits = rw (next_is, same) (ap (λ l. l ++ (header task cert ∷ [])) none ∙ ap (λ l. header task cert ∷ l) (sym (nothing_written task cert)), λ group unused. none_of_empty group, first_reached cert, of_document);
         draft = rw is (closed_draft task before own);
       }
 
-  end_step : (cert : Kind) → lines ≡ header task cert ∷ draft_lines task cert before → IsWholeOf cert before × (next ≡ NothingDue) → after ≡ closed before → IsStepped task (end_line task) next after lines
-  end_step cert written whole is =
+  end_step : (cert : Kind) → lines ≡ header task cert ∷ draft_lines task cert before → kind_document cert ≡ document → IsWholeOf cert before × (next ≡ NothingDue) → after ≡ closed before → IsStepped document task (end_line task) next after lines
+  end_step cert written of_document whole is =
       let ends = end_line task ∷ [] in
       let all : lines_then task (closed before) (sections cert) ends ≡ draft_lines task cert before ++ ends = closed_lines task before ends 0 (sections cert) (all_known cert) ∙ sym (lines_end task before ends (sections cert)) in
       let kinds = ap (λ kind. header task kind ∷ lines_then task (closed before) (sections kind) ends) (sym whole.0.1) in
       let parts = ap (λ d. header task (kind_of whole.0.0) ∷ lines_then task d (sections (kind_of whole.0.0)) ends) whole.0.2 in
       record {
-        fits = rw whole.1 (whole.0.0, is ∙ whole.0.2, lines_more lines _ _ (header task cert) (end_line task) written all ∙ kinds ∙ parts);
+        fits = rw whole.1 (whole.0.0, is ∙ whole.0.2, lines_more lines _ _ (header task cert) (end_line task) written all ∙ kinds ∙ parts, content_document whole.0.0 ∙ ap kind_document whole.0.1 ∙ of_document);
         draft = rw is (closed_draft task before own);
       }
 
-  section_step : (cert : Kind) (kind : LineKind) (m : Meanings (form kind)) → lines ≡ header task cert ∷ draft_lines task cert before → HasOnly cert before → AreOfTask task (form kind) m → after ≡ grown before kind m →
-      IsAllowedIn cert kind next before → IsStepped task (spelled_line task kind m) next after lines
-  section_step cert kind m written only of is a =
+  section_step : (cert : Kind) (kind : LineKind) (m : Meanings (form kind)) → lines ≡ header task cert ∷ draft_lines task cert before → HasOnly cert before → kind_document cert ≡ document → AreOfTask task (form kind) m →
+      after ≡ grown before kind m → IsAllowedIn cert kind next before → IsStepped document task (spelled_line task kind m) next after lines
+  section_step cert kind m written only of_document of is a =
       let one = moved task cert a.at a.lines a.inner next before own a.section kind m a.known of a.counted a.allowed in
       let now = grown before kind m in
       let used = own_order a.at (sections cert) a.section a.later a.there in
@@ -400,38 +417,48 @@ module _ (task : Task) (next : Due) (before after : Draft) (lines : List Line) (
             rw (one.next_is, is) (
               lines_more lines _ _ (header task cert) (spelled_line task kind m) written more,
               λ group unused.
-                  ap length (one.same group (after_layers cert group unused) (λ same. let clash = subst (λ n. has_order n (sections cert) ≡ true) (sym same) used in absurd (cc))) ∙ only group unused,
+                  still_none task a.section cert a.at next (spelled_line task kind m) before now one group (λ same. let clash = subst (λ n. has_order n (sections cert) ≡ true) (sym same) used in absurd (cc))
+                  (λ first. only g.Layer (subst (λ n. has_order n (sections cert) ≡ false) first unused)) (only group unused),
               rw a.there (one.counted, none_now),
+              of_document,
             );
         draft = rw is one.draft_of;
       }
 
 -- a line that is allowed takes a draft to what is due next
-pub step : (task : Task) (due next : Due) (before after : Draft) (lines : List Line) → FitsDue task due before lines → IsDraftOf task before → (kind : LineKind) (m : Meanings (form kind)) → due_after due kind ≡ Some next →
-    AreOfTask task (form kind) m → after ≡ grown before kind m → IsStepped task (spelled_line task kind m) next after lines
-step task HeaderDue next before after lines fits own k.PolicyHeader m e of is = header_step task next before after lines own (OfPolicy ByReach) fits.0 fits.1 (some_is (SectionDue (OfPolicy ByReach) 0 0 0) next e) is
-step task HeaderDue next before after lines fits own k.CoverHeader m e of is = header_step task next before after lines own (OfPolicy ByCover) fits.0 fits.1 (some_is (SectionDue (OfPolicy ByCover) 0 0 0) next e) is
-step task HeaderDue next before after lines fits own k.RefusalHeader m e of is = header_step task next before after lines own OfRefusal fits.0 fits.1 (some_is (SectionDue OfRefusal 0 0 0) next e) is
-step task HeaderDue next before after lines fits own kind m e of is = absurd (cc)
-step task NothingDue next before after lines fits own kind m e of is = absurd (cc)
-step task (SectionDue cert at count inner) next before after lines fits own kind m e of is = by kind m e of is (section_of cert kind next before at count inner fits.2 e)
+pub step : (document : Document) (task : Task) (due next : Due) (before after : Draft) (lines : List Line) → FitsDue document task due before lines → IsDraftOf task before → (kind : LineKind) (m : Meanings (form kind)) → due_after due kind ≡ Some next →
+    AreOfTask task (form kind) m → after ≡ grown before kind m → IsStepped document task (spelled_line task kind m) next after lines
+step document task (HeaderDue Certificate) next before after lines fits own k.PolicyHeader m e of is =
+    header_step document task next before after lines own (OfPolicy ByReach) fits.0 fits.1 fits.2 (some_is (SectionDue (OfPolicy ByReach) 0 0 0) next e) is
+step document task (HeaderDue Certificate) next before after lines fits own k.CoverHeader m e of is =
+    header_step document task next before after lines own (OfPolicy ByCover) fits.0 fits.1 fits.2 (some_is (SectionDue (OfPolicy ByCover) 0 0 0) next e) is
+step document task (HeaderDue Certificate) next before after lines fits own k.RefusalHeader m e of is =
+    header_step document task next before after lines own OfRefusal fits.0 fits.1 fits.2 (some_is (SectionDue OfRefusal 0 0 0) next e) is
+step document task (HeaderDue Table) next before after lines fits own k.TableHeader m e of is = header_step document task next before after lines own OfTable fits.0 fits.1 fits.2 (some_is (SectionDue OfTable 0 0 0) next e) is
+step document task (HeaderDue other) next before after lines fits own kind m e of is = absurd (cc)
+step document task NothingDue next before after lines fits own kind m e of is = absurd (cc)
+step document task (SectionDue cert at count inner) next before after lines fits own kind m e of is = by kind m e of is (section_of cert kind next before at count inner fits.2 e)
   where
     by : (kind : LineKind) (m : Meanings (form kind)) → due_after (SectionDue cert at count inner) kind ≡ Some next → AreOfTask task (form kind) m → after ≡ grown before kind m → (kind ≡ k.End) ⊎ IsAllowedIn cert kind next before →
-        IsStepped task (spelled_line task kind m) next after lines
-    by kind m e of is (inr allowed) = section_step task next before after lines own cert kind m fits.0 fits.1 of is allowed
-    by k.End m e of is (inl end) = end_step task next before after lines own cert fits.0 (before_end cert at count inner next before fits.1 fits.2 e) is
+        IsStepped document task (spelled_line task kind m) next after lines
+    by kind m e of is (inr allowed) = section_step document task next before after lines own cert kind m fits.0 fits.1 fits.3 of is allowed
+    by k.End m e of is (inl end) = end_step document task next before after lines own cert fits.0 fits.3 (before_end cert at count inner next before fits.1 fits.2 e) is
     by kind m e of is (inl end) = absurd (cc)
 
+-- a header needs no room
+header_room : (document : Document) (kind : LineKind) (next : Due) (draft : Draft) → due_after (HeaderDue document) kind ≡ Some next → HasRoom kind draft
+header_room Certificate k.PolicyHeader next draft e = tt
+header_room Certificate k.CoverHeader next draft e = tt
+header_room Certificate k.RefusalHeader next draft e = tt
+header_room Table k.TableHeader next draft e = tt
+header_room document kind next draft e = absurd (cc)
+
 -- there is room for what a line makes that is allowed
-pub has_room : (task : Task) (due next : Due) (draft : Draft) (lines : List Line) (kind : LineKind) → FitsDue task due draft lines → IsDraftOf task draft → due_after due kind ≡ Some next → HasRoom kind draft
-has_room task (SectionDue cert at count inner) next draft lines kind fits own e = by (section_of cert kind next draft at count inner fits.2 e)
+pub has_room : (document : Document) (task : Task) (due next : Due) (draft : Draft) (lines : List Line) (kind : LineKind) → FitsDue document task due draft lines → IsDraftOf task draft → due_after due kind ≡ Some next → HasRoom kind draft
+has_room document task (SectionDue cert at count inner) next draft lines kind fits own e = by (section_of cert kind next draft at count inner fits.2 e)
   where
     by : (kind ≡ k.End) ⊎ IsAllowedIn cert kind next draft → HasRoom kind draft
     by (inl end) = rw end tt
     by (inr a) = room_in task cert a.at a.lines a.inner next draft own a.section kind a.known a.counted a.allowed
-has_room task HeaderDue next draft lines k.FairRule fits own e = absurd (cc)
-has_room task HeaderDue next draft lines k.UnfairRule fits own e = absurd (cc)
-has_room task HeaderDue next draft lines k.GoalItem fits own e = absurd (cc)
-has_room task HeaderDue next draft lines k.RuleItem fits own e = absurd (cc)
-has_room task HeaderDue next draft lines kind fits own e = tt
-has_room task NothingDue next draft lines kind fits own e = absurd (cc)
+has_room document task (HeaderDue own_document) next draft lines kind fits own e = header_room own_document kind next draft e
+has_room document task NothingDue next draft lines kind fits own e = absurd (cc)

@@ -11,6 +11,8 @@ use Rattle.fond_task.specs.declared.rule.Rule.{Rule}
 use Rattle.fond_policy.specs.declared.item.Item.{Item}
 use Rattle.fond_cert.specs.declared.draft.Draft.{Draft}
 use Rattle.fond_cert.specs.declared.code.TheConstants.{OUT_OF_FORM}
+use Rattle.fond_cert.specs.declared.due.Document.{Document}
+use Rattle.fond_cert.specs.declared.due.Document.TheVariants.{Certificate, Table}
 use Rattle.fond_cert.specs.declared.due.Due.{Due}
 use Rattle.fond_cert.specs.declared.error.CertError.{CertError}
 use Rattle.fond_cert.specs.declared.error.LineError.{LineError}
@@ -19,19 +21,21 @@ use Rattle.fond_form.specs.declared.table.LineKind.{LineKind}
 use Rattle.fond_form.specs.Forms.{form, HasForm, Line, line_text}
 use Rattle.fond_policy.specs.declared.cert.Cert.{Cert}
 use Rattle.fond_policy.specs.declared.cert.Cert.TheVariants.{Policy, Refusal, Covered}
-use Rattle.fond_policy.specs.Belongs.{Belongs, BelongAsPairs, BelongAsRules, BelongAsItems}
+use Rattle.fond_rules.specs.declared.table.TableRow.{TableRow}
+use Rattle.fond_rules.specs.Tables.{BelongAsRows}
+use Rattle.fond_policy.specs.Belongs.{Belongs, BelongAsLayers, BelongAsPairs, BelongAsRules, BelongAsItems}
 use Rattle.fond_cert.specs.Made.{IsRefusedBy}
 use Rattle.fond_cert.specs.Drafts.{order, IsEntryOf, AreEntriesOf, IsDraftOf, FitsDue}
 use Rattle.fond_cert.specs.declared.due.Group.{Group}
 use Rattle.fond_cert.specs.declared.due.Group.TheVariants as g
 use Rattle.fond_cert.specs.declared.due.Due.TheVariants.{Header as HeaderDue, Nothing as NothingDue}
 use Rattle.fond_cert.specs.Sections.{due_after}
-use Rattle.fond_cert.specs.Faults.{HasNoForm, Lead, IsRefusedLine, IsRefusedAt, IsCertFault}
+use Rattle.fond_cert.specs.Faults.{HasNoForm, Lead, IsRefusedLine, IsRefusedAt, IsFaultAs}
 use Rattle.fond_form.specs.Feeds.{HasNoFeed}
 use Rattle.fond_cert.specs.Items.{IsReadPair, IsReadItem}
 use Rattle.fond_cert.specs.Progress.{IsReady, IsTaken, IsWhole, cert_of, IsPlaced}
 use Rattle.fond_cert.specs.Refusals.{LineRefuses, CertRefuses}
-use Rattle.fond_cert.specs.Spellings.{spelled_line, entries, no_parts, parts_of, lines_text, spelling}
+use Rattle.fond_cert.specs.Spellings.{spelled_line, all_layers, entries, no_parts, Content, parts_of, lines_text, spelling, table_spelling}
 use Rattle.fond_policy.specs.Sizes.{HasSmallNumbers}
 use Rattle.fond_cert.specs.Words.{Refused}
 use Rattle.fond_cert.proofs.Leads.{lead_more, lines_append, text_more, nothing_allowed}
@@ -40,58 +44,56 @@ use Rattle.fond_cert.proofs.Steps.{step}
 use Rattle.fond_form.proofs.Apart.{same_kind}
 
 -- the lines before a rest, and the draft that they make
-pub record IsReadTo (task : Task) (text rest : List ℕ) (due : Due) (draft : Draft) : Type 0 where
+pub record IsReadTo (document : Document) (task : Task) (text rest : List ℕ) (due : Due) (draft : Draft) : Type 0 where
   pub lines : List Line
   pub own : List Line
-  pub lead : Lead task HeaderDue lines due
+  pub lead : Lead task (HeaderDue document) lines due
   pub split : text ≡ lines_text lines ++ rest
   pub same : lines_text lines ≡ lines_text own
-  pub fits : FitsDue task due draft own
+  pub fits : FitsDue document task due draft own
   pub belongs : IsDraftOf task draft
 
 pub nothing_of : (task : Task) (group : Group) → 0 < order group → AreEntriesOf task group (entries group no_parts)
 nothing_of task g.Layer after = absurd (omega (arith, after))
 nothing_of task group after = (All-nil (IsEntryOf task group), λ is. omega arith)
 
-pub nothing_read : (task : Task) (text : List ℕ) (draft : Draft) → draft ≡ no_parts → IsReadTo task text text HeaderDue draft
-nothing_read task text draft e = record {
+pub no_layers_of : (task : Task) → BelongAsLayers task (all_layers no_parts)
+no_layers_of task = record {
+  few = omega arith;
+  few_cubes = All-nil (λ (layer : List CubeView). length layer < 2 ^ 32);
+  over = All-nil (λ (layer : List CubeView). All (λ (cube : CubeView). length cube ≡ length task.atoms) layer);
+}
+
+pub nothing_read : (document : Document) (task : Task) (text : List ℕ) (draft : Draft) → draft ≡ no_parts → IsReadTo document task text text (HeaderDue document) draft
+nothing_read document task text draft e = record {
   lines = [];
   own = [];
   lead = refl;
   split = refl;
   same = refl;
-  fits = (e, refl);
-  belongs =
-      rw e
-      (record {
-        layers = record {
-          few = omega arith;
-          few_cubes = All-nil (λ (layer : List CubeView). length layer < 2 ^ 32);
-          over = All-nil (λ (layer : List CubeView). All (λ (cube : CubeView). length cube ≡ length task.atoms) layer);
-        };
-        parts = nothing_of task;
-      });
+  fits = (e, refl, refl);
+  belongs = rw e (record { layers = no_layers_of task; parts = nothing_of task });
 }
 
-pub is_ready : (task : Task) (text rest : List ℕ) (due : Due) (draft : Draft) → IsReadTo task text rest due draft → IsReady task due draft
-is_ready task text rest due draft h = (h.belongs, (h.own, h.fits))
+pub is_ready : (document : Document) (task : Task) (text rest : List ℕ) (due : Due) (draft : Draft) → IsReadTo document task text rest due draft → IsReady task due draft
+is_ready document task text rest due draft h = (h.belongs, (document, h.own, h.fits))
 
-pub rest_short : (task : Task) (text rest : List ℕ) (due : Due) (draft : Draft) → IsReadTo task text rest due draft → length rest ≤ length text
-rest_short task text rest due draft h = omega (arith, ap length h.split, length-append (lines_text h.lines) rest)
+pub rest_short : (document : Document) (task : Task) (text rest : List ℕ) (due : Due) (draft : Draft) → IsReadTo document task text rest due draft → length rest ≤ length text
+rest_short document task text rest due draft h = omega (arith, ap length h.split, length-append (lines_text h.lines) rest)
 
-pub one_more_line : (task : Task) (text rest piece further : List ℕ) (due next : Due) (before after : Draft) → IsReadTo task text rest due before → rest ≡ piece ++ (codes "\n" ++ further) →
-    IsTaken task due before piece next after → IsReadTo task text further next after
-one_more_line task text rest piece further due next before after h e taken =
+pub one_more_line : (document : Document) (task : Task) (text rest piece further : List ℕ) (due next : Due) (before after : Draft) → IsReadTo document task text rest due before → rest ≡ piece ++ (codes "\n" ++ further) →
+    IsTaken task due before piece next after → IsReadTo document task text further next after
+one_more_line document task text rest piece further due next before after h e taken =
     let kind = taken.0 in
     let m = taken.2.0 in
     let made = taken.2.1 in
     let own = spelled_line task kind m in
-    let s = step task due next before after h.own h.fits h.belongs kind m taken.1 made.of taken.2.2 in
+    let s = step document task due next before after h.own h.fits h.belongs kind m taken.1 made.of taken.2.2 in
     let w : Line = record { kind = kind; values = made.values } in
     let same : line_text w ≡ line_text own = sym made.text_is ∙ made.same in record {
       lines = h.lines ++ (w ∷ []);
       own = h.own ++ (own ∷ []);
-      lead = lead_more task h.lines (w ∷ []) HeaderDue due next h.lead (made.right, made.clean, (next, taken.1, refl));
+      lead = lead_more task h.lines (w ∷ []) (HeaderDue document) due next h.lead (made.right, made.clean, (next, taken.1, refl));
       split = h.split ∙ ap (λ t. lines_text h.lines ++ t) (e ∙ ap (λ t. t ++ (codes "\n" ++ further)) made.text_is) ∙ text_more h.lines w further;
       same =
           lines_append h.lines (w ∷ []) ∙ ap (λ t. t ++ lines_text (w ∷ [])) h.same
@@ -103,9 +105,9 @@ one_more_line task text rest piece further due next before after h e taken =
 at_byte : (text front rest : List ℕ) (at : ℕ) → text ≡ front ++ rest → length text - length rest + at ≡ length front + at
 at_byte text front rest at e = omega (arith, ap length e, length-append front rest)
 
-fault_at : (task : Task) (text rest : List ℕ) (due : Due) (draft : Draft) (code at : ℕ) → IsReadTo task text rest due draft → IsRefusedAt task due rest code at →
-    IsCertFault task text code (length text - length rest + at)
-fault_at task text rest due draft code at h refused = record {
+fault_at : (document : Document) (task : Task) (text rest : List ℕ) (due : Due) (draft : Draft) (code at : ℕ) → IsReadTo document task text rest due draft → IsRefusedAt task due rest code at →
+    IsFaultAs document task text code (length text - length rest + at)
+fault_at document task text rest due draft code at h refused = record {
   lines = h.lines;
   due = due;
   lead = h.lead;
@@ -134,26 +136,26 @@ refused_line task NothingDue rest piece further code at whole e (inl h) = (some_
 refused_line task NothingDue rest piece further code at whole e (inr h) = absurd (nothing_allowed h.0.kind h.1 h.3)
 refused_line task due rest piece further code at whole e h = inr (piece, further, e, whole, h)
 
-pub line_fault : (task : Task) (text rest piece further : List ℕ) (due : Due) (draft : Draft) (error : LineError) (result : CertError) → IsReadTo task text rest due draft → HasNoFeed piece →
+pub line_fault : (document : Document) (task : Task) (text rest piece further : List ℕ) (due : Due) (draft : Draft) (error : LineError) (result : CertError) → IsReadTo document task text rest due draft → HasNoFeed piece →
     rest ≡ piece ++ (codes "\n" ++ further) → LineRefuses (λ (refused : Refused). IsRefusedLine task due piece refused.code refused.at) error →
-    IsPlaced (length text - length rest) error result → CertRefuses (IsCertFault task text) result
-line_fault task text rest piece further due draft (RefusedLine code at) result h whole e refused placed =
-    rw placed (fault_at task text rest due draft code at h (refused_line task due rest piece further code at whole e refused))
-line_fault task text rest piece further due draft NoMemory result h whole e refused placed = rw placed tt
+    IsPlaced (length text - length rest) error result → CertRefuses (IsFaultAs document task text) result
+line_fault document task text rest piece further due draft (RefusedLine code at) result h whole e refused placed =
+    rw placed (fault_at document task text rest due draft code at h (refused_line task due rest piece further code at whole e refused))
+line_fault document task text rest piece further due draft NoMemory result h whole e refused placed = rw placed tt
 
 no_rest : (task : Task) (due : Due) (rest : List ℕ) → HasNoFeed rest → ¬ ((due ≡ NothingDue) × (rest ≡ [])) → IsRefusedAt task due rest OUT_OF_FORM 0
 no_rest task NothingDue rest none not_over = ((λ e. not_over (refl, e)), refl, refl)
 no_rest task due rest none not_over = inl (none, refl, refl)
 
-pub end_fault : (task : Task) (text rest : List ℕ) (due : Due) (draft : Draft) → IsReadTo task text rest due draft → HasNoFeed rest → ¬ ((due ≡ NothingDue) × (rest ≡ [])) →
-    IsCertFault task text OUT_OF_FORM (length text - length rest + 0)
-end_fault task text rest due draft h none not_over = fault_at task text rest due draft OUT_OF_FORM 0 h (no_rest task due rest none not_over)
+pub end_fault : (document : Document) (task : Task) (text rest : List ℕ) (due : Due) (draft : Draft) → IsReadTo document task text rest due draft → HasNoFeed rest → ¬ ((due ≡ NothingDue) × (rest ≡ [])) →
+    IsFaultAs document task text OUT_OF_FORM (length text - length rest + 0)
+end_fault document task text rest due draft h none not_over = fault_at document task text rest due draft OUT_OF_FORM 0 h (no_rest task due rest none not_over)
 
-pub whole_read : (task : Task) (text rest : List ℕ) (due : Due) (draft : Draft) → IsReadTo task text rest due draft → due ≡ NothingDue → rest ≡ [] → IsDraftOf task draft × IsWhole task text draft
-whole_read task text rest due draft h e f =
-    let fits : FitsDue task NothingDue draft h.own = rw e at h.fits in
+pub whole_read : (document : Document) (task : Task) (text rest : List ℕ) (due : Due) (draft : Draft) → IsReadTo document task text rest due draft → due ≡ NothingDue → rest ≡ [] → IsDraftOf task draft × IsWhole document task text draft
+whole_read document task text rest due draft h e f =
+    let fits : FitsDue document task NothingDue draft h.own = rw e at h.fits in
     let is : text ≡ lines_text h.own = h.split ∙ ap (λ t. lines_text h.lines ++ t) f ∙ append-nil (lines_text h.lines) ∙ h.same in
-    (h.belongs, (fits.0, fits.1, is ∙ ap lines_text fits.2))
+    (h.belongs, (fits.0, fits.1, is ∙ ap lines_text fits.2, fits.3))
 
 -- a certificate whose parts belong to a task belongs to it, and its numbers are small
 module _ (task : Task) where
@@ -177,7 +179,7 @@ module _ (task : Task) where
     numbered = λ k d lt. (h.0 k d lt).1;
   }
 
-  belongs : (cert : Cert) → IsDraftOf task (parts_of cert) → Belongs task cert × HasSmallNumbers cert
+  belongs : (cert : Cert) → IsDraftOf task (parts_of (Content.certificate cert)) → Belongs task cert × HasSmallNumbers cert
   belongs (Policy layers pairs rules reach) own =
       let of_pairs = own.parts g.Pair (omega arith) in
       let of_rules = own.parts g.Rule (omega arith) in
@@ -193,17 +195,28 @@ module _ (task : Task) where
         ((λ k d lt. (of_pairs.0 k d lt).2), (λ k d lt. (of_rules.0 k d lt).3), (λ k d lt. (of_items.0 k d lt).2), All-head (λ n. n < 2 ^ 32) start [] of_start.0),
       )
 
-  cert_is : (cert : Cert) → cert_of (parts_of cert) ≡ cert
+  cert_is : (cert : Cert) → cert_of (parts_of (Content.certificate cert)) ≡ cert
   cert_is (Policy layers pairs rules reach) = refl
   cert_is (Refusal layers) = refl
   cert_is (Covered layers pairs rules items start) = refl
 
   -- the certificate of a whole draft is read, and its numbers are small
-  pub cert_read : (text : List ℕ) (draft : Draft) → IsDraftOf task draft → IsWhole task text draft → Belongs task (cert_of draft) × (text ≡ spelling task (cert_of draft)) × HasSmallNumbers (cert_of draft)
-  cert_read text draft own whole =
-      let same : cert_of draft ≡ whole.0 = ap cert_of whole.1 ∙ cert_is whole.0 in
-      let of = belongs whole.0 (subst (IsDraftOf task) whole.1 own) in
-      subst (λ (cert : Cert). Belongs task cert × (text ≡ spelling task cert) × HasSmallNumbers cert) (sym same) (of.0, whole.2, of.1)
+  pub cert_read : (text : List ℕ) (draft : Draft) → IsDraftOf task draft → IsWhole Certificate task text draft → Belongs task (cert_of draft) × (text ≡ spelling task (cert_of draft)) × HasSmallNumbers (cert_of draft)
+  cert_read text draft own (Content.certificate cert, parts, spelled, document) =
+      let same : cert_of draft ≡ cert = ap cert_of parts ∙ cert_is cert in
+      let of = belongs cert (subst (IsDraftOf task) parts own) in
+      subst (λ (cert : Cert). Belongs task cert × (text ≡ spelling task cert) × HasSmallNumbers cert) (sym same) (of.0, spelled, of.1)
+  cert_read text draft own (Content.table rows, parts, spelled, document) = absurd (cc)
+
+  as_table : (rows : List TableRow) → AreEntriesOf task g.Row rows → BelongAsRows task rows
+  as_table rows h = record { over = λ k d lt. (h.0 k d lt).0; there = λ k d lt. (h.0 k d lt).1 }
+
+  -- the rows of a whole draft are read
+  pub table_read : (text : List ℕ) (draft : Draft) → IsDraftOf task draft → IsWhole Table task text draft → BelongAsRows task draft.rows × (text ≡ table_spelling task draft.rows)
+  table_read text draft own (Content.certificate cert, parts, spelled, document) = absurd (cc)
+  table_read text draft own (Content.table rows, parts, spelled, document) =
+      let same : draft.rows ≡ rows = ap (λ (d : Draft). d.rows) parts in
+      (as_table draft.rows (own.parts g.Row (omega arith)), spelled ∙ ap (table_spelling task) (sym same))
 
 -- a text of a kind that is not allowed has no form
 pub not_allowed : (due : Due) (piece : List ℕ) (kind : LineKind) → HasForm (form kind) piece → due_after due kind ≡ None → HasNoForm due piece

@@ -1,4 +1,4 @@
--- Certificates that were read in part.
+-- Certificates and tables that were read in part.
 use Rattle.std.specs.Prelude.{◌≡◌, ℕ, ◌-◌, ◌<◌, ◌^◌, nat_eq, Bool, true, false, ◌||◌, ⊤, List, [], ◌∷◌, ◌++◌, All, Some, None, length, drop}
 use Rattle.std.specs.Option.{option_map}
 use Rattle.fond_task.specs.declared.task.Task.{Task}
@@ -8,9 +8,9 @@ use Rattle.fond_form.specs.declared.table.LineKind.{LineKind}
 use Rattle.fond_form.specs.declared.table.LineKind.TheVariants as k
 use Rattle.fond_form.specs.Forms.{form, Line}
 use Rattle.fond_layers.specs.Over.{IsOver}
-use Rattle.fond_policy.specs.declared.cert.Cert.{Cert}
 use Rattle.fond_policy.specs.Belongs.{BelongAsLayers}
 use Rattle.fond_cert.specs.Made.{IsMade}
+use Rattle.fond_cert.specs.declared.due.Document.{Document}
 use Rattle.fond_cert.specs.declared.due.Kind.{Kind}
 use Rattle.fond_cert.specs.declared.due.Due.{Due}
 use Rattle.fond_cert.specs.declared.due.Due.TheVariants.{Header as HeaderDue, Section as SectionDue, Nothing as NothingDue}
@@ -18,12 +18,12 @@ use Rattle.fond_cert.specs.declared.due.Group.{Group}
 use Rattle.fond_cert.specs.declared.due.Group.TheVariants as g
 use Rattle.fond_cert.specs.declared.due.Section.{Section}
 use Rattle.fond_cert.specs.declared.due.Section.TheVariants.{One, Any, Few, Blocks}
-use Rattle.fond_cert.specs.Sections.{sections}
-use Rattle.fond_cert.specs.Items.{IsReadPair, IsReadRule, IsReadItem}
-use Rattle.fond_cert.specs.Filled.{pair_of, fair_of, unfair_of, goal_item_of, rule_item_of}
-use Rattle.fond_cert.specs.Spellings.{Meanings, Entry, all_layers, entries, lines_then, header, no_parts, parts_of, cert_lines}
+use Rattle.fond_cert.specs.Sections.{sections, kind_document}
+use Rattle.fond_cert.specs.Items.{IsReadPair, IsReadRule, IsReadItem, IsRowOf}
+use Rattle.fond_cert.specs.Filled.{pair_of, fair_of, unfair_of, goal_item_of, rule_item_of, row_of}
+use Rattle.fond_cert.specs.Spellings.{Meanings, Entry, all_layers, entries, lines_then, header, no_parts, Content, document_of, parts_of, content_lines}
 
--- the lines of a draft between the header and the last line of a certificate of this kind
+-- the lines of a draft between the header and the last line of a text of this kind
 abbrev pub draft_lines : Task → Kind → Draft → List Line
 draft_lines task kind draft = lines_then task draft (sections kind) []
 
@@ -36,11 +36,13 @@ order g.Rule = 20
 order g.Item = 30
 order g.Reach = 40
 order g.Start = 50
+order g.Row = 60
 
 -- whether a group is that of a section of few lines, fewer than 2^32
 abbrev pub is_few : Group → Bool
 is_few g.Rule = true
 is_few g.Item = true
+is_few g.Row = true
 is_few group = false
 
 -- how many entries of a group a draft has
@@ -56,6 +58,7 @@ IsEntryOf task g.Rule rule = IsReadRule task rule
 IsEntryOf task g.Item item = IsReadItem task item
 IsEntryOf task g.Reach reach = reach < 2 ^ 64
 IsEntryOf task g.Start start = start < 2 ^ 32
+IsEntryOf task g.Row row = IsRowOf task row
 
 -- entries of a group belong to a task: each does, and of a group of few lines there are fewer than 2^32
 abbrev pub AreEntriesOf : Task → (group : Group) → List (Entry group) → Type 0
@@ -80,6 +83,7 @@ with_entry g.Rule draft rule = record (closed draft) { rules = draft.rules ++ (r
 with_entry g.Item draft item = record (closed draft) { items = draft.items ++ (item ∷ []) }
 with_entry g.Reach draft reach = record (closed draft) { reach = Some reach }
 with_entry g.Start draft start = record (closed draft) { start = Some start }
+with_entry g.Row draft row = record (closed draft) { rows = draft.rows ++ (row ∷ []) }
 
 -- a draft with what a line of a kind makes of these meanings; a header or the last line adds nothing and closes the layer that is
 -- being read
@@ -93,6 +97,7 @@ grown draft k.GoalItem meanings = with_entry g.Item draft (goal_item_of meanings
 grown draft k.RuleItem meanings = with_entry g.Item draft (rule_item_of meanings)
 grown draft k.Reach meanings = with_entry g.Reach draft meanings.0
 grown draft k.Start meanings = with_entry g.Start draft meanings.0
+grown draft k.Row meanings = with_entry g.Row draft (row_of meanings)
 grown draft kind meanings = closed draft
 
 -- a text is a line of a kind that is not refused, and makes one draft of another
@@ -111,7 +116,7 @@ abbrev pub has_order : ℕ → List Section → Bool
 has_order n [] = false
 has_order n (section ∷ sections) = nat_eq (order_of section) n || has_order n sections
 
--- a draft has no lines of groups that certificates of this kind do not have
+-- a draft has no lines of groups that texts of this kind do not have
 abbrev pub HasOnly : Kind → Draft → Type 0
 HasOnly kind draft = (group : Group) → has_order (order group) (sections kind) ≡ false → count_of group draft ≡ 0
 
@@ -132,18 +137,19 @@ abbrev pub HasReached : List Section → Draft → ℕ → ℕ → Type 0
 HasReached [] draft lines inner = ⊥
 HasReached (section ∷ later) draft lines inner = IsCounted section draft lines inner × HasNoneAfter section draft
 
--- a draft has these lines, the counts of the section that is due, and no lines that may not precede what is due; if nothing is due, it
--- has the parts and the lines of a certificate
-abbrev pub FitsDue : Task → Due → Draft → List Line → Type 0
-FitsDue task HeaderDue draft lines = (draft ≡ no_parts) × (lines ≡ [])
-FitsDue task (SectionDue kind at count inner) draft lines =
-    (lines ≡ header task kind ∷ draft_lines task kind draft) × HasOnly kind draft × HasReached (drop at (sections kind)) draft count inner
-FitsDue task NothingDue draft lines = (cert : Cert) × (draft ≡ parts_of cert) × (lines ≡ cert_lines task cert)
+-- a draft of a document has these lines, the counts of the section that is due, and no lines that may not precede what is due; if
+-- nothing is due, it has the parts and the lines of a content of this document
+abbrev pub FitsDue : Document → Task → Due → Draft → List Line → Type 0
+FitsDue document task (HeaderDue own) draft lines = (draft ≡ no_parts) × (lines ≡ []) × (own ≡ document)
+FitsDue document task (SectionDue kind at count inner) draft lines =
+    (lines ≡ header task kind ∷ draft_lines task kind draft) × HasOnly kind draft × HasReached (drop at (sections kind)) draft count inner × (kind_document kind ≡ document)
+FitsDue document task NothingDue draft lines = (content : Content) × (draft ≡ parts_of content) × (lines ≡ content_lines task content) × (document_of content ≡ document)
 
--- a draft has room for the rule or the item that a line of a kind makes, if it makes one
+-- a draft has room for the rule, the item or the row that a line of a kind makes, if it makes one
 abbrev pub HasRoom : LineKind → Draft → Type 0
 HasRoom k.FairRule draft = length draft.rules < 2 ^ 32 - 1
 HasRoom k.UnfairRule draft = length draft.rules < 2 ^ 32 - 1
 HasRoom k.GoalItem draft = length draft.items < 2 ^ 32 - 1
 HasRoom k.RuleItem draft = length draft.items < 2 ^ 32 - 1
+HasRoom k.Row draft = length draft.rows < 2 ^ 32 - 1
 HasRoom kind draft = ⊤

@@ -1,9 +1,11 @@
--- The fault of a text that is no certificate: its code and its byte.
+-- The fault of a text that is no certificate, or no table: its code and its byte.
 use Rattle.std.specs.Prelude.{◌≡◌, ◌≢◌, ◌⊎◌, ℕ, ◌+◌, List, [], ◌∷◌, ◌++◌, Some, None, length, codes}
 use Rattle.fond_cert.specs.declared.code.TheConstants.{OUT_OF_FORM}
 use Rattle.fond_task.specs.declared.task.Task.{Task}
 use Rattle.fond_form.specs.Forms.{Line, line_text, IsProper}
 use Rattle.fond_form.specs.Feeds.{HasNoFeed}
+use Rattle.fond_cert.specs.declared.due.Document.{Document}
+use Rattle.fond_cert.specs.declared.due.Document.TheVariants.{Certificate, Table}
 use Rattle.fond_cert.specs.declared.due.Due.{Due}
 use Rattle.fond_cert.specs.declared.due.Due.TheVariants.{Header as HeaderDue, Nothing as NothingDue}
 use Rattle.fond_cert.specs.Sections.{due_after}
@@ -41,13 +43,21 @@ abbrev pub IsRefusedAt : Task → Due → List ℕ → ℕ → ℕ → Type 0
 IsRefusedAt task NothingDue rest code at = (rest ≢ []) × (code ≡ OUT_OF_FORM) × (at ≡ 0)
 IsRefusedAt task due rest code at = IsRefusedRest task due rest code at
 
--- a text has a fault at a byte: after lines that are right, the rest is refused there
-pub record IsCertFault (task : Task) (text : List ℕ) (code byte : ℕ) : Type 0 where
+-- a text that is to spell a document has a fault at a byte: after lines that are right, the rest is refused there
+pub record IsFaultAs (document : Document) (task : Task) (text : List ℕ) (code byte : ℕ) : Type 0 where
   pub lines : List Line
   pub due : Due
-  pub lead : Lead task HeaderDue lines due
+  pub lead : Lead task (HeaderDue document) lines due
   pub rest : List ℕ
   pub split : text ≡ lines_text lines ++ rest
   pub at : ℕ
   pub refused : IsRefusedAt task due rest code at
   pub byte_is : byte ≡ length (lines_text lines) + at
+
+-- a text that is no certificate has a fault at a byte
+abbrev pub IsCertFault : Task → List ℕ → ℕ → ℕ → Type 0
+IsCertFault = IsFaultAs Certificate
+
+-- a text that is no table has a fault at a byte
+abbrev pub IsTableFault : Task → List ℕ → ℕ → ℕ → Type 0
+IsTableFault = IsFaultAs Table

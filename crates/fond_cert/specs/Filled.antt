@@ -5,6 +5,7 @@ use Rattle.fond_task.specs.declared.rule.Rule.{Rule}
 use Rattle.fond_task.specs.declared.rule.Targets.TheVariants.{One, All}
 use Rattle.fond_policy.specs.declared.item.Item.{Item}
 use Rattle.fond_policy.specs.declared.item.Way.TheVariants.{Goal as ToGoal, Rule as ByRule}
+use Rattle.fond_rules.specs.declared.table.TableRow.{TableRow}
 use Rattle.fond_cert.specs.declared.values.LineValues.{LineValues}
 use Rattle.fond_cert.specs.Spellings.{Meaning, Meanings}
 use Rattle.fond_form.specs.declared.table.LineKind.{LineKind}
@@ -56,3 +57,7 @@ goal_item_of (cube, end) = record { cube = cube; way = ToGoal }
 -- the item with a rule that these meanings give
 abbrev pub rule_item_of : Meanings (form k.RuleItem) → Item
 rule_item_of (rule, (numbers, (cube, end))) = record { cube = cube; way = ByRule rule numbers }
+
+-- the row that these meanings give
+abbrev pub row_of : Meanings (form k.Row) → TableRow
+row_of (act, (cond, end)) = record { cond = cond; act = act }

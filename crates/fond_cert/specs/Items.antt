@@ -1,9 +1,10 @@
--- Pairs, rules and items, one by one, that belong to a task.
+-- Pairs, rules, items and rows, one by one, that belong to a task.
 use Rattle.std.specs.Prelude.{◌≡◌, ◌<◌, length}
 use Rattle.fond_task.specs.declared.task.Task.{Task}
 use Rattle.fond_task.specs.declared.rule.Pair.{Pair}
 use Rattle.fond_task.specs.declared.rule.Rule.{Rule}
 use Rattle.fond_rules.specs.Belongs.{HasTarget}
+use Rattle.fond_rules.specs.declared.table.TableRow.{TableRow}
 use Rattle.fond_policy.specs.declared.item.Item.{Item}
 use Rattle.fond_policy.specs.Belongs.{HasNumber}
 use Rattle.fond_policy.specs.Sizes.{IsSmallPair, AreSmallTargets, IsSmallWay}
@@ -27,3 +28,7 @@ IsReadRule task rule = (length rule.cond ≡ length task.atoms) × (rule.act < l
 -- what reading an item ensures: it belongs to the task, and its numbers are small
 abbrev pub IsReadItem : Task → Item → Type 0
 IsReadItem task item = (length item.cube ≡ length task.atoms) × HasNumber item.way × IsSmallWay item.way
+
+-- a row belongs to a task: its condition is over the task's atoms, and the task has its action
+abbrev pub IsRowOf : Task → TableRow → Type 0
+IsRowOf task row = (length row.cond ≡ length task.atoms) × (row.act < length task.acts)

@@ -19,7 +19,7 @@ use Rattle.fond_form.specs.Lines.{group_text, spaced, sign_text, literals_text}
 use Rattle.fond_form.specs.Forms.{Line, line_text}
 use Rattle.fond_cert.specs.declared.due.Group.{Group}
 use Rattle.fond_cert.specs.declared.due.Group.TheVariants as g
-use Rattle.fond_cert.specs.Spellings.{act_leaves, target_word, written_cube, cube_line, layer_lines, Entry, entry_line, lines_text}
+use Rattle.fond_cert.specs.Spellings.{act_leaves, target_word, written_cube, cube_line, layer_lines, row_line, Entry, entry_line, lines_text}
 
 -- the text of an atom's literal, if there is one
 abbrev pub atom_literal_text : Labels → Atom → Option Bool → List ℕ
@@ -85,3 +85,4 @@ entry_text task g.Rule = rule_text task
 entry_text task g.Item = item_text task
 entry_text task g.Reach = reach_text
 entry_text task g.Start = start_text
+entry_text task g.Row = λ row. fed (row_line task row)

@@ -4,6 +4,7 @@ use Rattle.fond_task.specs.declared.task.Task.{Task}
 use Rattle.fond_policy.specs.declared.cert.Cert.{Cert}
 use Rattle.fond_policy.specs.declared.cert.Cert.TheVariants.{Policy, Refusal, Covered}
 use Rattle.fond_cert.specs.declared.draft.Draft.{Draft}
+use Rattle.fond_cert.specs.declared.due.Document.{Document}
 use Rattle.fond_cert.specs.declared.due.Due.{Due}
 use Rattle.fond_cert.specs.declared.error.CertError.{CertError}
 use Rattle.fond_cert.specs.declared.error.CertError.TheVariants.{Refused as RefusedText, NoMemory as WithoutMemory}
@@ -13,20 +14,20 @@ use Rattle.fond_form.specs.declared.table.LineKind.{LineKind}
 use Rattle.fond_form.specs.Forms.{Line}
 use Rattle.fond_cert.specs.Drafts.{IsDraftOf, IsGrown, FitsDue}
 use Rattle.fond_cert.specs.Sections.{due_after}
-use Rattle.fond_cert.specs.Spellings.{parts_of, spelling}
+use Rattle.fond_cert.specs.Spellings.{Content, document_of, parts_of, content_lines, lines_text}
 
--- a draft belongs to a task and fits what is due
+-- a draft belongs to a task and fits what is due, in some document
 abbrev pub IsReady : Task → Due → Draft → Type 0
-IsReady task due draft = IsDraftOf task draft × ((lines : List Line) × FitsDue task due draft lines)
+IsReady task due draft = IsDraftOf task draft × ((document : Document) × (lines : List Line) × FitsDue document task due draft lines)
 
 -- a piece of text is a line that is allowed, after which this is due, and which makes one draft of another
 abbrev pub IsTaken : Task → Due → Draft → List ℕ → Due → Draft → Type 0
 IsTaken task due before piece next after =
     (kind : LineKind) × (due_after due kind ≡ Some next) × IsGrown task kind piece before after
 
--- a text is that of a certificate whose parts a draft has
-abbrev pub IsWhole : Task → List ℕ → Draft → Type 0
-IsWhole task text draft = (cert : Cert) × (draft ≡ parts_of cert) × (text ≡ spelling task cert)
+-- a text is that of a content of this document whose parts a draft has
+abbrev pub IsWhole : Document → Task → List ℕ → Draft → Type 0
+IsWhole document task text draft = (content : Content) × (draft ≡ parts_of content) × (text ≡ lines_text (content_lines task content)) × (document_of content ≡ document)
 
 -- the certificate of a draft with this reach number, or else with this start number, or else the refusal
 abbrev pub cert_by : Draft → Option ℕ → Option ℕ → Cert

@@ -6,7 +6,7 @@ use Rattle.fond_cert.specs.declared.error.LineError.{LineError}
 use Rattle.fond_cert.specs.declared.error.LineError.TheVariants.{Refused as RefusedLine, NoMemory}
 use Rattle.fond_cert.specs.Words.{Refused}
 
--- an error that refuses a certificate reports a code and a byte of which this holds; memory may run out at any time
+-- an error that refuses a text reports a code and a byte of which this holds; memory may run out at any time
 abbrev pub CertRefuses : (ℕ → ℕ → Type 0) → CertError → Type 0
 CertRefuses holds (RefusedText code byte) = holds code byte
 CertRefuses holds WithoutMemory = ⊤

@@ -1,22 +1,31 @@
--- The sections of certificates as a table, and what is due after a line.
+-- The sections of each kind of text, as data, and what is due after a line.
 use Rattle.std.specs.Prelude.{ℕ, ◌+◌, ◌^◌, ◌&&◌, ◌==◌, nat_lt, Bool, true, false, if◌then◌else◌, List, [], ◌∷◌, drop, Option, Some, None}
+use Rattle.fond_cert.specs.declared.due.Document.{Document}
+use Rattle.fond_cert.specs.declared.due.Document.TheVariants.{Certificate, Table}
 use Rattle.fond_cert.specs.declared.due.Due.{Due}
 use Rattle.fond_cert.specs.declared.due.Due.TheVariants.{Header as HeaderDue, Section as SectionDue, Nothing as NothingDue}
 use Rattle.fond_cert.specs.declared.due.Evidence.TheVariants.{Reach as ByReach, Cover as ByCover}
 use Rattle.fond_cert.specs.declared.due.Group.{Group}
 use Rattle.fond_cert.specs.declared.due.Group.TheVariants as g
 use Rattle.fond_cert.specs.declared.due.Kind.{Kind}
-use Rattle.fond_cert.specs.declared.due.Kind.TheVariants.{Policy as OfPolicy, Refusal as OfRefusal}
+use Rattle.fond_cert.specs.declared.due.Kind.TheVariants.{Policy as OfPolicy, Refusal as OfRefusal, Table as OfTable}
 use Rattle.fond_cert.specs.declared.due.Section.{Section}
 use Rattle.fond_cert.specs.declared.due.Section.TheVariants.{One, Any, Few, Blocks}
 use Rattle.fond_form.specs.declared.table.LineKind.{LineKind}
 use Rattle.fond_form.specs.declared.table.LineKind.TheVariants as k
 
--- the sections of a certificate, between its header and its last line
+-- the sections of a text of a kind, between its header and its last line
 abbrev pub sections : Kind → List Section
 sections (OfPolicy ByReach) = Blocks g.Layer g.Cube ∷ Any g.Pair ∷ Few g.Rule ∷ One g.Reach ∷ []
 sections (OfPolicy ByCover) = Blocks g.Layer g.Cube ∷ Any g.Pair ∷ Few g.Rule ∷ Few g.Item ∷ One g.Start ∷ []
 sections OfRefusal = Blocks g.Layer g.Cube ∷ []
+sections OfTable = Few g.Row ∷ []
+
+-- the document that texts of a kind spell
+abbrev pub kind_document : Kind → Document
+kind_document (OfPolicy evidence) = Certificate
+kind_document OfRefusal = Certificate
+kind_document OfTable = Table
 
 -- whether a kind of line belongs to a group
 abbrev pub is_in : Group → LineKind → Bool
@@ -29,6 +38,7 @@ is_in g.Item k.GoalItem = true
 is_in g.Item k.RuleItem = true
 is_in g.Reach k.Reach = true
 is_in g.Start k.Start = true
+is_in g.Row k.Row = true
 is_in group kind = false
 
 -- what is due next, if this count is below 2^32
@@ -66,9 +76,10 @@ after_sections cert at lines inner (section ∷ sections) kind =
 
 -- what is due after a line of a kind, if it is allowed at its place
 abbrev pub due_after : Due → LineKind → Option Due
-due_after HeaderDue k.PolicyHeader = Some (SectionDue (OfPolicy ByReach) 0 0 0)
-due_after HeaderDue k.CoverHeader = Some (SectionDue (OfPolicy ByCover) 0 0 0)
-due_after HeaderDue k.RefusalHeader = Some (SectionDue OfRefusal 0 0 0)
-due_after HeaderDue kind = None
+due_after (HeaderDue Certificate) k.PolicyHeader = Some (SectionDue (OfPolicy ByReach) 0 0 0)
+due_after (HeaderDue Certificate) k.CoverHeader = Some (SectionDue (OfPolicy ByCover) 0 0 0)
+due_after (HeaderDue Certificate) k.RefusalHeader = Some (SectionDue OfRefusal 0 0 0)
+due_after (HeaderDue Table) k.TableHeader = Some (SectionDue OfTable 0 0 0)
+due_after (HeaderDue document) kind = None
 due_after (SectionDue cert at lines inner) kind = after_sections cert at lines inner (drop at (sections cert)) kind
 due_after NothingDue kind = None

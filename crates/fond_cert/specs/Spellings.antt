@@ -1,4 +1,4 @@
--- How certificates are written: the one spelling of each.
+-- How certificates and tables are written: the one spelling of each.
 use Rattle.std.specs.Prelude.{ℕ, ◌<◌, ◌≡◌, ◌^◌, List, [], ◌∷◌, ◌++◌, Bool, Option, Some, None, All as Each, codes, length, map, slice_get, ⊤}
 use Rattle.std.specs.Fmt.{decimal}
 use Rattle.std.specs.List.{enumerate_from, filter_map, flat_map}
@@ -22,12 +22,15 @@ use Rattle.fond_policy.specs.declared.item.Way.TheVariants.{Goal as ToGoal, Rule
 use Rattle.fond_policy.specs.declared.cert.Cert.{Cert}
 use Rattle.fond_policy.specs.declared.cert.Cert.TheVariants.{Policy, Refusal, Covered}
 use Rattle.fond_policy.specs.Sizes.{IsSmallTarget}
+use Rattle.fond_rules.specs.declared.table.TableRow.{TableRow}
 use Rattle.fond_cert.specs.declared.draft.Draft.{Draft}
+use Rattle.fond_cert.specs.declared.due.Document.{Document}
+use Rattle.fond_cert.specs.declared.due.Document.TheVariants.{Certificate, Table}
 use Rattle.fond_cert.specs.declared.due.Evidence.TheVariants.{Reach as ByReach, Cover as ByCover}
 use Rattle.fond_cert.specs.declared.due.Group.{Group}
 use Rattle.fond_cert.specs.declared.due.Group.TheVariants as g
 use Rattle.fond_cert.specs.declared.due.Kind.{Kind}
-use Rattle.fond_cert.specs.declared.due.Kind.TheVariants.{Policy as OfPolicy, Refusal as OfRefusal}
+use Rattle.fond_cert.specs.declared.due.Kind.TheVariants.{Policy as OfPolicy, Refusal as OfRefusal, Table as OfTable}
 use Rattle.fond_cert.specs.declared.due.Section.{Section}
 use Rattle.fond_cert.specs.declared.due.Section.TheVariants.{One as OneOf, Any, Few, Blocks}
 use Rattle.fond_cert.specs.Sections.{sections}
@@ -154,11 +157,15 @@ reach_line task reach = spelled_line task k.Reach (reach, tt)
 abbrev pub start_line : Task → ℕ → Line
 start_line task start = spelled_line task k.Start (start, tt)
 
+-- the line of a row
+abbrev pub row_line : Task → TableRow → Line
+row_line task row = spelled_line task k.Row (row.act, (row.cond, tt))
+
 -- the last line
 abbrev pub end_line : Task → Line
 end_line task = spelled_line task k.End (tt, tt)
 
--- what one line of a group stands for, or the lines of a layer: a layer, a cube, a pair, a rule, an item, or a number
+-- what one line of a group stands for, or the lines of a layer: a layer, a cube, a pair, a rule, an item, a number, or a row
 abbrev pub Entry : Group → Type 0
 Entry g.Layer = List CubeView
 Entry g.Cube = CubeView
@@ -167,6 +174,7 @@ Entry g.Rule = Rule
 Entry g.Item = Item
 Entry g.Reach = ℕ
 Entry g.Start = ℕ
+Entry g.Row = TableRow
 
 -- the line of an entry; of a layer, its first line
 abbrev pub entry_line : Task → (group : Group) → Entry group → Line
@@ -177,6 +185,7 @@ entry_line task g.Rule = rule_line task
 entry_line task g.Item = item_line task
 entry_line task g.Reach = reach_line task
 entry_line task g.Start = start_line task
+entry_line task g.Row = row_line task
 
 -- layers, and after them the one that is being read, if there is one
 abbrev pub with_current : List (List CubeView) → Option (List CubeView) → List (List CubeView)
@@ -201,6 +210,7 @@ entries g.Rule draft = draft.rules
 entries g.Item draft = draft.items
 entries g.Reach draft = listed draft.reach
 entries g.Start draft = listed draft.start
+entries g.Row draft = draft.rows
 
 -- the lines of a section of a draft, entry by entry; blocks are always the layers with their cubes
 abbrev pub section_lines : Task → Draft → Section → List Line
@@ -214,31 +224,52 @@ abbrev pub lines_then : Task → Draft → List Section → List Line → List L
 lines_then task draft [] further = further
 lines_then task draft (section ∷ later) further = section_lines task draft section ++ lines_then task draft later further
 
--- the header of a certificate
+-- the header of a text of a kind
 abbrev pub header : Task → Kind → Line
 header task (OfPolicy ByReach) = spelled_line task k.PolicyHeader (tt, tt)
 header task (OfPolicy ByCover) = spelled_line task k.CoverHeader (tt, tt)
 header task OfRefusal = spelled_line task k.RefusalHeader (tt, tt)
+header task OfTable = spelled_line task k.TableHeader (tt, tt)
 
 -- a draft without parts
 abbrev pub no_parts : Draft
-no_parts = record { layers = []; current = None; pairs = []; rules = []; items = []; reach = None; start = None }
+no_parts = record { layers = []; current = None; pairs = []; rules = []; items = []; reach = None; start = None; rows = [] }
 
--- the parts of a certificate, as a draft that has all of them
-abbrev pub parts_of : Cert → Draft
-parts_of (Policy layers pairs rules reach) = record no_parts { layers = layers; pairs = pairs; rules = rules; reach = Some reach }
-parts_of (Refusal layers) = record no_parts { layers = layers }
-parts_of (Covered layers pairs rules items start) = record no_parts { layers = layers; pairs = pairs; rules = rules; items = items; start = Some start }
+-- what a text spells: a certificate or a table
+pub data Content : Type 0 where
+  certificate : Cert → Content
+  table : List TableRow → Content
 
--- the kind of a certificate: a policy with its sort of evidence, or a refusal
-abbrev pub kind_of : Cert → Kind
-kind_of (Policy layers pairs rules reach) = OfPolicy ByReach
-kind_of (Refusal layers) = OfRefusal
-kind_of (Covered layers pairs rules items start) = OfPolicy ByCover
+-- the document of a content
+abbrev pub document_of : Content → Document
+document_of (Content.certificate cert) = Certificate
+document_of (Content.table rows) = Table
 
--- the lines of a certificate: its header, those of its sections, and the last line
+-- the parts of a certificate or a table, as a draft that has all of them
+abbrev pub parts_of : Content → Draft
+parts_of (Content.certificate (Policy layers pairs rules reach)) = record no_parts { layers = layers; pairs = pairs; rules = rules; reach = Some reach }
+parts_of (Content.certificate (Refusal layers)) = record no_parts { layers = layers }
+parts_of (Content.certificate (Covered layers pairs rules items start)) = record no_parts { layers = layers; pairs = pairs; rules = rules; items = items; start = Some start }
+parts_of (Content.table rows) = record no_parts { rows = rows }
+
+-- the kind of a content: a policy with its sort of evidence, a refusal, or a table
+abbrev pub kind_of : Content → Kind
+kind_of (Content.certificate (Policy layers pairs rules reach)) = OfPolicy ByReach
+kind_of (Content.certificate (Refusal layers)) = OfRefusal
+kind_of (Content.certificate (Covered layers pairs rules items start)) = OfPolicy ByCover
+kind_of (Content.table rows) = OfTable
+
+-- the lines of a content: its header, those of its sections, and the last line
+abbrev pub content_lines : Task → Content → List Line
+content_lines task content = header task (kind_of content) ∷ lines_then task (parts_of content) (sections (kind_of content)) (end_line task ∷ [])
+
+-- the lines of a certificate
 abbrev pub cert_lines : Task → Cert → List Line
-cert_lines task cert = header task (kind_of cert) ∷ lines_then task (parts_of cert) (sections (kind_of cert)) (end_line task ∷ [])
+cert_lines task cert = content_lines task (Content.certificate cert)
+
+-- the lines of a table
+abbrev pub table_lines : Task → List TableRow → List Line
+table_lines task rows = content_lines task (Content.table rows)
 
 -- the text of lines, each with a line feed after it
 abbrev pub lines_text : List Line → List ℕ
@@ -247,3 +278,7 @@ lines_text lines = flat_map (λ line. line_text line ++ codes "\n") lines
 -- the text of a certificate
 abbrev pub spelling : Task → Cert → List ℕ
 spelling task cert = lines_text (cert_lines task cert)
+
+-- the text of a table
+abbrev pub table_spelling : Task → List TableRow → List ℕ
+table_spelling task rows = lines_text (table_lines task rows)

@@ -1,12 +1,13 @@
-//! The parts of a certificate that were read so far.
+//! The parts of a certificate or a table that were read so far.
 
 use fond_layers::layers::{Layer, Layers};
 use fond_policy::items::Items;
 use fond_rules::pairs::Pairs;
 use fond_rules::rules::Rules;
+use fond_rules::table::Table;
 
-/// The layers, pairs, rules and items that were read so far, and the reach number or the start number. The layer whose cubes
-/// are being read is kept apart until another line follows them.
+/// The layers, pairs, rules and items that were read so far, and the reach number or the start number; or the rows of a table. The
+/// layer whose cubes are being read is kept apart until another line follows them.
 #[derive(Drop)]
 pub struct Draft {
     pub layers: Layers,
@@ -16,4 +17,5 @@ pub struct Draft {
     pub items: Items,
     pub reach: Option<u64>,
     pub start: Option<u32>,
+    pub rows: Table,
 }

@@ -1,4 +1,4 @@
-//! What is due at a place of a certificate, and the sections of certificates as a table.
+//! What is due at a place of a text, and the sections of each kind of text, as data.
 
 ghost use Rattle.fond_cert.specs.Sections.{sections};
 ghost use Rattle.std.specs.Prelude.{◌≡◌};
@@ -10,11 +10,19 @@ pub enum Evidence {
     Cover,
 }
 
-/// Whether a certificate is a policy or a refusal.
+/// What a text is to spell.
+#[derive(Clone, Copy)]
+pub enum Document {
+    Certificate,
+    Table,
+}
+
+/// Whether a text is that of a policy, a refusal or a table.
 #[derive(Clone, Copy)]
 pub enum Kind {
     Policy { evidence: Evidence },
     Refusal,
+    Table,
 }
 
 /// Kinds of lines that may take each other's places.
@@ -27,6 +35,7 @@ pub enum Group {
     Item,
     Reach,
     Start,
+    Row,
 }
 
 /// Lines that belong together: one of a group; any number of them, or fewer than 2^32; or fewer than 2^32 blocks, each of which is a
@@ -39,11 +48,14 @@ pub enum Section {
     Blocks(Group, Group),
 }
 
-/// What is due: the header; a line of the section at this position or of a later one, or the last line, after this many lines or
-/// blocks of the section (0 if it may have any number of lines), the last block with this many inner lines; or nothing more.
+/// What is due: the header of a document; a line of the section at this position or of a later one, or the last line, after this
+/// many lines or blocks of the section (0 if it may have any number of lines), the last block with this many inner lines; or nothing
+/// more.
 #[derive(Clone, Copy)]
 pub enum Due {
-    Header,
+    Header {
+        document: Document,
+    },
     Section {
         kind: Kind,
         at: usize,
@@ -53,7 +65,7 @@ pub enum Due {
     Nothing,
 }
 
-/// The sections of a certificate, between its header and its last line.
+/// The sections of a text of this kind, between its header and its last line.
 pub(crate) fn sections(kind: Kind) -> &'static [Section]
     ensures { result.now ≡ sections kind }
 {
@@ -76,5 +88,6 @@ pub(crate) fn sections(kind: Kind) -> &'static [Section]
             Section::One(Group::Start),
         ],
         Kind::Refusal => &[Section::Blocks(Group::Layer, Group::Cube)],
+        Kind::Table => &[Section::Few(Group::Row)],
     }
 }

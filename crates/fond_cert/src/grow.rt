@@ -14,7 +14,7 @@ ghost use Rattle.std.specs.Prelude.{◌≡◌, ◌<◌, ◌-◌, ◌^◌, List, 
 
 use crate::draft::Draft;
 use crate::error::LineError;
-use crate::item::{cube_of, fair_of, goal_item_of, pair_of, rule_item_of, unfair_of};
+use crate::item::{cube_of, fair_of, goal_item_of, pair_of, row_of, rule_item_of, unfair_of};
 use crate::reading::read_line;
 use crate::task_index::TaskIndex;
 use crate::values::LineValues;
@@ -24,6 +24,7 @@ use fond_policy::item::Item;
 use fond_policy::items::Items;
 use fond_rules::pairs::Pairs;
 use fond_rules::rules::Rules;
+use fond_rules::table::{Table, TableRow};
 use fond_state::cube::Cube;
 use fond_task::rule::{Pair, Rule};
 use fond_text::fault::NoMemory;
@@ -42,6 +43,7 @@ impl Draft {
             items: Items::new(alloc),
             reach: None,
             start: None,
+            rows: Table::new(alloc),
         }
     }
 
@@ -132,6 +134,17 @@ impl Draft {
         Ok(())
     }
 
+    /// Adds a row.
+    fn add_row(&mut self, row: TableRow) -> Result<(), NoMemory>
+        requires few { length (all_layers self.old) < 2 ^ 32 }
+        requires few_cubes { All (λ (layer : List CubeView). length layer < 2 ^ 32) (all_layers self.old) }
+        requires room { length self.old.rows < 2 ^ 32 - 1 }
+        ensures { OnOk result (self.new ≡ with_entry g.Row self.old row) }
+    {
+        self.close()?;
+        self.rows.push(row)
+    }
+
     /// Adds what a line of the kind makes of its values.
     fn take(
         &mut self,
@@ -147,7 +160,7 @@ impl Draft {
     {
         match kind {
             LineKind::PolicyHeader | LineKind::RefusalHeader => self.close(),
-            LineKind::CoverHeader | LineKind::End => self.close(),
+            LineKind::CoverHeader | LineKind::TableHeader | LineKind::End => self.close(),
             LineKind::Layer => self.add_layer(alloc),
             LineKind::Cube => self.add_cube(cube_of(values)),
             LineKind::Pair => self.add_pair(pair_of(values)),
@@ -157,6 +170,7 @@ impl Draft {
             LineKind::RuleItem => self.add_item(rule_item_of(alloc, values)),
             LineKind::Reach => self.add_reach(values.number(0)),
             LineKind::Start => self.add_start(values.short(0)),
+            LineKind::Row => self.add_row(row_of(values)),
         }
     }
 

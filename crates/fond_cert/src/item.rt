@@ -1,6 +1,6 @@
 //! What the values of a line make. No call takes memory.
 
-ghost use Rattle.fond_cert.specs.Filled.{Hold, pair_of as the_pair, fair_of as the_fair, unfair_of as the_unfair, goal_item_of as the_goal_item, rule_item_of as the_rule_item};
+ghost use Rattle.fond_cert.specs.Filled.{Hold, pair_of as the_pair, fair_of as the_fair, unfair_of as the_unfair, goal_item_of as the_goal_item, rule_item_of as the_rule_item, row_of as the_row};
 ghost use Rattle.fond_cert.specs.Spellings.{Meanings, AreOfTask};
 ghost use Rattle.fond_form.specs.Forms.{form};
 ghost use Rattle.fond_form.specs.declared.table.LineKind.TheVariants as k;
@@ -9,6 +9,7 @@ ghost use Rattle.std.specs.Prelude.{◌≡◌, ◌≢◌, None};
 
 use crate::values::LineValues;
 use fond_policy::item::{Item, Way};
+use fond_rules::table::TableRow;
 use fond_state::cube::Cube;
 use fond_task::rule::{Pair, Rule, Targets};
 use std::alloc::Global;
@@ -92,5 +93,16 @@ pub(crate) fn rule_item_of(alloc: Global, values: &mut LineValues) -> Item
             rule,
             items: values.take_items(alloc),
         },
+    }
+}
+
+/// The row of the line.
+pub(crate) fn row_of(values: &mut LineValues) -> TableRow
+    requires { (meanings : Meanings (form k.Row)) × Hold k.Row values.old meanings }
+    ensures { (task : Task) (meanings : Meanings (form k.Row)) → AreOfTask task (form k.Row) meanings → Hold k.Row values.old meanings → result ≡ the_row meanings }
+{
+    TableRow {
+        cond: cube_of(values),
+        act: values.act,
     }
 }

@@ -1,6 +1,6 @@
-//! The laws of the texts of certificates, each the contract of a function with an empty body.
+//! The laws of the texts of certificates and of tables, each the contract of a function with an empty body.
 
-ghost use Rattle.fond_cert.specs.Laws.{FaultsAreOne, SpellingsAreClean, SpellingsDiffer};
+ghost use Rattle.fond_cert.specs.Laws.{DocumentsDiffer, FaultsAreOne, SpellingsAreClean, SpellingsDiffer, TablesAreClean, TablesDiffer};
 
 /// Certificates that belong to a task and are spelled the same are the same: a text spells at most one.
 pub fn spellings_differ()
@@ -12,7 +12,23 @@ pub fn spellings_are_clean()
     ensures { SpellingsAreClean }
 {}
 
-/// A text has one fault at most: `read_cert` can refuse it with one code and at one byte only.
+/// A text has one fault at most as a certificate, and one as a table: `read_cert` and `read_table` can each refuse it with one code
+/// and at one byte only.
 pub fn faults_are_one()
     ensures { FaultsAreOne }
+{}
+
+/// Tables that belong to a task and are spelled the same are the same: a text spells at most one.
+pub fn tables_differ()
+    ensures { TablesDiffer }
+{}
+
+/// The spelling of a table that belongs to a task has no fault.
+pub fn tables_are_clean()
+    ensures { TablesAreClean }
+{}
+
+/// No text is that of a certificate and of a table: each is refused at its first byte where the other is to be read.
+pub fn documents_differ()
+    ensures { DocumentsDiffer }
 {}

@@ -1,6 +1,6 @@
-//! The text of certificates. A text is read as the certificate that it spells over the actions and atoms of a task, or
-//! refused with the code and the byte of its first fault; a certificate is printed in its one spelling, as a whole or in
-//! pieces. Whether a certificate is correct is left to others.
+//! The text of certificates and of tables. A text is read as the certificate or the table that it spells over the actions and atoms
+//! of a task, or refused with the code and the byte of its first fault; a certificate is printed in its one spelling, as a whole or
+//! in pieces. Whether a certificate is correct is left to others.
 #![tactic(auto)]
 
 pub mod code;

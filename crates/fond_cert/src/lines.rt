@@ -1,7 +1,7 @@
-//! Reading a certificate line by line.
+//! Reading a certificate or a table line by line.
 
 ghost use Rattle.fond_cert.specs.Drafts.{IsDraftOf};
-ghost use Rattle.fond_cert.specs.Faults.{IsCertFault, IsRefusedLine};
+ghost use Rattle.fond_cert.specs.Faults.{IsFaultAs, IsRefusedLine};
 ghost use Rattle.fond_cert.specs.Progress.{IsReady, IsTaken, IsWhole, IsPlaced};
 ghost use Rattle.fond_cert.specs.Refusals.{LineRefuses, CertRefuses};
 ghost use Rattle.fond_cert.specs.Spellings.{no_parts};
@@ -10,7 +10,7 @@ ghost use Rattle.std.specs.Prelude.{◌≡◌, ◌+◌, ◌-◌, ◌≤◌, [], 
 
 use crate::code::OUT_OF_FORM;
 use crate::draft::Draft;
-use crate::due::Due;
+use crate::due::{Document, Due};
 use crate::error::{CertError, LineError};
 use crate::place::next_due;
 use crate::task_index::TaskIndex;
@@ -75,14 +75,15 @@ fn is_over(due: Due, rest: &[u8]) -> bool
 fn add_lines(
     alloc: Global,
     index: &TaskIndex,
+    document: Document,
     text: &[u8],
     draft: &mut Draft,
 ) -> Result<(), CertError>
     requires { draft.old ≡ no_parts }
-    ensures read { OnOk result (IsDraftOf index.now draft.new × IsWhole index.now text.now draft.new) }
-    ensures refused { IfErr result (CertRefuses (IsCertFault index.now text.now)) }
+    ensures read { OnOk result (IsDraftOf index.now draft.new × IsWhole document index.now text.now draft.new) }
+    ensures refused { IfErr result (CertRefuses (IsFaultAs document index.now text.now)) }
 {
-    let mut due = Due::Header;
+    let mut due = Due::Header { document };
     let mut rest = text;
     while let Some((piece, further)) = line_of(rest) {
         match take(alloc, index, draft, due, piece) {
@@ -100,13 +101,18 @@ fn add_lines(
     }
 }
 
-/// What the lines of the text make. Takes time in the length of the text, and in the number of the task's atoms for each
-/// cube, pair, rule and item; memory for what the lines make.
-pub(crate) fn read_lines(alloc: Global, index: &TaskIndex, text: &[u8]) -> Result<Draft, CertError>
-    ensures read { IfOk result (λ draft. IsDraftOf index.now draft × IsWhole index.now text.now draft) }
-    ensures refused { IfErr result (CertRefuses (IsCertFault index.now text.now)) }
+/// What the lines of the text make, which is to spell this document. Takes time in the length of the text, and in the number of the
+/// task's atoms for each cube, pair, rule, item and row; memory for what the lines make.
+pub(crate) fn read_lines(
+    alloc: Global,
+    index: &TaskIndex,
+    document: Document,
+    text: &[u8],
+) -> Result<Draft, CertError>
+    ensures read { IfOk result (λ draft. IsDraftOf index.now draft × IsWhole document index.now text.now draft) }
+    ensures refused { IfErr result (CertRefuses (IsFaultAs document index.now text.now)) }
 {
     let mut draft = Draft::new(alloc);
-    add_lines(alloc, index, text, &mut draft)?;
+    add_lines(alloc, index, document, text, &mut draft)?;
     Ok(draft)
 }

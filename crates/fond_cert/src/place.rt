@@ -1,11 +1,11 @@
-//! The lines that are allowed at a place of a certificate. Each call takes time in the number of sections, and no memory.
+//! The lines that are allowed at a place of a text. Each call takes time in the number of sections, and no memory.
 
 ghost use Rattle.fond_cert.specs.declared.due.Due.TheVariants.{Header as HeaderDue};
 ghost use Rattle.fond_cert.specs.Counts.{IsOneMore};
 ghost use Rattle.fond_cert.specs.Sections.{sections, is_in, after_in, may_end, after_sections, due_after};
 ghost use Rattle.std.specs.Prelude.{◌≡◌, ◌+◌, ◌<◌, ◌^◌, nat_lt, false, length, drop, MatchOption};
 
-use crate::due::{Due, Evidence, Group, Kind, Section, sections};
+use crate::due::{Document, Due, Evidence, Group, Kind, Section, sections};
 use fond_form::table::LineKind;
 
 /// One more than the count, if it is still below 2^32.
@@ -31,6 +31,7 @@ fn is_in(group: Group, line: LineKind) -> bool
         Group::Item => matches!(line, LineKind::GoalItem | LineKind::RuleItem),
         Group::Reach => matches!(line, LineKind::Reach),
         Group::Start => matches!(line, LineKind::Start),
+        Group::Row => matches!(line, LineKind::Row),
     }
 }
 
@@ -99,18 +100,19 @@ fn after_sections(
     }
 }
 
-/// What is due after the header.
-fn after_header(line: LineKind) -> Option<Due>
-    ensures { result ≡ due_after HeaderDue line }
+/// What is due after the header of a document.
+fn after_header(document: Document, line: LineKind) -> Option<Due>
+    ensures { result ≡ due_after (HeaderDue document) line }
 {
-    let kind = match line {
-        LineKind::PolicyHeader => Kind::Policy {
+    let kind = match (document, line) {
+        (Document::Certificate, LineKind::PolicyHeader) => Kind::Policy {
             evidence: Evidence::Reach,
         },
-        LineKind::CoverHeader => Kind::Policy {
+        (Document::Certificate, LineKind::CoverHeader) => Kind::Policy {
             evidence: Evidence::Cover,
         },
-        LineKind::RefusalHeader => Kind::Refusal,
+        (Document::Certificate, LineKind::RefusalHeader) => Kind::Refusal,
+        (Document::Table, LineKind::TableHeader) => Kind::Table,
         _ => return None,
     };
     Some(Due::Section {
@@ -121,7 +123,7 @@ fn after_header(line: LineKind) -> Option<Due>
     })
 }
 
-/// The sections of a certificate from this position on.
+/// The sections of a text of this kind from this position on.
 fn sections_from(kind: Kind, at: usize) -> &'static [Section]
     ensures rest { result.now ≡ drop at (sections kind) }
     ensures few { at + length result.now < 2 ^ 64 }
@@ -135,7 +137,7 @@ pub(crate) fn next_due(due: Due, line: LineKind) -> Option<Due>
     ensures { result ≡ due_after due line }
 {
     match due {
-        Due::Header => after_header(line),
+        Due::Header { document } => after_header(document, line),
         Due::Section {
             kind,
             at,

@@ -1,18 +1,21 @@
-//! Reading a certificate.
+//! Reading a certificate or a table.
 
 ghost use Rattle.fond_policy.specs.Belongs.{Belongs};
-ghost use Rattle.fond_cert.specs.Faults.{IsCertFault};
+ghost use Rattle.fond_cert.specs.Faults.{IsCertFault, IsTableFault};
 ghost use Rattle.fond_cert.specs.Progress.{cert_of};
 ghost use Rattle.fond_cert.specs.Refusals.{CertRefuses};
 ghost use Rattle.fond_policy.specs.Sizes.{HasSmallNumbers};
-ghost use Rattle.fond_cert.specs.Spellings.{spelling};
+ghost use Rattle.fond_cert.specs.Spellings.{spelling, table_spelling};
+ghost use Rattle.fond_rules.specs.Tables.{BelongAsRows};
 ghost use Rattle.std.specs.Prelude.{◌≡◌, IfOk, IfErr};
 
 use crate::draft::Draft;
+use crate::due::Document;
 use crate::error::CertError;
 use crate::lines::read_lines;
 use crate::task_index::TaskIndex;
 use fond_policy::cert::Cert;
+use fond_rules::table::Table;
 use fond_task::task::Task;
 use fond_text::fault::NoMemory;
 use std::alloc::Global;
@@ -50,7 +53,7 @@ fn read_with(alloc: Global, index: &TaskIndex, text: &[u8]) -> Result<Cert, Cert
     ensures read { IfOk result (λ cert. text.now ≡ spelling index.now cert) }
     ensures refused { IfErr result (CertRefuses (IsCertFault index.now text.now)) }
 {
-    let draft = read_lines(alloc, index, text)?;
+    let draft = read_lines(alloc, index, Document::Certificate, text)?;
     Ok(finish(draft))
 }
 
@@ -65,4 +68,26 @@ pub fn read_cert(alloc: Global, task: &Task, text: &[u8]) -> Result<Cert, CertEr
 {
     let index = TaskIndex::of(alloc, task)?;
     read_with(alloc, &index, text)
+}
+
+/// The table that a text spells, or the text's first fault.
+fn read_table_with(alloc: Global, index: &TaskIndex, text: &[u8]) -> Result<Table, CertError>
+    ensures belongs { IfOk result (λ table. BelongAsRows index.now table) }
+    ensures read { IfOk result (λ table. text.now ≡ table_spelling index.now table) }
+    ensures refused { IfErr result (CertRefuses (IsTableFault index.now text.now)) }
+{
+    let draft = read_lines(alloc, index, Document::Table, text)?;
+    Ok(draft.rows)
+}
+
+/// The table that a text spells, or the text's first fault (docs/CERTIFICATES.md). Takes time linear in the length of the text and
+/// in that of the names of all actions and atoms of the task, and for each row, in the number of atoms times the logarithm of that
+/// of the rows; memory for the table and the names.
+pub fn read_table(alloc: Global, task: &Task, text: &[u8]) -> Result<Table, CertError>
+    ensures belongs { IfOk result (λ table. BelongAsRows task.now table) }
+    ensures read { IfOk result (λ table. text.now ≡ table_spelling task.now table) }
+    ensures refused { IfErr result (CertRefuses (IsTableFault task.now text.now)) }
+{
+    let index = TaskIndex::of(alloc, task)?;
+    read_table_with(alloc, &index, text)
 }

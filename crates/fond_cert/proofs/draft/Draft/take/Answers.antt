@@ -1,7 +1,7 @@
 use Rattle.std.proofs.Common.{ap, refl, ◌∙◌, slice_get}
 use Rattle.fond_form.specs.declared.table.LineKind.TheVariants as k
 use Rattle.fond_cert.specs.declared.due.Group.TheVariants as g
-use Rattle.fond_cert.specs.Filled.{pair_of, fair_of, unfair_of, goal_item_of, rule_item_of}
+use Rattle.fond_cert.specs.Filled.{pair_of, fair_of, unfair_of, goal_item_of, rule_item_of, row_of}
 use Rattle.fond_cert.specs.declared.values.LineValues.{LineValues}
 use Rattle.fond_cert.proofs.Filled.{grown_by, same_some}
 use Rattle.fond_cert.proofs.draft.Draft.take.Goals as goal
@@ -29,3 +29,6 @@ returns-in-Reach c = rw c.in-Reach.is (grown_by g.Reach k.Reach (λ m. m.0) c.ar
 
 pub returns-in-Start : goal.returns-in-Start
 returns-in-Start c = rw c.in-Start.is (grown_by g.Start k.Start (λ m. m.0) c.args.self.now (λ m. refl) _ _ _ _ c.add_start.ensures (λ task m of hold. c.short.ensures m.0 (ap (λ (values : LineValues). slice_get values.numbers 0) hold) of.0))
+
+pub returns-in-Row : goal.returns-in-Row
+returns-in-Row c = rw c.in-Row.is (grown_by g.Row k.Row row_of c.args.self.now (λ m. refl) _ _ _ _ c.add_row.ensures c.row_of.ensures)
