@@ -1,4 +1,5 @@
 pub mod Choices
+pub mod Duels
 pub mod Lucky
 pub mod Runs
 pub mod Scripts

@@ -1,7 +1,8 @@
 -- What a policy reaches in a ground task, as a graph of states.
-use Rattle.std.specs.Prelude.{◌≡◌, ℕ, List, Bool, Some, IsTrue, slice_get, Contains}
-use Rattle.std.specs.List.{AllZip}
+use Rattle.std.specs.Prelude.{◌≡◌, ℕ, List, [], Bool, Some, IsTrue, length, slice_get, Contains}
+use Rattle.std.specs.List.{AllZip, flat_map}
 use Rattle.fond_text.specs.Lists.{AreDistinct}
+use Rattle.fond_games.specs.Renaming.{FirstUsed}
 use Rattle.fond_task.specs.declared.task.Act.{Act}
 use Rattle.fond_task.specs.declared.task.Entry.{Entry}
 use Rattle.fond_task.specs.declared.task.Task.{Task}
@@ -29,11 +30,17 @@ IsNode task policy states state Goal = IsGoal task state
 IsNode task policy states state Stuck = (¬ IsGoal task state) × ((number : ℕ) → policy state ≡ Some number → ¬ IsApplicable task state number)
 IsNode task policy states state (Acts number nexts) = (¬ IsGoal task state) × (policy state ≡ Some number) × LeadsEach task states state number nexts
 
--- a graph is that of a policy: its states are those that the policy reaches, each once, in any order but for the initial one, which is
--- the first; and each has its node
+-- the states to which the outcomes of a node lead, by their numbers
+abbrev pub numbers_after : Node → List ℕ
+numbers_after (Acts number nexts) = nexts
+numbers_after node = []
+
+-- a graph is that of a policy: its states are those that the policy reaches, each once: the initial one first, and the others in the order
+-- in which the outcomes of the nodes first lead to them; and each has its node
 pub record IsGraph (task : Task) (policy : Policy) (states : List (List Bool)) (nodes : List Node) : Type 0 where
   pub first : slice_get states 0 ≡ Some task.init
   pub once : AreDistinct states
   pub reached : (state : List Bool) → Contains states state → Reach task policy state
   pub all : (state : List Bool) → Reach task policy state → Contains states state
   pub told : AllZip (IsNode task policy states) states nodes
+  pub ordered : FirstUsed 1 (flat_map numbers_after nodes) (length states)
