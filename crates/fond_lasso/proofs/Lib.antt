@@ -2,3 +2,5 @@ pub mod Numbers
 pub mod Cycles
 pub mod Drawn
 pub mod Nodes
+pub mod Naming
+pub mod Told

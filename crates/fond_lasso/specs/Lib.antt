@@ -1,3 +1,4 @@
 pub mod Explained
 pub mod Flat
 pub mod Judged
+pub mod Ordered

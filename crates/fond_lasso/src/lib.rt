@@ -7,4 +7,5 @@ pub mod explain;
 pub mod finding;
 mod flat;
 mod judge;
+pub mod order;
 mod stem;
