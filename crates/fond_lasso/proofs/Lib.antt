@@ -4,3 +4,6 @@ pub mod Drawn
 pub mod Nodes
 pub mod Naming
 pub mod Told
+pub mod Listing
+pub mod Relisted
+pub mod Telling

@@ -2,3 +2,5 @@ pub mod Explained
 pub mod Flat
 pub mod Judged
 pub mod Ordered
+pub mod Listing
+pub mod Told

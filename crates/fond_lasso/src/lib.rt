@@ -9,3 +9,4 @@ mod flat;
 mod judge;
 pub mod order;
 mod stem;
+pub mod tell;
