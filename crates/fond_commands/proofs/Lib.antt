@@ -5,3 +5,4 @@ pub mod Lists
 pub mod Migrated
 pub mod Rejections
 pub mod Runs
+pub mod Explained

@@ -9,7 +9,7 @@ use Rattle.fond_ast.specs.States.{State}
 use Rattle.fond_ast.specs.Truths.{holds}
 use Rattle.fond_ground.specs.Texts.{state_text}
 use Rattle.fond_commands.specs.declared.status.Ending.{Ending}
-use Rattle.fond_commands.specs.declared.status.Ending.TheVariants.{Done, Refused, Rejected, Stopped}
+use Rattle.fond_commands.specs.declared.status.Ending.TheVariants.{Done, Refused, Rejected, Stopped, Undecided}
 
 -- a text that is to be written, and the ending once it is
 pub record Reply : Type 0 where
@@ -19,6 +19,10 @@ pub record Reply : Type 0 where
 -- the reply of one line
 abbrev pub line_reply : List ℕ → Ending → Reply
 line_reply line ending = record { text = line ++ codes "\n"; ending = ending }
+
+-- the reply that more states are reachable than a number
+abbrev pub undecided_reply : ℕ → Reply
+undecided_reply number = line_reply (codes "undecided " ++ decimal number) Undecided
 
 -- the word for a file
 abbrev pub file_word : FileKind → List ℕ

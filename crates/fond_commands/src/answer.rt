@@ -2,7 +2,7 @@
 
 ghost use Rattle.fond_edge.specs.Faults.{Rose};
 ghost use Rattle.fond_edge.specs.Written.{Appended, AppendedPart};
-ghost use Rattle.fond_commands.specs.Replies.{line_reply};
+ghost use Rattle.fond_commands.specs.Replies.{line_reply, undecided_reply};
 ghost use Rattle.std.specs.Prelude.{◌≡◌, ◌≤◌, IfOk, OnOk, OnErr};
 
 use crate::body::Body;
@@ -11,6 +11,7 @@ use fond_cert::text::CertText;
 use fond_edge::send::WriteFault;
 use fond_edge::sink::Sink;
 use fond_text::fault::NoMemory;
+use fond_text::text::Text;
 use std::alloc::Global;
 use std::marker::Model;
 
@@ -83,4 +84,15 @@ pub fn line(alloc: Global, words: &[u8], ending: Ending) -> Result<Answer, NoMem
     let mut text = Vec::from_slice(alloc, words)?;
     text.push(b'\n')?;
     Ok(Answer::new(text, ending))
+}
+
+/// The answer that more states are reachable than a number.
+pub fn undecided(alloc: Global, number: u32) -> Result<Answer, NoMemory>
+    ensures { IfOk result (λ answer. answer ≡ undecided_reply number) }
+{
+    let mut text = Text::new(alloc);
+    text.add(b"undecided ");
+    text.add_number(number as u64);
+    let words = text.finish()?;
+    line(alloc, &words, Ending::Undecided)
 }

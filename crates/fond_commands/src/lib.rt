@@ -6,6 +6,7 @@ pub mod answer;
 mod body;
 mod certified;
 pub mod check;
+pub mod explain;
 pub mod fetch;
 pub mod migrate;
 pub mod rejection;

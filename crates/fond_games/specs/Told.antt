@@ -33,9 +33,10 @@ pub record TellsSolution {S A : Type 0} (game : Game S A) (show : S → List ℕ
   pub told : text ≡ codes "solution\n" ++ flat_map (rank_text show rank) states
 
 -- a text tells why a policy is no solution: it gets stuck on a run; or it acts in each reached state that is no goal, and has a lasso. The
--- states of the run or the lasso are told once each, and are numbered in the order of their first use
+-- states of the run or the lasso, which it reaches, are told once each, and are numbered in the order of their first use
 pub data TellsNone {S A : Type 0} (game : Game S A) (show : S → List ℕ) (policy : Policy S A) : List ℕ → Type 0 where
-  stuck : (listed : List S) (stem : List ℕ) → ¬ IsSolution game policy → ShowsStuck game policy listed stem → AreDistinct listed → FirstUsed 0 stem (length listed)
+  stuck : (listed : List S) (stem : List ℕ) → ¬ IsSolution game policy → ShowsStuck game policy listed stem → AreDistinct listed → ((state : S) → Contains listed state → Reach game policy state) → FirstUsed 0 stem (length listed)
       → TellsNone game show policy (codes "stuck\n" ++ flat_map show listed ++ numbers_line (codes "stem") stem)
-  lasso : (listed : List S) (stem cycle : List ℕ) → ¬ IsSolution game policy → ActsEverywhere game policy → ShowsLasso game policy listed stem cycle → AreDistinct listed → FirstUsed 0 (stem ++ cycle) (length listed)
+  lasso : (listed : List S) (stem cycle : List ℕ) → ¬ IsSolution game policy → ActsEverywhere game policy → ShowsLasso game policy listed stem cycle → AreDistinct listed → ((state : S) → Contains listed state → Reach game policy state)
+      → FirstUsed 0 (stem ++ cycle) (length listed)
       → TellsNone game show policy (codes "lasso\n" ++ flat_map show listed ++ numbers_line (codes "stem") stem ++ numbers_line (codes "cycle") cycle)

@@ -62,6 +62,12 @@ module _ (states : List (List Bool)) where
     states_distinct used distinct once.1 (All-tail (λ number. number < length states) n used within),
   )
 
+  -- the states of numbers are among the states
+  pub states_among : (used : List ℕ) → All (λ number. number < length states) used → (state : List Bool) → Contains (map state_at used) state → Contains states state
+  states_among used within state has =
+      let found = number_in used state within has in
+      subst (Contains states) (sym found.3) (Contains_numbered states found.0 (state_at found.0) (there found.0 found.2))
+
   -- the text by the numbers is that of the states
   pub texts_same : (task : Task) (used : List ℕ) → All (λ number. number < length states) used → flat_map (numbered_text task states) used ≡ flat_map (state_text task) (map state_at used)
   texts_same task [] within = refl

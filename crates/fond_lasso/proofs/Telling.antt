@@ -21,7 +21,7 @@ use Rattle.fond_task.specs.Texts.{state_text}
 use Rattle.fond_lasso.specs.Ordered.{AreRenamed}
 use Rattle.fond_lasso.specs.Listing.{IsLassoText, IsStuckText, level_text, levels_text, numbered_text}
 use Rattle.fond_lasso.proofs.Listing.{level_is}
-use Rattle.fond_lasso.proofs.Relisted.{retold, state_at, states_distinct, texts_same}
+use Rattle.fond_lasso.proofs.Relisted.{retold, state_at, states_among, states_distinct, texts_same}
 use Rattle.fond_lasso.proofs.Told.{told_below}
 
 -- a state before others, if it is kept
@@ -168,7 +168,7 @@ module _ (task : Task) (policy : Policy) where
         open_ = shows.open_;
         none = shows.none;
         told = retold states used new stem (shows.walked ++ shows.last ∷ []) renamed.stem_told shows.told;
-      }) (states_distinct states used reached.once renamed.once renamed.below) first)
+      }) (states_distinct states used reached.once renamed.once renamed.below) (λ state has. reached.reached state (states_among states used renamed.below state has)) first)
 
   pub tells_lasso : (limit : ℕ) (states : List (List Bool)) (stem cycle text : List ℕ) → AreReached (game task) policy limit states → ¬ IsSolution task policy → ActsEverywhere (game task) policy
       → ShowsLasso (game task) policy states stem cycle → IsLassoText task states stem cycle text → TellsNone (game task) (state_text task) policy text
@@ -187,4 +187,4 @@ module _ (task : Task) (policy : Policy) where
         lasso = shows.lasso;
         stem_told = retold states used new stem (shows.lasso.stem ++ shows.lasso.knot ∷ []) renamed.stem_told shows.stem_told;
         cycle_told = retold states used new_cycle cycle (shows.lasso.loop ++ shows.lasso.knot ∷ []) renamed.cycle_told shows.cycle_told;
-      }) (states_distinct states used reached.once renamed.once renamed.below) first)
+      }) (states_distinct states used reached.once renamed.once renamed.below) (λ state has. reached.reached state (states_among states used renamed.below state has)) first)

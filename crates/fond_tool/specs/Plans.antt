@@ -1,6 +1,5 @@
 -- What `plan` replies to the texts of its files, for a budget.
-use Rattle.std.specs.Prelude.{ℕ, List, ◌++◌, codes}
-use Rattle.std.specs.Fmt.{decimal}
+use Rattle.std.specs.Prelude.{ℕ, List}
 use Rattle.fond_ast.specs.declared.task.LiftedTask.{LiftedTask}
 use Rattle.fond_ast.specs.Solutions.{IsSolution, IsSolvable, More}
 use Rattle.fond_task.specs.declared.task.Task.{Task}
@@ -15,8 +14,8 @@ use Rattle.fond_regress.specs.Stable.{IsHopeless}
 use Rattle.fond_succ.specs.Solutions.{rules_policy}
 use Rattle.fond_front.specs.Texts.{Texts}
 use Rattle.fond_commands.specs.Certified.{IsCertText, TaskReply}
-use Rattle.fond_commands.specs.Replies.{Reply, line_reply}
-use Rattle.fond_commands.specs.declared.status.Ending.TheVariants.{Done, Unsolvable, Undecided}
+use Rattle.fond_commands.specs.Replies.{Reply, undecided_reply}
+use Rattle.fond_commands.specs.declared.status.Ending.TheVariants.{Done, Unsolvable}
 
 -- what `plan` replies in a task with this ground task: the text of a correct policy certificate with a cover, whose pairs,
 -- rules and items are lean, and whose rules are a solution of the task, which then is solvable; the text of a correct refusal,
@@ -28,7 +27,7 @@ pub data AnswersPlan (task : LiftedTask) (game : Task) (budget : ℕ) : Reply �
       → AnswersPlan task game budget (record { text = text; ending = Done })
   unsolvable : (layers : List (List CubeView)) (text : List ℕ) → IsCertText game (Refusal layers) text → IsRightRefusal game layers → ¬ IsSolvable task
       → AnswersPlan task game budget (record { text = text; ending = Unsolvable })
-  undecided : More task budget → ¬ IsHopeless game game.init → AnswersPlan task game budget (line_reply (codes "undecided " ++ decimal budget) Undecided)
+  undecided : More task budget → ¬ IsHopeless game game.init → AnswersPlan task game budget (undecided_reply budget)
 
 -- what `plan` replies for a budget: a refusal of its files, or the reply in the task that they describe
 abbrev pub PlanReply : Texts → ℕ → Reply → Type 0

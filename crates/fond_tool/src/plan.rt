@@ -6,14 +6,11 @@ ghost use Rattle.fond_ground.specs.Grounds.{IsGroundOf};
 ghost use Rattle.fond_tool.specs.Decided.{cert_ending, decision_reply};
 ghost use Rattle.fond_tool.specs.Plans.{AnswersPlan, PlanReply};
 ghost use Rattle.fond_commands.specs.Rejections.{Rejects};
-ghost use Rattle.fond_commands.specs.Replies.{line_reply};
-ghost use Rattle.fond_commands.specs.declared.status.Ending.TheVariants.{Undecided as IsUndecided};
 ghost use Rattle.fond_cert.specs.Spellings.{spelling};
-ghost use Rattle.std.specs.Fmt.{decimal};
-ghost use Rattle.std.specs.Prelude.{◌≡◌, ◌≤◌, ◌++◌, codes, IfOk, IfErr};
+ghost use Rattle.std.specs.Prelude.{◌≡◌, ◌≤◌, IfOk, IfErr};
 
 use fond_cert::text::CertText;
-use fond_commands::answer::{Answer, line};
+use fond_commands::answer::{Answer, undecided};
 use fond_commands::rejection::Rejection;
 use fond_commands::status::Ending;
 use fond_commands::task_files::{TaskFiles, read_files};
@@ -23,7 +20,6 @@ use fond_planner::decide::{Decision, decide_with};
 use fond_policy::cert::Cert;
 use fond_task::task::Task;
 use fond_text::fault::NoMemory;
-use fond_text::text::Text;
 use std::alloc::Global;
 
 /// The ending after a certificate is printed.
@@ -44,17 +40,6 @@ fn cert_answer(game: Box<Task>, cert: Cert) -> Answer
 {
     let ending = ending_of(&cert);
     Answer::of_cert(CertText::new(game, cert), ending)
-}
-
-/// The answer that nothing is decided within a budget.
-fn undecided(alloc: Global, budget: u32) -> Result<Answer, NoMemory>
-    ensures { IfOk result (λ answer. answer ≡ line_reply (codes "undecided " ++ decimal budget) IsUndecided) }
-{
-    let mut text = Text::new(alloc);
-    text.add(b"undecided ");
-    text.add_number(budget as u64);
-    let words = text.finish()?;
-    line(alloc, &words, Ending::Undecided)
 }
 
 /// The answer to a task and a budget: what is decided about it.
