@@ -2,7 +2,10 @@ use fond_ast::laws::{
     outcomes_come_next, states_are_their_atoms, successors_are_outcomes, truth_is_local,
     truth_is_tested, tuples_lie_in_ranges,
 };
-use fond_cert::laws::{faults_are_one, spellings_are_clean, spellings_differ};
+use fond_cert::laws::{
+    documents_differ, faults_are_one, spellings_are_clean, spellings_differ, tables_are_clean,
+    tables_differ,
+};
 use fond_check::laws::right_are_accepted;
 use fond_policy::laws::{covers_are_solutions, items_are_closed};
 use fond_reader::laws::{clean_domains_are_read, clean_problems_are_read};
@@ -75,5 +78,8 @@ fn laws_of_certificates_can_be_called() {
     spellings_differ();
     spellings_are_clean();
     faults_are_one();
+    tables_differ();
+    tables_are_clean();
+    documents_differ();
     right_are_accepted();
 }
