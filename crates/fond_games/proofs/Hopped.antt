@@ -1,13 +1,12 @@
 -- Hops are the levels of a graph with one goal, in which chance picks each edge.
 use Rattle.std.proofs.Common.{inl, inr, ⊎_elim, ◌≡◌, ℕ, zero, suc, ◌+◌, ◌<◌, ◌≤◌, List, [], ◌∷◌, length, refl, sym, ap, ◌∙◌, subst, arith}
-use Rattle.std.specs.Prelude.{◌⊎◌}
 use Rattle.std.proofs.Math.ListN.{set, replicate}
 use Rattle.std.proofs.lemmas.Bool.{cases_lt}
 use Rattle.std.proofs.lemmas.List.{get_or-set_same, get_or-set_other, length-set, length-replicate}
-use Rattle.fond_games.specs.Walks.{Walk, stay, leave, IsInReach}
+use Rattle.fond_games.specs.Walks.{Walk, stay, leave}
 use Rattle.fond_games.specs.Graphs.{IsEdge}
 use Rattle.fond_games.specs.declared.kind.Kind.{Kind}
-use Rattle.fond_games.specs.declared.kind.Kind.TheVariants.{Goal, Fair, Unfair}
+use Rattle.fond_games.specs.declared.kind.Kind.TheVariants.{Goal, Fair}
 use Rattle.fond_games.specs.Levels.{kind_at, level_at, Falls, AreLevels, first_level}
 use Rattle.fond_games.specs.Hops.{AreHops}
 use Rattle.fond_games.proofs.Raised.{same_or_not}

@@ -2,11 +2,11 @@
 use Rattle.std.proofs.Common.{inl, inr, ⊎_elim, ◌≡◌, ℕ, zero, suc, ◌+◌, ◌<◌, ◌≤◌, List, [], ◌∷◌, ◌++◌, length, length-append, refl, sym, ap, ◌∙◌, subst, arith}
 use Rattle.std.specs.Prelude.{◌⊎◌, Contains}
 use Rattle.std.proofs.lemmas.Bool.{cases_lt}
-use Rattle.fond_games.specs.Graphs.{IsEdge, HasEdge, successors_of}
+use Rattle.fond_games.specs.Graphs.{IsEdge, successors_of}
 use Rattle.fond_games.specs.declared.kind.Kind.{Kind}
 use Rattle.fond_games.specs.declared.kind.Kind.TheVariants.{Goal, Fair, Unfair}
-use Rattle.fond_games.specs.Levels.{kind_at, level_at, IsBelow, Falls, AreLevels, first_level}
-use Rattle.fond_games.specs.Keeping.{KeptAt, KeepsEdges, MovesOn}
+use Rattle.fond_games.specs.Levels.{kind_at, level_at, Falls, AreLevels}
+use Rattle.fond_games.specs.Keeping.{KeptAt, MovesOn}
 use Rattle.fond_games.proofs.Lists.{Contains-none, Contains-here, Contains-cases}
 
 abbrev code : Kind → ℕ

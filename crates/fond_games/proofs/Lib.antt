@@ -11,3 +11,4 @@ pub mod Hopped
 pub mod Keeping
 pub mod Touring
 pub mod Toured
+pub mod Right

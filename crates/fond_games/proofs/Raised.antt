@@ -1,12 +1,12 @@
 -- The levels of a flat game: a round of raising, and what the rounds come to.
-use Rattle.std.proofs.Common.{inl, inr, ⊎_elim, ◌≡◌, ℕ, zero, suc, ◌+◌, ◌<◌, ◌≤◌, List, [], ◌∷◌, Bool, true, false, length, map, get_or, refl, sym, ap, ◌∙◌, subst, arith}
+use Rattle.std.proofs.Common.{inl, inr, ⊎_elim, ◌≡◌, ℕ, zero, suc, ◌+◌, ◌<◌, ◌≤◌, List, [], ◌∷◌, Bool, true, false, length, map, refl, sym, ap, ◌∙◌, subst, arith}
 use Rattle.std.specs.Prelude.{◌⊎◌, Contains, Option, Some, None, IfNone, not, slice_set}
 use Rattle.std.specs.Option.{is_some}
 use Rattle.std.proofs.Math.ListN.{set}
 use Rattle.std.proofs.lemmas.Bool.{cases_lt, false≢true}
 use Rattle.std.proofs.lemmas.List.{get_or-set_same, get_or-set_other, length-set, length-map}
 use Rattle.fond_games.proofs.Lists.{Contains-none, Contains-here}
-use Rattle.fond_games.specs.Graphs.{IsEdge, HasEdge, successors_of}
+use Rattle.fond_games.specs.Graphs.{HasEdge, successors_of}
 use Rattle.fond_games.specs.declared.kind.Kind.{Kind}
 use Rattle.fond_games.specs.declared.kind.Kind.TheVariants.{Goal, Fair, Unfair}
 use Rattle.fond_games.specs.Levels.{kind_at, level_at, IsBelow, Falls, AreLevelsTo, AreLevels, IsRound, first_level, zeros}

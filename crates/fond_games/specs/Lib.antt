@@ -11,3 +11,4 @@ pub mod Laws
 pub mod Findings
 pub mod Renaming
 pub mod Told
+pub mod Certified

@@ -1,14 +1,17 @@
 //! The levels of a flat game. That of a goal is 1, and that of another node is one more than the least level of its successors if
 //! chance picks among them, and than the greatest one if an opponent does. A node from which neither can be led to a goal has none.
 //!
-//! They are found in rounds, a level at a time: time proportional to the edges for each of them.
+//! A breadth-first walk proposes them, and a test of each node tells whether they are right: time proportional to the edges. If they were
+//! wrong, they would be found in rounds, a level at a time; no proof says that this does not happen.
 
 ghost use Rattle.fond_games.specs.Levels.{AreLevels, AreLevelsTo, Falls, IsRound, first_level, kind_at, level_at};
 ghost use Rattle.fond_games.specs.declared.kind.Kind.{Kind};
 ghost use Rattle.std.specs.Prelude.{◌≡◌, ◌<◌, ◌^◌, Bool, true, false, length, map, IfOk, slice_set};
 
+use crate::certified::are_right;
 use crate::graph::{level_of, lower, successors, unlowered};
 use crate::kind::Kind;
+use crate::proposal::proposed;
 use fond_text::fault::NoMemory;
 use fond_text::list::List;
 use std::alloc::Global;
@@ -102,8 +105,8 @@ fn first_levels(alloc: Global, kinds: &[Kind]) -> Result<Vec<u32>, NoMemory>
     Ok(table)
 }
 
-/// The level of each node, 0 for those that have none. Memory for a number a node.
-pub fn levels(alloc: Global, kinds: &[Kind], graph: &List<List<u32>>) -> Result<Vec<u32>, NoMemory>
+/// The levels, found in rounds.
+fn in_rounds(alloc: Global, kinds: &[Kind], graph: &List<List<u32>>) -> Result<Vec<u32>, NoMemory>
     requires few { length graph.now < 2 ^ 31 }
     requires known { length kinds.now ≡ length graph.now }
     ensures { IfOk result (λ table. AreLevels kinds.now graph.now table.items) }
@@ -111,4 +114,17 @@ pub fn levels(alloc: Global, kinds: &[Kind], graph: &List<List<u32>>) -> Result<
     let mut table = first_levels(alloc, kinds)?;
     fill(kinds, graph, &mut table, graph.len() as u32);
     Ok(table)
+}
+
+/// The level of each node, 0 for those that have none. Takes time and memory in the number of nodes and edges.
+pub fn levels(alloc: Global, kinds: &[Kind], graph: &List<List<u32>>) -> Result<Vec<u32>, NoMemory>
+    requires few { length graph.now < 2 ^ 31 }
+    requires known { length kinds.now ≡ length graph.now }
+    ensures { IfOk result (λ table. AreLevels kinds.now graph.now table.items) }
+{
+    let table = proposed(alloc, kinds, graph, first_levels(alloc, kinds)?)?;
+    if are_right(kinds, graph, &table, graph.len() as u32) {
+        return Ok(table);
+    }
+    in_rounds(alloc, kinds, graph)
 }
