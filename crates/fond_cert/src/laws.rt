@@ -23,7 +23,7 @@ pub fn tables_differ()
     ensures { TablesDiffer }
 {}
 
-/// The spelling of a table that belongs to a task has no fault.
+/// The spelling of a table that belongs to a task has no fault, if the table has fewer than 2^32 rows.
 pub fn tables_are_clean()
     ensures { TablesAreClean }
 {}

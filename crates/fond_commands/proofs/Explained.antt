@@ -1,5 +1,5 @@
 -- What `explain` answers about the policy of a table.
-use Rattle.std.proofs.Common.{◌≡◌, ◌++◌, ◌∙◌, ℕ, List, [], ◌∷◌, Bool, length, map, refl, sym, ap, subst}
+use Rattle.std.proofs.Common.{◌≡◌, ◌<◌, ◌^◌, ◌++◌, ◌∙◌, ℕ, List, [], ◌∷◌, Bool, length, map, refl, sym, ap, subst}
 use Rattle.std.proofs.lemmas.List.{length-map}
 use Rattle.std.specs.Prelude.{Contains, codes}
 use Rattle.std.specs.Fmt.{decimal}
@@ -27,7 +27,10 @@ use Rattle.fond_succ.specs.Stands.{restrict, stands}
 use Rattle.fond_succ.proofs.Agrees.{restricted}
 use Rattle.fond_succ.proofs.Between.{ground-tasks-agree, ground-tasks-play, stands-is-injective, texts-agree}
 use Rattle.fond_succ.proofs.Lists.{AreDistinct-map, Contains-from_map}
-use Rattle.fond_commands.specs.Explanations.{Explains, told_reply}
+use Rattle.fond_cert.specs.Spellings.{table_spelling}
+use Rattle.fond_rules.specs.Tables.{BelongAsRows, table_choice}
+use Rattle.fond_rules.specs.declared.table.TableRow.{TableRow}
+use Rattle.fond_commands.specs.Explanations.{AnswersExplain, Explains, told_reply}
 use Rattle.fond_commands.specs.Replies.{Reply}
 
 module _ (task : LiftedTask) (game : Task) (is : IsGroundOf task game) (choose : ground.Policy) where
@@ -122,3 +125,10 @@ module _ (task : LiftedTask) (game : Task) (is : IsGroundOf task game) (choose :
   explains limit (Solution text) tells = Explains.solution text.items (λ more. tells.1 (((ground-tasks-agree task game is).reaches_more choose limit).1 more)) (solution_lifted text.items tells.0)
   explains limit (NoSolution text) tells = Explains.none text.items (λ more. tells.1 (((ground-tasks-agree task game is).reaches_more choose limit).1 more)) (none_lifted text.items tells.0)
   explains limit Spent more = Explains.undecided (((ground-tasks-agree task game is).reaches_more choose limit).0 more)
+
+-- what is told about the policy of a table is the answer to its text
+pub answers : (task : LiftedTask) (game : Task) (is : IsGroundOf task game) (text : List ℕ) (rows : List TableRow) (limit : ℕ) (reply : Reply) → BelongAsRows game rows → length rows < 2 ^ 32 → text ≡ table_spelling game rows
+    → (told : Told) × IsTold game (table_choice rows) limit told × (reply ≡ told_reply limit told) → AnswersExplain text limit task game reply
+answers task game is text rows limit reply belong few spelled judged =
+    AnswersExplain.explained rows reply (belong, few, spelled)
+    (subst (Explains task (lifted_policy task game (table_choice rows)) limit) (sym judged.2) (explains task game is (table_choice rows) limit judged.0 judged.1))

@@ -1,4 +1,4 @@
--- The numbers that words write: budgets, steps, sizes and seeds.
+-- The numbers that words write: budgets, numbers of states and of steps, sizes and seeds.
 use Rattle.std.specs.Prelude.{◌≡◌, ◌≤◌, ◌<◌, ◌^◌, ℕ, List}
 use Rattle.std.specs.Fmt.{decimal}
 
@@ -6,7 +6,8 @@ use Rattle.std.specs.Fmt.{decimal}
 abbrev pub WritesUpTo : ℕ → List ℕ → ℕ → Type 0
 WritesUpTo most word number = (1 ≤ number) × (number ≤ most) × (word ≡ decimal number)
 
--- a word is a budget, a number of reachable states up to which a task is decided; or it says how many steps to take
+-- a word is a number from 1 to 1,000,000: a budget, which is a number of reachable states up to which a task is decided; a number of
+-- states up to which a graph is drawn; or a number of steps
 abbrev pub IsBudget : List ℕ → ℕ → Type 0
 IsBudget = WritesUpTo 1000000
 

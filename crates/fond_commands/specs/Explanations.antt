@@ -1,5 +1,5 @@
 -- What `explain` replies to the texts of its files.
-use Rattle.std.specs.Prelude.{◌≡◌, ℕ, List}
+use Rattle.std.specs.Prelude.{◌≡◌, ◌<◌, ◌^◌, ℕ, List, length}
 use Rattle.fond_state.specs.Games.{ReachesMore}
 use Rattle.fond_games.specs.Told.{TellsNone, TellsSolution}
 use Rattle.fond_ast.specs.declared.task.LiftedTask.{LiftedTask}
@@ -18,8 +18,8 @@ use Rattle.fond_commands.specs.Certified.{TaskReply}
 use Rattle.fond_commands.specs.Replies.{Reply, cert_reply, undecided_reply}
 use Rattle.fond_commands.specs.declared.status.Ending.TheVariants.{Done, NotSolution}
 
--- what is explained about a policy of a task: it is a solution, with the ranks of the states that it reaches; it is none, with a run on which
--- it gets stuck, or a lasso; or it reaches more states than the limit
+-- what is explained about a policy of a task: it is a solution, with the ranks of the states that it reaches and that are no goals; it is
+-- none, with a run on which it gets stuck, or a lasso; or it reaches more states than the limit
 pub data Explains (task : LiftedTask) (policy : Policy) (limit : ℕ) : Reply → Type 0 where
   solution : (text : List ℕ) → ¬ ReachesMore (game task) policy limit → TellsSolution (game task) (state_text task) policy text → Explains task policy limit (record { text = text; ending = Done })
   none : (text : List ℕ) → ¬ ReachesMore (game task) policy limit → TellsNone (game task) (state_text task) policy text → Explains task policy limit (record { text = text; ending = NotSolution })
@@ -31,9 +31,9 @@ told_reply limit (Solution text) = record { text = text.items; ending = Done }
 told_reply limit (NoSolution text) = record { text = text.items; ending = NotSolution }
 told_reply limit Spent = undecided_reply limit
 
--- a text is that of a table of a ground task
+-- a text is that of a table of a ground task, with fewer than 2^32 rows
 abbrev pub IsTableText : Task → List TableRow → List ℕ → Type 0
-IsTableText game rows text = BelongAsRows game rows × (text ≡ table_spelling game rows)
+IsTableText game rows text = BelongAsRows game rows × (length rows < 2 ^ 32) × (text ≡ table_spelling game rows)
 
 -- what `explain` answers to the text of a table, in a task with this ground task: a rejection with its first fault, or what is explained
 -- about the policy of the table

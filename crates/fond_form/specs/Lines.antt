@@ -1,15 +1,15 @@
--- The values in the lines of a certificate as they are written, whether or not the task has what they name.
+-- The values in the lines of a certificate or a table as they are written, whether or not the task has what they name.
 use Rattle.std.specs.Prelude.{ℕ, ◌<◌, ◌&&◌, ◌||◌, ◌==◌, nat_le, Bool, true, false, not, List, [], ◌∷◌, ◌++◌, All, length, IsTrue, codes}
 use Rattle.std.specs.Char.{is_ascii_digit}
 use Rattle.std.specs.List.{flat_map, list_all}
 use Rattle.std.specs.Str.{bytes_eq}
 use Rattle.fond_text.specs.Bytes.{is_leaf_byte}
 
--- whether a byte may occur in a leaf of a certificate, which has no capitals
+-- whether a byte may occur in a leaf of a certificate or a table, which has no capitals
 abbrev pub is_plain_byte : ℕ → Bool
 is_plain_byte b = is_leaf_byte b && not (nat_le 65 b && nat_le b 90)
 
--- a leaf of a certificate has a byte, and all its bytes may occur in leaves
+-- a leaf of a certificate or a table has a byte, and all its bytes may occur in leaves
 abbrev pub IsPlainLeaf : List ℕ → Type 0
 IsPlainLeaf leaf = (0 < length leaf) × IsTrue (list_all is_plain_byte leaf)
 

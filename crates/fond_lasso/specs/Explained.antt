@@ -11,9 +11,9 @@ use Rattle.fond_games.specs.Rankings.{IsLeastRanking}
 use Rattle.fond_lasso.specs.declared.finding.Finding.{Finding}
 use Rattle.fond_lasso.specs.declared.finding.Finding.TheVariants.{Ranked, Stuck, Lasso, Spent}
 
--- what is found out about a policy: it is a solution, with the least ranking, told by a level for each reached state; it is none, since it
--- gets stuck on a run; it is none, since chance and the opponent can hold it in a lasso, although it acts in each reached state that is no
--- goal; or it reaches more states than a limit
+-- what is found out about a policy. The states that it reaches, no more than a limit, are listed, and it is a solution, with the least
+-- ranking, told by a level for each of them; or it is none, since it gets stuck on a run; or it is none, since chance and the opponent can
+-- hold it in a lasso, although it acts in each of them that is no goal. Or it reaches more states than the limit
 abbrev pub IsFinding : Task → Policy → ℕ → Finding → Type 0
 IsFinding task policy limit (Ranked states levels) =
     AreReached (game task) policy limit states × IsSolution task policy

@@ -22,8 +22,8 @@ use Rattle.fond_succ.specs.Traces.{Trace}
 abbrev pub GroundTasksPlay : Type 0
 GroundTasksPlay = (task : LiftedTask) (game : Task) → IsGroundOf task game → PlaysGameOf task game
 
--- the ground task of a task agrees with it on solutions, reached states and their number, solvability, and how many states can be
--- reached at all
+-- the ground task of a task agrees with it on solutions, reached states and their number, stuck runs, lassos and least rankings,
+-- solvability, and how many states can be reached at all
 abbrev pub GroundTasksAgree : Type 0
 GroundTasksAgree = (task : LiftedTask) (game : Task) → IsGroundOf task game → Agree task game
 

@@ -31,10 +31,10 @@ abbrev pub table_policy : LiftedTask → Task → List TableRow → lifted.Polic
 table_policy task game rows = lifted_policy task game (table_choice rows)
 
 -- a ground task and its task agree. A policy of the ground task is a solution of the one if and only if it is one of the other,
--- it reaches the states for which reached ones stand, and as many, or in both more than a number; one is solvable if and only if the other
--- is; and in both or none more than a number of states can be reached. The policy acts everywhere in both or in none; what tells of a
--- stuck run or of a lasso of it in the one tells of one in the other, with the states for which the listed ones stand; and if it acts
--- everywhere, the least ranking of the one gives that of the other
+-- it reaches the states for which reached ones stand, and as many, and in both or in neither more than a number; one is solvable if and
+-- only if the other is; and in both or none more than a number of states can be reached. The policy acts everywhere in both or in none;
+-- what tells of a stuck run or of a lasso of it in the ground task tells of one in the task, with the states for which the listed ones
+-- stand; and if it acts everywhere, its least ranking in the ground task is that in the task, state by state
 pub record Agree (task : LiftedTask) (game : Task) : Type 0 where
   pub solution : (choose : ground.Policy) → ground_solutions.IsSolution game choose ↔ lifted.IsSolution task (lifted_policy task game choose)
   pub reached : (choose : ground.Policy) (state : State)

@@ -7,7 +7,7 @@ pub fn ground_tasks_play()
     ensures { GroundTasksPlay }
 {}
 
-/// The ground task of a task agrees with it on solutions, reached states and their number.
+/// The ground task of a task agrees with it on solutions, reached states and their number, stuck runs, lassos and rankings.
 pub fn ground_tasks_agree()
     ensures { GroundTasksAgree }
 {}
