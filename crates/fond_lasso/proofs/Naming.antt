@@ -14,6 +14,7 @@ use Rattle.fond_games.proofs.Lists.{Contains-here, Contains-later}
 use Rattle.fond_games.proofs.Raised.{same_or_not}
 use Rattle.fond_games.proofs.Trapped.{same_default}
 use Rattle.fond_games.proofs.Walking.{map_joined}
+use Rattle.fond_reach.proofs.Numbering.{first_joined}
 use Rattle.fond_lasso.specs.Ordered.{AreNamed, AreRenamed, IsNamed, IsNaming, entry}
 
 -- an element of a longer list
@@ -141,13 +142,6 @@ tell_grown listed more (name ∷ names) (number ∷ numbers) is =
 
 tell_joined : (listed one two other more : List ℕ) → Tell listed one two → Tell listed other more → Tell listed (one ++ other) (two ++ more)
 tell_joined listed one two other more first second = map_joined (slice_get listed) one other ∙ ap (λ (xs : List _). xs ++ map (slice_get listed) other) first ∙ ap (λ (xs : List _). map Some two ++ xs) second ∙ sym (map_joined Some two more)
-
-first_joined : (seen : ℕ) (xs : List ℕ) (mid : ℕ) (ys : List ℕ) (end : ℕ) → FirstUsed seen xs mid → FirstUsed mid ys end → FirstUsed seen (xs ++ ys) end
-first_joined seen [] mid ys end is also = subst (λ n. FirstUsed n ys end) is also
-first_joined seen (x ∷ xs) mid ys end is also = ⊎_elim
-    (λ before. inl (before.0, first_joined seen xs mid ys end before.1 also))
-    (λ next. inr (next.0, first_joined (seen + 1) xs mid ys end next.1 also))
-    is
 
 pub no_names : (old : List ℕ) → AreNamed old [] [] old
 no_names old = record { more = []; grown = sym (append-nil old); told = refl; first = refl }

@@ -1,10 +1,12 @@
 -- The walk that makes the graph of a policy.
 use Rattle.std.proofs.Common.{◌≡◌, ℕ, ◌+◌, ◌<◌, ◌≤◌, List, [], ◌∷◌, ◌++◌, Bool, Some, length, take, slice_get, take_all, refl, sym, ap, ◌∙◌, subst, ⊎_elim, arith}
-use Rattle.std.specs.List.{AllZip}
+use Rattle.std.specs.List.{AllZip, flat_map}
 use Rattle.std.specs.Prelude.{Contains}
-use Rattle.std.proofs.lemmas.List.{length-append, take-append-le}
+use Rattle.std.proofs.lemmas.Grind.{flat_map-append}
+use Rattle.std.proofs.lemmas.List.{append-nil, length-append, take-append-le}
 use Rattle.std.proofs.lemmas.Option.{same_Some, slice_get_within}
 use Rattle.fond_text.specs.Lists.{AreDistinct}
+use Rattle.fond_games.specs.Renaming.{FirstUsed}
 use Rattle.fond_task.specs.declared.task.Task.{Task}
 use Rattle.fond_task.specs.declared.task.Act.{Act}
 use Rattle.fond_task.specs.Policies.{IsGoal, IsNext, Policy, Reach, start, onward}
@@ -14,7 +16,8 @@ use Rattle.fond_policy.specs.Walks.{Grows}
 use Rattle.fond_policy.proofs.Walking.{grown_cases, grown_keeps}
 use Rattle.fond_reach.specs.declared.node.Node.{Node}
 use Rattle.fond_reach.specs.declared.node.Node.TheVariants.{Goal, Stuck, Acts}
-use Rattle.fond_reach.specs.Graphs.{IsGraph, IsNode, Leads}
+use Rattle.fond_reach.specs.Graphs.{IsGraph, IsNode, Leads, numbers_after}
+use Rattle.fond_reach.proofs.Numbering.{first_joined}
 use Rattle.fond_reach.proofs.Pairs.{zip_at, zip_more, zip_weaker}
 
 abbrev States : Type 0
@@ -25,11 +28,12 @@ module _ (task : Task) (policy : Policy) where
   abbrev pub IsChosenNext : List Bool → List Bool → Type 0
   IsChosenNext state after = (¬ IsGoal task state) × ((act : ℕ) × (policy state ≡ Some act) × IsNext task state act after)
 
-  -- the first states have their nodes, and all states are reached
+  -- the first states have their nodes, all states are reached, and they come in the order in which the nodes first lead to them
   pub record IsBegun (states : States) (nodes : List Node) : Type 0 where
     pub first : slice_get states 0 ≡ Some task.init
     pub reached : (state : List Bool) → Contains states state → Reach task policy state
     pub told : AllZip (IsNode task policy states) (take (length nodes) states) nodes
+    pub ordered : FirstUsed 1 (flat_map numbers_after nodes) (length states)
 
   -- a node tells the same once states are added
   node_kept : (old new : States) → ((number : ℕ) (state : List Bool) → slice_get old number ≡ Some state → slice_get new number ≡ Some state) → (state : List Bool) (node : Node) → IsNode task policy old state node → IsNode task policy new state node
@@ -55,18 +59,21 @@ module _ (task : Task) (policy : Policy) where
         (λ later. absurd (omega (arith, later.1)))
         (Contains-cases state task.init [] has);
     told = tt;
+    ordered = refl;
   }))
 
   -- one state more has its node
-  pub told_more : (old new : States) (nodes more : List Node) (state : List Bool) (node : Node) → slice_get old (length nodes) ≡ Some state → Grows (IsChosenNext state) old new → IsNode task policy new state node → more ≡ nodes ++ node ∷ [] → IsBegun old nodes
-      → IsBegun new more
-  told_more old new nodes more state node at grown is made so_far =
+  pub told_more : (old new : States) (nodes more : List Node) (state : List Bool) (node : Node) → slice_get old (length nodes) ≡ Some state → Grows (IsChosenNext state) old new → IsNode task policy new state node → FirstUsed (length old) (numbers_after node) (length new)
+      → more ≡ nodes ++ node ∷ [] → IsBegun old nodes → IsBegun new more
+  told_more old new nodes more state node at grown is first made so_far =
       let kept = grown_keeps (IsChosenNext state) old new grown in
       let within : length nodes < length old = slice_get_within old (length nodes) state at in
       let same : take (length nodes) new ≡ take (length nodes) old = ap (take (length nodes)) grown.1 ∙ take-append-le (length nodes) old grown.0 (omega (arith, within)) in
       let before : AllZip (IsNode task policy new) (take (length nodes) new) nodes =
       subst (λ (front : States). AllZip (IsNode task policy new) front nodes) (sym same) (zip_weaker (IsNode task policy old) (IsNode task policy new) (take (length nodes) old) nodes (node_kept old new kept) so_far.told) in
       let counted : length more ≡ length nodes + 1 = ap length made ∙ length-append nodes (node ∷ []) in
+      let numbers : flat_map numbers_after more ≡ flat_map numbers_after nodes ++ numbers_after node =
+      ap (flat_map numbers_after) made ∙ flat_map-append numbers_after nodes (node ∷ []) ∙ ap (λ (ns : List ℕ). flat_map numbers_after nodes ++ ns) (append-nil (numbers_after node)) in
       record {
         first = kept 0 task.init so_far.first;
         reached = λ after has. ⊎_elim
@@ -75,6 +82,8 @@ module _ (task : Task) (policy : Policy) where
             (grown_cases (IsChosenNext state) old new grown after has);
         told = subst (λ n. AllZip (IsNode task policy new) (take n new) more) (sym counted)
             (zip_more (IsNode task policy new) new (length nodes) state nodes more node (kept (length nodes) state at) made is before);
+        ordered = subst (λ (ns : List ℕ). FirstUsed 1 ns (length new)) (sym numbers)
+            (first_joined 1 (flat_map numbers_after nodes) (length old) (numbers_after node) (length new) so_far.ordered first);
       }
 
   module _ (states : States) (nodes : List Node) (so_far : IsBegun states nodes) (end : length states ≤ length nodes) where
@@ -101,4 +110,4 @@ module _ (task : Task) (policy : Policy) where
         next_there before act after node.0 node.2 open_ chosen next
 
     pub whole : AreDistinct states → IsGraph task policy states nodes
-    whole distinct = record { first = so_far.first; once = distinct; reached = so_far.reached; all = reached_there; told = told_all }
+    whole distinct = record { first = so_far.first; once = distinct; reached = so_far.reached; all = reached_there; told = told_all; ordered = so_far.ordered }

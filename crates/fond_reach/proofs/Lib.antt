@@ -1,3 +1,4 @@
 pub mod Pairs
+pub mod Numbering
 pub mod Graphs
 pub mod Choosing

@@ -1,7 +1,8 @@
 //! The states to which an action leads, with their numbers.
 
+ghost use Rattle.fond_games.specs.Renaming.{FirstUsed};
 ghost use Rattle.fond_policy.specs.Walks.{Grows};
-ghost use Rattle.fond_reach.specs.Graphs.{IsNode, LeadsEach};
+ghost use Rattle.fond_reach.specs.Graphs.{IsNode, LeadsEach, numbers_after};
 ghost use Rattle.fond_store.specs.Stores.{Adds};
 ghost use Rattle.fond_task.specs.Policies.{IsGoal, IsNext};
 ghost use Rattle.fond_task.specs.Truth.{is_true};
@@ -47,6 +48,7 @@ fn nexts_of(
     ensures same_length { length next.new ≡ length next.old }
     ensures grows { OnOk result (Grows (IsNext t.now state.now act) states.old states.new) }
     ensures leads { IfOk result (LeadsEach t.now states.new state.now act) }
+    ensures ordered { IfOk result (λ nexts. FirstUsed (length states.old) nexts (length states.new)) }
 {
     let mut nexts = Nexts::new(alloc);
     for outcome in 0..t.acts.get(act as usize).outcomes.len() {
@@ -71,6 +73,7 @@ pub(crate) fn node_of<C: Chooser>(
     ensures same_length { length next.new ≡ length next.old }
     ensures grows { OnOk result (Grows (λ after. (¬ IsGoal t.now state.now) × ((act : ℕ) × (C.policy chooser.now state.now ≡ Some act) × IsNext t.now state.now act after)) states.old states.new) }
     ensures node { IfOk result (IsNode t.now (C.policy chooser.now) states.new state.now) }
+    ensures ordered { IfOk result (λ node. FirstUsed (length states.old) (numbers_after node) (length states.new)) }
 {
     if is_goal(t, state) {
         return Ok(Node::Goal);

@@ -48,7 +48,7 @@ loop-at-preserved g c =
       next_long = c.in_ok-node_of.ensures.same_length ∙ so_far.next_long;
       done = (let within = slice_get_within new at state kept in omega (arith, within));
       counted = ap length c.in_ok-push.ensures.items ∙ length-append nodes _ ∙ ap (λ n. n + 1) so_far.counted;
-      begun = told_more task policy old new nodes c.push.new.self.items state c.in_ok-node_of.field-0 counted_there grown c.in_ok-node_of.ensures.node c.in_ok-push.ensures.items so_far.begun;
+      begun = told_more task policy old new nodes c.push.new.self.items state c.in_ok-node_of.field-0 counted_there grown c.in_ok-node_of.ensures.node c.in_ok-node_of.ensures.ordered c.in_ok-push.ensures.items so_far.begun;
     }
 
 pub returns : goal.returns

@@ -1,6 +1,7 @@
-use Rattle.std.proofs.Common.{◌≡◌, ◌∙◌, ◌<◌, ◌≤◌, List, length, Some, [], get_or, slice_get, refl, sym, ap, subst, arith, take, take_all}
+use Rattle.std.proofs.Common.{◌≡◌, ◌∙◌, ◌<◌, ◌≤◌, ℕ, List, length, Some, [], ◌∷◌, get_or, slice_get, refl, sym, ap, subst, arith, take, take_all}
 use Rattle.std.specs.List.{AllZip}
 use Rattle.std.proofs.lemmas.Option.{same_Some, slice_get-get_or}
+use Rattle.fond_games.specs.Renaming.{FirstUsed}
 use Rattle.fond_task.specs.Steps.{next_state}
 use Rattle.fond_task.specs.declared.task.Act.{Act}
 use Rattle.fond_task.specs.declared.task.Entry.{Entry}
@@ -9,6 +10,7 @@ use Rattle.fond_task.proofs.Lists.{Contains_numbered}
 use Rattle.fond_policy.specs.Walks.{Grows}
 use Rattle.fond_policy.proofs.Walking.{added_grows, few_outcomes, grown_keeps, grows_twice}
 use Rattle.fond_reach.specs.Graphs.{Leads}
+use Rattle.fond_reach.proofs.Numbering.{first_added, first_joined}
 use Rattle.fond_reach.proofs.Pairs.{zip_more, zip_weaker}
 use Rattle.fond_reach.proofs.successors.nexts_of.Goals as goal
 
@@ -26,6 +28,7 @@ loop-outcome-preserved c =
     let old = c.loop-outcome.states in
     let new = c.number_of.new.states in
     let added = c.apply_into.new.out in
+    let seen = length c.args.states.now in
     let lt : k < length own.outcomes = omega (arith, c.loop-outcome-test.true, c.len-outcome-end.ensures) in
     let entries = get_or own.outcomes k [] in
     let there : slice_get own.outcomes k ≡ Some entries = slice_get-get_or own.outcomes k [] lt in
@@ -43,6 +46,8 @@ loop-outcome-preserved c =
           let before : AllZip (Leads new state) (take k act.outcomes) c.loop-outcome.nexts =
           zip_weaker (Leads old state) (Leads new state) (take k act.outcomes) c.loop-outcome.nexts (λ outcome number is_at. grown_keeps (IsNext task state c.args.act) old new grown number (next_state state outcome) is_at) (c.loop-outcome.invariant.leads act at) in
           zip_more (Leads new state) act.outcomes k entries c.loop-outcome.nexts c.push.new.self c.in_ok-number_of.field-0 at_k c.in_ok-push.ensures.ok lead before;
+      ordered = subst (λ (ns : List ℕ). FirstUsed seen ns (length new)) (sym c.in_ok-push.ensures.ok)
+          (first_joined seen c.loop-outcome.nexts (length old) (c.in_ok-number_of.field-0 ∷ []) (length new) c.loop-outcome.invariant.ordered (first_added old added c.in_ok-number_of.field-0 new c.in_ok-number_of.ensures));
     }
 
 pub returns-clause-leads : goal.returns-clause-leads
