@@ -30,13 +30,13 @@ IsNode task policy states state Goal = IsGoal task state
 IsNode task policy states state Stuck = (¬ IsGoal task state) × ((number : ℕ) → policy state ≡ Some number → ¬ IsApplicable task state number)
 IsNode task policy states state (Acts number nexts) = (¬ IsGoal task state) × (policy state ≡ Some number) × LeadsEach task states state number nexts
 
--- the states to which the outcomes of a node lead, by their numbers
+-- the states to which the outcomes of a node lead, by their numbers; there are none at a goal or where the policy is stuck
 abbrev pub numbers_after : Node → List ℕ
 numbers_after (Acts number nexts) = nexts
 numbers_after node = []
 
 -- a graph is that of a policy: its states are those that the policy reaches, each once: the initial one first, and the others in the order
--- in which the outcomes of the nodes first lead to them; and each has its node
+-- in which the outcomes, node by node, first lead to them; and each has its node
 pub record IsGraph (task : Task) (policy : Policy) (states : List (List Bool)) (nodes : List Node) : Type 0 where
   pub first : slice_get states 0 ≡ Some task.init
   pub once : AreDistinct states
