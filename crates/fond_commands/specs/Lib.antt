@@ -14,3 +14,5 @@ pub mod Successors
 pub mod Tasks
 pub mod Words
 pub mod Explanations
+pub mod Drawn
+pub mod Duels
