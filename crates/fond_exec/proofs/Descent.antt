@@ -81,7 +81,7 @@ module _ (task : Task) (rules : List Rule) where
       nearer_by rule (next_state state entries) (image cond entries) (next_lies task state cond act number entries long numbered (Contains_numbered act.outcomes outcome entries picked) lies) target each.0 each.1
 
   -- the rule that is the first to hold in a state
-  rule_at : (state : List Bool) (number : ℕ) → selected_rule rules state ≡ Some number → (rule : Rule) × (slice_get rules number ≡ Some rule) × LiesIn state rule.cond
+  pub rule_at : (state : List Bool) (number : ℕ) → selected_rule rules state ≡ Some number → (rule : Rule) × (slice_get rules number ≡ Some rule) × LiesIn state rule.cond
   rule_at state number selects = go rules refl
     where
       go : (rs : List Rule) → rs ≡ rules → (rule : Rule) × (slice_get rules number ≡ Some rule) × LiesIn state rule.cond
@@ -92,7 +92,7 @@ module _ (task : Task) (rules : List Rule) where
 
 module _ (task : Task) (pairs : List Pair) (rules : List Rule) (sure : AreSure task pairs rules) where
   -- the policy chooses the action of the rule that is the first to hold
-  act_of : (state : List Bool) (rule number outcome : ℕ) (after : List Bool) (taken : IsTaken task rules state outcome rule number after) (one : Rule) → slice_get rules rule ≡ Some one → one.act ≡ number
+  pub act_of : (state : List Bool) (rule number outcome : ℕ) (after : List Bool) (taken : IsTaken task rules state outcome rule number after) (one : Rule) → slice_get rules rule ≡ Some one → one.act ≡ number
   act_of state rule number outcome after taken one at = same_Some one.act number (sym (chooses rules state rule one taken.selects at) ∙ taken.chosen.selects)
 
   -- a lucky step leads nearer

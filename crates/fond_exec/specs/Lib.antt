@@ -1,6 +1,7 @@
 pub mod Choices
 pub mod Duels
 pub mod Lucky
+pub mod Picked
 pub mod Runs
 pub mod Scripts
 pub mod Simulations

@@ -1,10 +1,14 @@
 //! Stepping a rule list through the states of a task.
 
-ghost use Rattle.std.specs.Prelude.{◌≡◌, ◌<◌, IfOk};
+ghost use Rattle.std.specs.Prelude.{◌≡◌, ◌<◌, List, IfOk, Some, length, slice_get};
+ghost use Rattle.fond_task.specs.Steps.{next_state};
 ghost use Rattle.fond_task.specs.Truth.{is_true};
+ghost use Rattle.fond_task.specs.declared.task.Act.{Act};
+ghost use Rattle.fond_task.specs.declared.task.Entry.{Entry};
 ghost use Rattle.fond_rules.specs.Belongs.{BelongTo};
 ghost use Rattle.fond_exec.specs.Choices.{IsChoice};
-ghost use Rattle.fond_exec.specs.Steps.{IsStep, IsTaken};
+ghost use Rattle.fond_exec.specs.Duels.{weight};
+ghost use Rattle.fond_exec.specs.Steps.{IsChosen, IsStep, IsTaken};
 ghost use Rattle.fond_exec.specs.declared.choice.Choice.TheVariants.{Chosen};
 
 use crate::choice::Choice;
@@ -43,6 +47,22 @@ impl<'a> Model for Executor<'a> {
     ghost invariant = { λ e. BelongTo e.task.now e.rules.now
         × (length e.state ≡ length e.task.now.atoms)
         × (length e.next ≡ length e.task.now.atoms) };
+}
+
+/// How far a state is from a goal, as an opponent sees it: 0 at a goal; otherwise one more than the number of the first rule that
+/// holds, or 2^32 if none does.
+fn weight_of(task: &Task, rules: &Rules, state: &State) -> u64
+    requires belong { BelongTo task.now rules.now }
+    requires long { length state.now ≡ length task.now.atoms }
+    ensures { result ≡ weight task.now rules.now state.now }
+{
+    if is_goal(task, state) {
+        return 0;
+    }
+    match rules.select(state) {
+        Some(rule) => rule as u64 + 1,
+        None => 1 << 32,
+    }
 }
 
 impl<'a> Executor<'a> {
@@ -91,6 +111,18 @@ impl<'a> Executor<'a> {
         }
         let count = self.task.acts.get(act as usize).outcomes.len() as u32;
         Choice::Chosen { rule, act, count }
+    }
+
+    /// The weight of the state to which an outcome of the chosen action leads. Takes time in the size of the outcome and in that of a
+    /// choice, and no memory.
+    pub(crate) fn weight_after(&mut self, act: u32, outcome: u32) -> u64
+        requires { (a : Act) × IsChosen self.old.task self.old.rules self.old.state act a × (outcome < length a.outcomes) }
+        ensures weight { (a : Act) (entries : List Entry) → slice_get self.old.task.acts act ≡ Some a → slice_get a.outcomes outcome ≡ Some entries
+            → result ≡ weight self.old.task self.old.rules (next_state self.old.state entries) }
+        ensures same { self.new ≡ self.old }
+    {
+        apply_into(self.task, &self.state, act, outcome, &mut self.next);
+        weight_of(self.task, self.rules, &self.next)
     }
 
     /// Takes the action that the rules choose, with one of its outcomes.

@@ -4,6 +4,7 @@
 #![tactic(auto)]
 
 pub mod choice;
+pub mod duel;
 pub mod executor;
 pub mod laws;
 mod lines;
