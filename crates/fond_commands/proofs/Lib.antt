@@ -6,3 +6,4 @@ pub mod Migrated
 pub mod Rejections
 pub mod Runs
 pub mod Explained
+pub mod Drawn

@@ -1,4 +1,4 @@
--- What `run` and `simulate` answer to a certificate.
+-- What `run`, `simulate` and `duel` answer to a certificate.
 use Rattle.std.proofs.Common.{◌≡◌, ℕ, ◌<◌, ◌∙◌, ◌++◌, Bool, List, [], length, sym, ap, subst}
 use Rattle.std.proofs.lemmas.List.Elements.{All-nil}
 use Rattle.std.specs.Prelude.{if◌then◌else◌}
@@ -22,6 +22,7 @@ use Rattle.fond_ast.specs.Truths.{holds}
 use Rattle.fond_ast.proofs.Tested.{truth-is-tested}
 use Rattle.fond_exec.specs.declared.script.ScriptError.{ScriptError}
 use Rattle.fond_exec.specs.declared.script.ScriptError.TheVariants as script_error
+use Rattle.fond_exec.specs.Duels.{ArePicks}
 use Rattle.fond_exec.specs.Scripts.{IsScript, IsScriptFault, ScriptRefuses}
 use Rattle.fond_task.specs.declared.task.Task.{Task}
 use Rattle.fond_task.specs.Truth.{is_true}
@@ -34,9 +35,10 @@ use Rattle.fond_commands.specs.Rejections.{Rejects, of_script}
 use Rattle.fond_commands.specs.Replies.{Reply, trace_reply}
 use Rattle.fond_commands.specs.Certified.{rules_of}
 use Rattle.fond_commands.specs.Runs.{AnswersRun}
+use Rattle.fond_commands.specs.Duels.{AnswersDuel}
 
 -- the last state of a trace has a truth value for each atom
-last_long : (pick : Pick) (game : Task) (rules : List Rule) (values : List Bool) (words lines : List ℕ) (last : List Bool) → IsState game values → steps.Trace pick game rules values words lines last → IsState game last
+pub last_long : (pick : Pick) (game : Task) (rules : List Rule) (values : List Bool) (words lines : List ℕ) (last : List Bool) → IsState game values → steps.Trace pick game rules values words lines last → IsState game last
 last_long pick game rules values words lines last state (TraceOf.goal at left is) = state
 last_long pick game rules values words lines last state (TraceOf.ended at open_) = state
 last_long pick game rules values words lines last state (TraceOf.stuck at outcome left open_ none) = state
@@ -93,3 +95,14 @@ pub simulated : (seed steps : ℕ) (task : LiftedTask) (game : Task) (read : Cer
 simulated seed steps task game read is reply h =
     let alike = lifted by_remainder task game is (rules_of read) (drawn_words seed steps) reply h in
     subst (AnswersSimulate seed steps task game read) (sym alike.3) (AnswersSimulate.ran alike.0 alike.1 alike.2)
+
+-- the trace over the picks of a duel is the answer
+pub fought : (steps : ℕ) (task : LiftedTask) (game : Task) (read : Cert) (is : IsGroundOf task game) (reply : Reply)
+    → (words : List ℕ) × (length words ≡ steps) × ArePicks game (rules_of read) game.init words × IsTraceReply as_recorded game (rules_of read) words reply → AnswersDuel steps task game read reply
+fought steps task game read is reply h =
+    let words = h.0 in
+    let lines = h.3.0 in
+    let last = h.3.1 in
+    let trace = h.3.2 in
+    let same : reply ≡ trace_reply task lines (stands task last) = h.3.3 ∙ reply_alike task game lines last is (last_long as_recorded game (rules_of read) game.init words lines last game.init_long trace) in
+    subst (AnswersDuel steps task game read) (sym same) (AnswersDuel.fought words lines last h.1 h.2 trace (traces-stand as_recorded task game (rules_of read) words lines last is trace))

@@ -9,7 +9,8 @@ pub fn lucky_steps_descend()
     ensures { LuckyStepsDescend }
 {}
 
-/// No more lucky steps come one after the other than there are sure rules, and a trace that begins with so many ends at a goal.
+/// No more lucky steps come one after the other than there are sure rules, and a trace that begins with so many, and at least one, ends
+/// at a goal.
 pub fn lucky_steps_end()
     ensures { LuckyStepsEnd }
 {}
