@@ -2,13 +2,15 @@
 
 A label lists the atoms that hold and sums up the others, with the action below. Graphviz places everything.
 """
+import collections
 import html
 import math
+import re
 import subprocess
 
 from .draw_model import PictureError, count, range_text, ranges
 
-# At most so many characters in a line of a label, atoms in a node, ranges of outcomes at an edge, and literals of a tooltip.
+# At most so many characters in a line of a label, atoms in a node, ranges of outcomes at an edge, and literals of a title.
 LINE, ATOMS, RANGES, LITERALS = 30, 12, 6, 60
 FONT = 'fontname="Helvetica,Arial,sans-serif"'
 UNFAIR, LOST, STEM, CYCLE = "#fbe3c4", "#d9d9d9", "#1a56b0", "#b3161d"
@@ -40,12 +42,6 @@ EDGES = {
 }
 
 
-def quoted(text):
-    """A string of DOT, in which a backslash means itself."""
-    escaped = text.replace("\\", "\\\\").replace('"', '\\"').replace("\n", "\\n")
-    return f'"{escaped}"'
-
-
 def wrapped(text):
     """The lines of an atom or an action that is too long for one."""
     lines = []
@@ -57,15 +53,20 @@ def wrapped(text):
     return lines
 
 
+def escaped(text):
+    """Text of a label that looks like HTML. Graphviz reads two backslashes as one, and takes two blanks for one."""
+    return html.escape(text).replace("\\", "\\\\").replace("  ", "&#160;&#160;")
+
+
 def row(text, form="{}"):
     """Rows of a label: the text, with its own marks escaped, in the form."""
-    shown = [form.format(html.escape(line).replace("  ", "&#160;&#160;")) for line in wrapped(text)]
+    shown = [form.format(escaped(line)) for line in wrapped(text)]
     return "".join(f'<tr><td align="left">{line}</td></tr>' for line in shown)
 
 
 def small(text):
     """A row in small letters."""
-    return f'<tr><td align="left"><font point-size="8" color="#444444">{html.escape(text)}</font></td></tr>'
+    return f'<tr><td align="left"><font point-size="8" color="#444444">{escaped(text)}</font></td></tr>'
 
 
 def literal_text(is_true, atom):
@@ -112,8 +113,8 @@ def label(node):
     return f'<<table border="0" cellborder="0" cellspacing="0" cellpadding="1">{rows}</table>>'
 
 
-def tooltip(node):
-    """All that is known of a node."""
+def title_of(node):
+    """All that is known of a node, which a browser shows if the pointer rests on it."""
     literals = [*node.true, *(literal_text(False, it) for it in node.false)]
     more = [f"and {len(literals) - LITERALS} more"] if len(literals) > LITERALS else []
     return "\n".join([node.title, *literals[:LITERALS], *more])
@@ -121,7 +122,7 @@ def tooltip(node):
 
 def node_line(node, marks):
     more = f"{NODES[node.kind]} {marks}".strip()
-    return f' {node.name} [id="node-{node.name}" class="{node.kind}" label={label(node)} tooltip={quoted(tooltip(node))} {more}]\n'
+    return f' {node.name} [id="node-{node.name}" class="{node.kind}" label={label(node)} {more}]\n'
 
 
 def outcome_text(edge):
@@ -137,7 +138,7 @@ def outcome_text(edge):
 
 def edge_line(source, target, edge, marks, is_beside_other):
     """The line of an edge. One that goes beside an edge the other way has a label, as Graphviz would draw one on the other."""
-    words = [f'id="edge-{source}-{target}" class="{edge.kind}" tooltip={quoted(f"{source} to {target}")}', EDGES[edge.kind]]
+    words = [f'id="edge-{source}-{target}" class="{edge.kind}"', EDGES[edge.kind]]
     if edge.counted is not None:
         words.append("penwidth=2.2")
     if edge.kind == "barred":
@@ -150,12 +151,12 @@ def edge_line(source, target, edge, marks, is_beside_other):
 
 
 def start_lines(name):
-    node = 'start [id="start" class="start" shape=plaintext fillcolor="none" label=<<b>start</b>> tooltip="start"]'
-    return f' {node}\n start -> {name} [id="edge-start" class="start" penwidth=1.4 tooltip="start"]\n'
+    node = 'start [id="start" class="start" shape=plaintext fillcolor="none" label=<<b>start</b>>]'
+    return f' {node}\n start -> {name} [id="edge-start" class="start" penwidth=1.4]\n'
 
 
 def level_label(level):
-    rows = f'<tr><td align="left"><b>{html.escape(level.title)}</b></td></tr>'
+    rows = f'<tr><td align="left"><b>{escaped(level.title)}</b></td></tr>'
     rows += "".join(small(it) for it in level.note.splitlines())
     if level.common:
         rows += small("in each of these cubes:") + "".join(row(literal_text(*it)) for it in level.common[:ATOMS])
@@ -205,30 +206,33 @@ def dot_text(picture, marks=None):
     return "".join([*lines, *level_lines(picture), *avoided_lines(picture), "}\n"])
 
 
+def group_line(number, group, picture, inside, back):
+    """The node of a group: how many nodes it has, and how many edges stay in it or lead back from it."""
+    rows = row(group.title, "<b>{}</b>") + row(count(len(group.nodes), picture.noun))
+    rows += small(f"{count(inside, 'edge')} within") if inside else ""
+    rows += small(f"{count(back, 'edge')} back") if back else ""
+    look = NODES["goal"] if all(picture.nodes[it].kind == "goal" for it in group.nodes) else ""
+    words = f'id="group-{number}" class="group" {look}'
+    return f' group_{number} [{words} label=<<table border="0" cellborder="0" cellspacing="0" cellpadding="1">{rows}</table>>]\n'
+
+
 def folded_dot_text(picture, groups):
-    """The groups of a folded picture, and how many edges lead from one to another."""
+    """The groups of a folded picture in a row, and how many edges lead from one to the next, and to nodes that reach no goal."""
     group_of = {node: number for number, group in enumerate(groups) for node in group.nodes}
-    counts = {}
-    for edge in picture.edges:
-        place = group_of[edge.source], group_of[edge.target]
-        counts[place] = counts.get(place, 0) + 1
+    counts = collections.Counter((group_of[edge.source], group_of[edge.target]) for edge in picture.edges)
+    is_last = [all(picture.nodes[it].distance is None for it in group.nodes) for group in groups]
     lines = [HEAD]
     for number, group in enumerate(groups):
-        is_goal = all(picture.nodes[it].kind == "goal" for it in group.nodes)
-        rows = row(group.title, "<b>{}</b>") + row(count(len(group.nodes), picture.noun))
-        name = f'<<table border="0" cellborder="0" cellspacing="0" cellpadding="1">{rows}</table>>'
-        lines.append(f' group_{number} [id="group-{number}" class="group" label={name} tooltip={quoted(group.title)}'
-                     f' {NODES["goal"] if is_goal else ""}]\n')
+        back = sum(many for (source, target), many in counts.items() if source == number < target and not is_last[target])
+        lines.append(group_line(number, group, picture, counts[number, number], back))
     if picture.start is not None:
         lines.append(start_lines(f"group_{group_of[picture.start]}"))
-    for (source, target), number in sorted(counts.items()):
-        is_near = source in (target, target + 1)
-        look = f'label="{number:,}"' if is_near else "color=gray constraint=false"
-        words = f'id="edge-group-{source}-{target}" tooltip="{count(number, "edge")}" {look}'
-        lines.append(f" group_{source} -> group_{target} [{words}]\n")
     for number in range(len(groups) - 1):
-        if (number + 1, number) not in counts:
+        if not is_last[number + 1] and not counts[number + 1, number]:
             lines.append(f" group_{number + 1} -> group_{number} [style=invis]\n")
+    for (source, target), number in sorted(counts.items()):
+        if source == target + 1 or is_last[target] and source != target:
+            lines.append(f' group_{source} -> group_{target} [id="edge-group-{source}-{target}" label="{number:,}"]\n')
     return "".join([*lines, "}\n"])
 
 
@@ -241,3 +245,21 @@ def drawn(text):
     if ran.returncode:
         raise PictureError(f"dot: {ran.stderr.decode(errors='replace').splitlines()[0]}")
     return ran.stdout.decode("utf-8")
+
+
+def svg_text(picture, groups=None, marks=None):
+    """The picture as SVG; if there are groups, it is folded into them. The titles of nodes and edges say all that is known of them."""
+    if groups:
+        titles = {f"group_{number}": group.title for number, group in enumerate(groups)}
+        svg = drawn(folded_dot_text(picture, groups))
+    else:
+        titles = {node.name: title_of(node) for node in picture.nodes}
+        svg = drawn(dot_text(picture, marks))
+
+    def full(found):
+        names = html.unescape(found[1]).split("->")
+        known = [titles.get(it, it) for it in names]
+        text = known[0] if len(names) == 1 else " to ".join(it.partition("\n")[0] for it in known)
+        return f"<title>{html.escape(text, quote=False)}</title>"
+
+    return re.sub("<title>(.*?)</title>", full, svg)

@@ -242,8 +242,6 @@ function line(from, to, edge, frame) {
   const text = document.createElementNS(svg.namespaceURI, "text");
   text.setAttribute("x", middle);
   text.setAttribute("y", (y1 + y2) / 2 - 4);
-  text.setAttribute("text-anchor", "middle");
-  text.setAttribute("font-size", "12");
   text.textContent = ranges(edge[OUTCOMES]);
   return [path, text];
 }
