@@ -69,9 +69,12 @@ class Browser:
 
     def open(self, url):
         """Opens a page and waits until its script has run; the seconds that it took."""
+        # From one part of a page to another, a browser would not load it again.
+        self.call("Page.navigate", url="about:blank")
         started = time.monotonic()
         self.call("Page.navigate", url=url)
-        while not self.value("document.body && document.body.dataset.ready === 'yes'"):
+        name = json.dumps(url.partition("#")[0])
+        while not self.value(f"location.href.split('#')[0] === {name} && document.body && document.body.dataset.ready === 'yes'"):
             if time.monotonic() - started > SECONDS:
                 raise AssertionError("the page is not ready")
             time.sleep(0.02)
