@@ -19,7 +19,7 @@ RULE = '<hr/><tr><td height="3" cellpadding="0"></td></tr>'
 
 HEAD = f"""digraph picture {{
  graph [rankdir=LR nodesep=0.22 ranksep=0.38 {FONT} fontsize=10 bgcolor="white"]
- node [shape=box style=filled fillcolor="white" penwidth=0.8 margin="0.07,0.04" height=0.2 width=0.3 {FONT} fontsize=10]
+ node [shape=box style=filled fillcolor="white" penwidth=0.8 margin="0.1,0.04" height=0.2 width=0.3 {FONT} fontsize=10]
  edge [arrowsize=0.6 penwidth=0.8 {FONT} fontsize=9]
 """
 # How each kind of node and of edge is drawn.
@@ -108,7 +108,7 @@ def action_rows(node):
 
 def label(node):
     """The label of a node: its number, what holds in it, and its action."""
-    title = row(node.title, "<b>{}</b>") if node.name == "goal" else small(node.title)
+    title = row(node.title, "<b>{}</b>") if node.name == "goal" else small(node.caption or node.title)
     rows = title + known_rows(node) + action_rows(node)
     return f'<<table border="0" cellborder="0" cellspacing="0" cellpadding="1">{rows}</table>>'
 

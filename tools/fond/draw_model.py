@@ -17,7 +17,8 @@ class Node:
 
     Its kind is `fair` or `unfair`, as its action is, `goal`, `stuck`, `plain` (nothing is known of an action), `lost` (a cube of
     losing states) or `pair`. `true` and `false` have the atoms of its literals; in a state (`is_state`), all other atoms are false. The
-    label says all literals if `is_full`, except those in `common`, which all nodes of a level have.
+    label says all literals if `is_full`, except those in `common`, which all nodes of a level have, and `caption` if the title would
+    repeat what the level says.
     """
 
     name: str
@@ -30,6 +31,7 @@ class Node:
     action: str = None
     is_full: bool = False
     common: frozenset = frozenset()
+    caption: str = ""
     distance: int = None
 
 

@@ -5,6 +5,8 @@ const [NAME, TITLE, KIND, RULE, ACTION, LITERALS, DISTANCE] = [0, 1, 2, 3, 4, 5,
 const [SOURCE, TARGET, EDGE_KIND, OUTCOMES, COUNTED] = [0, 1, 2, 3, 4];
 const [FROM, TO, OUTCOME, IS_UNFAIR, TEXT] = [0, 1, 2, 3, 4];
 const MOST_LISTED = 200, MOST_NEAR = 30, MOST_ATOMS = 10, CLICK = 4;
+// Pixels for a point of the picture: below the first a label is too small to read, and the second shows it well.
+const SMALLEST = 0.55, FIRST = 1;
 const at = (id) => document.getElementById(id);
 const view = at("view"), svg = view.querySelector("svg"), panel = at("panel"), near = at("near"), search = at("search");
 const nodes = data.nodes, edges = data.edges, trace = data.trace, groups = data.groups;
@@ -94,6 +96,16 @@ view.addEventListener("wheel", (event) => {
   event.preventDefault();
   scale(Math.exp(event.deltaY / 500), ...placeOf(event));
 }, { passive: false });
+
+// Shows the whole picture, or its start if the whole would be too small to read.
+function showFirst() {
+  show({ ...all });
+  const by = svg.getScreenCTM().a, start = at("start") || svg.querySelector("g.node");
+  if (by >= SMALLEST || !start) return;
+  const frame = view.getBoundingClientRect(), width = frame.width / FIRST, height = frame.height / FIRST;
+  const box = start.getBoundingClientRect(), [left, y] = placeOf({ clientX: box.left, clientY: (box.top + box.bottom) / 2 });
+  show({ x: left - width / 40, y: y - height / 2, width, height });
+}
 
 // The elements of the picture
 
@@ -358,6 +370,7 @@ document.addEventListener("keydown", (event) => {
 });
 
 const named = byName.get(decodeURIComponent(location.hash.slice(1)));
+showFirst();
 if (trace) goTo(0);
 else if (named !== undefined) select(named);
 else render();

@@ -108,7 +108,7 @@ def refusal(certificate):
         places = []
         for cube in range(len(cubes)):
             node = cube_node(certificate, (number, cube), "")
-            node.title, node.is_full, node.distance = f"cube {cube}", True, number
+            node.caption, node.is_full, node.distance = f"cube {cube}", True, number
             node.common = frozenset((it.is_true, it.atom) for it in common)
             places.append(len(picture.nodes))
             picture.nodes.append(node)

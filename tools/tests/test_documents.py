@@ -65,6 +65,8 @@ def commands(text):
 
 
 def reason_not_to_run(command):
+    if re.match(r"tools/draw .*\.(svg|html)\b", command) and not shutil.which("dot"):
+        return "no Graphviz"
     tool = re.match(r"tools/\S+", command)
     if tool and not os.path.exists(os.path.join(TOP, tool[0])):
         return f"there is no {tool[0]}"

@@ -177,6 +177,17 @@ class Page(unittest.TestCase):
         BROWSER.key("0")
         self.assertEqual(self.view_box(), before)
 
+    def test_first_view(self):
+        """A picture that would be too small to read as a whole is shown from its start."""
+        self.open(content(os.path.join(EXAMPLES, "elevators", "elevators.cert")))
+        first = self.view_box()
+        BROWSER.key("0")
+        self.assertLess(first[2], self.view_box()[2])
+        self.open(COIN)
+        first = self.view_box()
+        BROWSER.key("0")
+        self.assertEqual(first, self.view_box())
+
     def test_help(self):
         self.open(COIN)
         BROWSER.key("?")
@@ -219,6 +230,7 @@ class Page(unittest.TestCase):
 
     def test_folded(self):
         self.open(policy_of_a_row(400))
+        BROWSER.key("0")
         self.click_node("group-1")
         self.assertIn("25 to 49 steps to a goal: 25 items", self.panel())
         BROWSER.click("document.querySelector('#panel li button')")
@@ -244,6 +256,7 @@ class Page(unittest.TestCase):
         seconds = self.open(large_policy(14))
         self.assertLess(seconds, MOST_SECONDS)
         self.assertIn("16,384 items", self.text_of("heading"))
+        BROWSER.key("0")
         self.click_node("group-2")
         BROWSER.click("document.querySelector('#panel li button')")
         self.assertIn("(count c", self.text_of("near"))
