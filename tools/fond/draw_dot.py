@@ -156,7 +156,7 @@ def start_lines(name):
 
 
 def level_label(level):
-    rows = f'<tr><td align="left"><b>{escaped(level.title)}</b></td></tr>'
+    rows = f'<tr><td align="left"><b>{level.word} {level.number}</b></td></tr>'
     rows += "".join(small(it) for it in level.note.splitlines())
     if level.common:
         rows += small("in each of these cubes:") + "".join(row(literal_text(*it)) for it in level.common[:ATOMS])

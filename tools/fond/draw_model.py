@@ -53,9 +53,10 @@ class Edge:
 
 @dataclasses.dataclass
 class Level:
-    """Nodes that are drawn in a column: the cubes of a layer, or the states of a rank."""
+    """Nodes that are drawn in a column: the cubes of a layer, or the states of a rank. `word` is `layer` or `rank`."""
 
-    title: str
+    word: str
+    number: int
     nodes: list
     note: str = ""
     common: tuple = ()
@@ -150,8 +151,7 @@ def distance_title(first, last):
 def groups(picture):
     """The groups of a folded picture: by levels, or by distance to a goal, with the nodes that reach none at the end."""
     if picture.levels:
-        word, *_ = picture.levels[0].title.split()
-        parts = [(number, level.nodes) for number, level in enumerate(picture.levels)]
+        word, parts = picture.levels[0].word, [(level.number, level.nodes) for level in picture.levels]
         return bands(parts, lambda first, last: f"{word}{'s' if last > first else ''} {range_text(first, last)}")
     of_distance = collections.defaultdict(list)
     for number, node in enumerate(picture.nodes):

@@ -5,8 +5,8 @@ const [NAME, TITLE, KIND, RULE, ACTION, LITERALS, DISTANCE] = [0, 1, 2, 3, 4, 5,
 const [SOURCE, TARGET, EDGE_KIND, OUTCOMES, COUNTED] = [0, 1, 2, 3, 4];
 const [FROM, TO, OUTCOME, IS_UNFAIR, TEXT] = [0, 1, 2, 3, 4];
 const MOST_LISTED = 200, MOST_NEAR = 30, MOST_ATOMS = 10, CLICK = 4;
-// Pixels for a point of the picture: below the first a label is too small to read, and the second shows it well.
-const SMALLEST = 0.55, FIRST = 1;
+// Pixels for a unit of the picture: below the first a label is too small to read, the second shows it well, and the third is large.
+const SMALLEST = 0.55, FIRST = 1, LARGEST = 1.7;
 const at = (id) => document.getElementById(id);
 const view = at("view"), svg = view.querySelector("svg"), panel = at("panel"), near = at("near"), search = at("search");
 const nodes = data.nodes, edges = data.edges, trace = data.trace, groups = data.groups;
@@ -53,7 +53,7 @@ function fairness(node) {
 
 const whole = svg.viewBox.baseVal;
 const all = { x: whole.x, y: whole.y, width: whole.width, height: whole.height };
-let shown = { ...all };
+let shown = all;
 svg.removeAttribute("width");
 svg.removeAttribute("height");
 
@@ -97,14 +97,26 @@ view.addEventListener("wheel", (event) => {
   scale(Math.exp(event.deltaY / 500), ...placeOf(event));
 }, { passive: false });
 
-// Shows the whole picture, or its start if the whole would be too small to read.
+// Pixels for a unit of the picture if all of it is shown.
+function scaleOfWhole() {
+  const frame = view.getBoundingClientRect();
+  return Math.min(frame.width / all.width, frame.height / all.height, LARGEST);
+}
+// Shows what is around a place, at a scale; `part` is how far from the left the place comes to be.
+function showAround(x, y, by, part) {
+  const frame = view.getBoundingClientRect(), width = frame.width / by, height = frame.height / by;
+  show({ x: x - width * part, y: y - height / 2, width, height });
+}
+function showWhole() {
+  showAround(all.x + all.width / 2, all.y + all.height / 2, scaleOfWhole(), 0.5);
+}
+// Shows the whole picture, or its start at the left if the whole would be too small to read.
 function showFirst() {
-  show({ ...all });
-  const by = svg.getScreenCTM().a, start = at("start") || svg.querySelector("g.node");
-  if (by >= SMALLEST || !start) return;
-  const frame = view.getBoundingClientRect(), width = frame.width / FIRST, height = frame.height / FIRST;
-  const box = start.getBoundingClientRect(), [left, y] = placeOf({ clientX: box.left, clientY: (box.top + box.bottom) / 2 });
-  show({ x: left - width / 40, y: y - height / 2, width, height });
+  showWhole();
+  if (scaleOfWhole() >= SMALLEST) return;
+  const start = at("start"), box = (start || svg).getBoundingClientRect();
+  const [left, y] = placeOf({ clientX: box.left, clientY: (box.top + box.bottom) / 2 });
+  showAround(start ? left : all.x, y, FIRST, 0.03);
 }
 
 // The elements of the picture
@@ -206,6 +218,7 @@ function select(number, isKept) {
   if (groups) {
     mark(number === null ? [] : [groupElement(groupOf.get(number))], "selected");
     showNear();
+    if (number !== null) bringIntoView(groupElement(groupOf.get(number)));
   } else {
     mark(number === null ? [] : [elementOf(number)], "selected");
     mark(number === null ? [] : outgoing[number].map((it) => edgeElement(edges[it][SOURCE], edges[it][TARGET])), "out");
@@ -347,12 +360,12 @@ if (trace) {
 
 at("closer").addEventListener("click", () => scaleMiddle(0.8));
 at("farther").addEventListener("click", () => scaleMiddle(1.25));
-at("fit").addEventListener("click", () => show({ ...all }));
+at("fit").addEventListener("click", showWhole);
 at("help").addEventListener("click", () => at("helping").showModal());
 
 const KEYS = {
   "/": () => search.focus(), "?": () => at("helping").showModal(),
-  "+": () => scaleMiddle(0.8), "=": () => scaleMiddle(0.8), "-": () => scaleMiddle(1.25), "0": () => show({ ...all }),
+  "+": () => scaleMiddle(0.8), "=": () => scaleMiddle(0.8), "-": () => scaleMiddle(1.25), "0": showWhole,
   "Escape": () => select(null),
 };
 const TRACE_KEYS = {

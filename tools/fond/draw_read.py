@@ -113,7 +113,7 @@ def refusal(certificate):
             places.append(len(picture.nodes))
             picture.nodes.append(node)
         ordered = tuple((it.is_true, it.atom) for it in (cubes[0] if cubes else ()) if it in common)
-        picture.levels.append(Level(f"layer {number}", places, layer_note(number), ordered))
+        picture.levels.append(Level("layer", number, places, layer_note(number), ordered))
     return picture
 
 
@@ -239,7 +239,7 @@ def solution(lines):
         picture.heading = "a solution: the initial state is a goal"
         picture.nodes.append(Node("0", "the initial state", "goal"))
         of_rank[0] = [0]
-    picture.levels = [Level(f"rank {rank}", of_rank[rank]) for rank in sorted(of_rank)]
+    picture.levels = [Level("rank", rank, of_rank[rank]) for rank in sorted(of_rank)]
     return picture
 
 

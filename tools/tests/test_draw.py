@@ -344,6 +344,8 @@ class Folded(unittest.TestCase):
         self.assertEqual(sum(len(it.nodes) for it in found), 400)
         self.assertTrue(found[0].title.startswith("layers 0 to "))
         self.assertIn(" group_1 -> group_0 [style=invis]", draw_dot.folded_dot_text(picture, found))
+        picture = picture_of(b"solution\n" + b"".join(b"rank %d\nstate\n(a)\n" % rank for rank in range(400, 5, -1)))
+        self.assertTrue(groups(picture)[0].title.startswith("ranks 6 to "))
 
     def test_nodes_that_reach_no_goal(self):
         picture = picture_of(graph_text())

@@ -165,6 +165,8 @@ class Page(unittest.TestCase):
     def test_moving(self):
         self.open(content(ROBOT))
         before = self.view_box()
+        BROWSER.click("document.getElementById('fit')")
+        self.assertEqual(self.view_box(), before)
         BROWSER.wheel((500, 400), -300)
         nearer = self.view_box()
         self.assertLess(nearer[2], before[2])
