@@ -8,7 +8,7 @@ import math
 import re
 import subprocess
 
-from .draw_model import PictureError, count, range_text, ranges
+from .draw_model import MOST_NODES, PictureError, count, groups, range_text, ranges
 
 # At most so many characters in a line of a label, atoms in a node, ranges of outcomes at an edge, and literals of a title.
 LINE, ATOMS, RANGES, LITERALS = 30, 12, 6, 60
@@ -22,6 +22,8 @@ HEAD = f"""digraph picture {{
  node [shape=box style=filled fillcolor="white" penwidth=0.8 margin="0.1,0.04" height=0.2 width=0.3 {FONT} fontsize=10]
  edge [arrowsize=0.6 penwidth=0.8 {FONT} fontsize=9]
 """
+# So long may Graphviz take before a picture is folded.
+SECONDS = 20
 # How each kind of node and of edge is drawn.
 NODES = {
     "fair": "",
@@ -236,10 +238,11 @@ def folded_dot_text(picture, groups):
     return "".join([*lines, "}\n"])
 
 
-def drawn(text):
-    """The SVG that Graphviz makes of a text in its language."""
+def drawn(text, seconds=None):
+    """The SVG that Graphviz makes of a text in its language, in at most so many seconds."""
+    pipe = subprocess.PIPE
     try:
-        ran = subprocess.run(["dot", "-Tsvg"], input=text.encode("utf-8"), stdout=subprocess.PIPE, stderr=subprocess.PIPE, check=False)
+        ran = subprocess.run(["dot", "-Tsvg"], input=text.encode("utf-8"), stdout=pipe, stderr=pipe, timeout=seconds, check=False)
     except FileNotFoundError as error:
         raise PictureError("there is no program `dot`: install Graphviz, or write DOT with --dot") from error
     if ran.returncode:
@@ -247,15 +250,31 @@ def drawn(text):
     return ran.stdout.decode("utf-8")
 
 
-def svg_text(picture, groups=None, marks=None):
-    """The picture as SVG; if there are groups, it is folded into them. The titles of nodes and edges say all that is known of them."""
-    if groups:
-        titles = {f"group_{number}": group.title for number, group in enumerate(groups)}
-        svg = drawn(folded_dot_text(picture, groups))
-    else:
-        titles = {node.name: title_of(node) for node in picture.nodes}
-        svg = drawn(dot_text(picture, marks))
+def folded_svg(picture):
+    """The groups of a picture, and the SVG of these."""
+    found = groups(picture)
+    titles = {f"group_{number}": group.title for number, group in enumerate(found)}
+    return found, with_titles(drawn(folded_dot_text(picture, found)), titles)
 
+
+def whole_svg(picture, marks=None, seconds=None):
+    """The SVG of all nodes of a picture. The titles of nodes and edges say all that is known of them."""
+    titles = {node.name: title_of(node) for node in picture.nodes}
+    return with_titles(drawn(dot_text(picture, marks), seconds), titles)
+
+
+def svg_of(picture, marks=None):
+    """The groups into which a picture has to be folded, or None, and the SVG of these or of all nodes."""
+    if len(picture.nodes) > MOST_NODES:
+        return folded_svg(picture)
+    try:
+        return None, whole_svg(picture, marks, SECONDS)
+    except subprocess.TimeoutExpired:
+        return folded_svg(picture)
+
+
+def with_titles(svg, titles):
+    """The SVG with these titles of nodes in place of their names."""
     def full(found):
         names = html.unescape(found[1]).split("->")
         known = [titles.get(it, it) for it in names]

@@ -13,6 +13,7 @@ import sys
 import tempfile
 import unittest
 import xml.etree.ElementTree
+from unittest import mock
 
 here = os.path.dirname(os.path.abspath(__file__))
 sys.dont_write_bytecode = True
@@ -365,7 +366,7 @@ class Svg(unittest.TestCase):
         for name, text in {**examples(b"dualfond 2"), **examples(b"dualfond 1")}.items():
             with self.subTest(example=name):
                 picture = picture_of(text)
-                root = xml.etree.ElementTree.fromstring(draw_dot.svg_text(picture))
+                root = xml.etree.ElementTree.fromstring(draw_dot.whole_svg(picture))
                 drawn = {it.get("id"): it for it in root.iter(f"{SVG}g") if it.get("class", "").startswith("node")}
                 self.assertEqual({it for it in drawn if it != "start"}, {f"node-{it.name}" for it in picture.nodes})
                 for it in picture.nodes:
@@ -376,7 +377,7 @@ class Svg(unittest.TestCase):
 
     def test_names(self):
         """Names are shown as they are, whatever their characters mean elsewhere."""
-        root = xml.etree.ElementTree.fromstring(draw_dot.svg_text(picture_of(ODD_COIN)))
+        root = xml.etree.ElementTree.fromstring(draw_dot.whole_svg(picture_of(ODD_COIN)))
         said = [it.text for it in root.iter(f"{SVG}text")]
         shown = "".join(said).replace("\xa0", "").replace(" ", "")
         self.assertIn(ODD.replace(" ", ""), shown)
@@ -386,7 +387,7 @@ class Svg(unittest.TestCase):
     def test_page(self):
         """The page has no element but its own, and its data have the names as they are."""
         picture = picture_of(ODD_COIN)
-        page = draw_page.page_text(picture, None, draw_dot.svg_text(picture), None, "<script>&")
+        page = draw_page.page_text(picture, None, draw_dot.whole_svg(picture), None, "<script>&")
         self.assertEqual((page.count("<script"), page.count("</script"), page.count("<!--</")), (2, 2, 0))
         self.assertIn("<title>&lt;script&gt;&amp;</title>", page)
         data = json.loads(re.search(r'<script id="data" type="application/json">(.*?)</script>', page, re.S)[1])
@@ -408,6 +409,14 @@ class Svg(unittest.TestCase):
             self.assertIn(b'id="group&#45;0"', content(name))
             self.assertEqual(run("--all", "-", "-o", name, text=policy_of_a_row(400))[0], 0)
             self.assertIn(b'id="node&#45;399"', content(name))
+
+    def test_more_seconds_than_are_taken(self):
+        """A picture for which Graphviz takes too long is folded."""
+        picture = picture_of(policy_of_a_row(290))
+        with mock.patch.object(draw_dot, "SECONDS", 0.001):
+            found, svg = draw_dot.svg_of(picture)
+        self.assertEqual((found, "node&#45;" in svg), (groups(picture), False))
+        self.assertIsNone(draw_dot.svg_of(picture_of(COIN))[0])
 
 
 if __name__ == "__main__":
