@@ -34,7 +34,7 @@ function ranges(numbers) {
   }
   return found.map(([a, b]) => a === b ? `${a}` : b === a + 1 ? `${a}, ${b}` : `${a} to ${b}`).join(", ");
 }
-const plural = (number, noun) => `${number.toLocaleString("en")} ${noun}${number === 1 ? "" : "s"}`;
+const plural = (number, noun, nouns = `${noun}s`) => `${number.toLocaleString("en")} ${number === 1 ? noun : nouns}`;
 const actionOf = (node) => node[ACTION] === null ? null : data.actions[node[ACTION]];
 const atomOf = (literal) => data.atoms[literal >> 1];
 const isTrue = (literal) => literal % 2 === 1;
@@ -62,7 +62,8 @@ function show(part) {
   svg.setAttribute("viewBox", `${part.x} ${part.y} ${part.width} ${part.height}`);
 }
 function scale(factor, x, y) {
-  const width = Math.min(Math.max(shown.width * factor, all.width / 200), all.width * 3), by = width / shown.width;
+  const frame = view.getBoundingClientRect(), most = 3 * Math.max(all.width, frame.width);
+  const width = Math.min(Math.max(shown.width * factor, frame.width / 20), most), by = width / shown.width;
   show({ x: x - (x - shown.x) * by, y: y - (y - shown.y) * by, width, height: shown.height * by });
 }
 const scaleMiddle = (factor) => scale(factor, shown.x + shown.width / 2, shown.y + shown.height / 2);
@@ -202,7 +203,7 @@ function render() {
     if (data.start !== null) parts.push(...section("Start", [data.start], (it) => link(it)));
   }
   if (query()) {
-    parts.push(...section(`${plural(matches.length, "match").replace("matchs", "matches")}`, matches, (it) => link(it)));
+    parts.push(...section(plural(matches.length, "match", "matches"), matches, (it) => link(it)));
     if (!matches.length) parts.push(make("p", "hint", "Nothing matches."));
   }
   if (trace) parts.push(make("h2", "", "Trace"), traceList());
