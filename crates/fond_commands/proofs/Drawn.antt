@@ -1,5 +1,5 @@
 -- What `graph` answers to a certificate.
-use Rattle.std.proofs.Common.{◌≡◌, ◌++◌, ℕ, List, map, sym, ap, subst}
+use Rattle.std.proofs.Common.{◌≡◌, ◌++◌, ℕ, Bool, List, map, sym, subst}
 use Rattle.std.specs.Prelude.{Contains, codes}
 use Rattle.serde_json.specs.Written.{compact_text}
 use Rattle.fond_ast.specs.declared.task.LiftedTask.{LiftedTask}

@@ -32,12 +32,7 @@ fn duel_answer(alloc: Global, task: &Task, rules: &Rules, steps: u32) -> Result<
 }
 
 /// The answer to `duel`: the trace of the certificate's rules against an opponent, or why there is none.
-pub fn duel(
-    alloc: Global,
-    texts: &TaskTexts,
-    cert: &[u8],
-    steps: u32,
-) -> Result<Answer, Rejection>
+pub fn duel(alloc: Global, texts: &TaskTexts, cert: &[u8], steps: u32) -> Result<Answer, Rejection>
     ensures replied { IfOk result (DuelReply texts.now cert.now steps) }
     ensures rejected { IfErr result (Rejects (DuelReply texts.now cert.now steps)) }
 {

@@ -32,12 +32,7 @@ fn graph_answer(alloc: Global, game: &Task, rules: &Rules, limit: u32) -> Result
 }
 
 /// The answer to `graph`: the graph of what the certificate's rules reach, or why there is none.
-pub fn draw(
-    alloc: Global,
-    texts: &TaskTexts,
-    cert: &[u8],
-    limit: u32,
-) -> Result<Answer, Rejection>
+pub fn draw(alloc: Global, texts: &TaskTexts, cert: &[u8], limit: u32) -> Result<Answer, Rejection>
     ensures replied { IfOk result (GraphReply texts.now cert.now limit) }
     ensures rejected { IfErr result (Rejects (GraphReply texts.now cert.now limit)) }
 {

@@ -3,8 +3,11 @@ use Rattle.std.specs.Prelude.{ℕ, List, [], ◌∷◌}
 use Rattle.fond_front.specs.Texts.{Texts}
 use Rattle.fond_succ.specs.Actions.{names_of}
 use Rattle.fond_commands.specs.declared.words.Job.{Job}
-use Rattle.fond_commands.specs.declared.words.Job.TheVariants.{Succ, Run, Check, Plan, Migrate, Simulate, Demo}
+use Rattle.fond_commands.specs.declared.words.Job.TheVariants.{Succ, Run, Check, Plan, Migrate, Simulate, Demo, Explain, Graph, Duel}
 use Rattle.fond_commands.specs.Checks.{CheckReply}
+use Rattle.fond_commands.specs.Drawn.{GraphReply}
+use Rattle.fond_commands.specs.Duels.{DuelReply}
+use Rattle.fond_commands.specs.Explanations.{ExplainReply}
 use Rattle.fond_tool.specs.Demos.{DemoReply}
 use Rattle.fond_commands.specs.Migrations.{MigrateReply}
 use Rattle.fond_tool.specs.Plans.{PlanReply}
@@ -26,4 +29,7 @@ JobReply (Plan budget) (domain ∷ problem ∷ side ∷ []) = PlanReply (texts d
 JobReply Migrate (domain ∷ problem ∷ side ∷ cert ∷ []) = MigrateReply (texts domain problem side) cert
 JobReply (Simulate seed steps) (domain ∷ problem ∷ side ∷ cert ∷ []) = SimulateReply (texts domain problem side) cert seed steps
 JobReply (Demo size) [] = DemoReply size
+JobReply (Explain limit) (domain ∷ problem ∷ side ∷ table ∷ []) = ExplainReply (texts domain problem side) table limit
+JobReply (Graph limit) (domain ∷ problem ∷ side ∷ cert ∷ []) = GraphReply (texts domain problem side) cert limit
+JobReply (Duel steps) (domain ∷ problem ∷ side ∷ cert ∷ []) = DuelReply (texts domain problem side) cert steps
 JobReply job contents = λ reply. ⊥

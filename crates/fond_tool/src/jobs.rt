@@ -9,7 +9,10 @@ use crate::demo::demo;
 use crate::plan::plan;
 use fond_commands::answer::Answer;
 use fond_commands::check::check_cert;
+use fond_commands::duel::duel;
+use fond_commands::explain::explain;
 use fond_commands::fetch::Content;
+use fond_commands::graph::draw;
 use fond_commands::migrate::migrate;
 use fond_commands::rejection::Rejection;
 use fond_commands::run::run;
@@ -61,5 +64,8 @@ pub fn do_job(alloc: Global, job: Job, contents: &[Content]) -> Result<Answer, R
             simulate(alloc, &texts(contents), contents[3].bytes(), seed, steps)
         }
         Job::Demo { size } => demo(alloc, size),
+        Job::Explain { limit } => explain(alloc, &texts(contents), contents[3].bytes(), limit),
+        Job::Graph { limit } => draw(alloc, &texts(contents), contents[3].bytes(), limit),
+        Job::Duel { steps } => duel(alloc, &texts(contents), contents[3].bytes(), steps),
     }
 }
