@@ -1,5 +1,5 @@
 -- The picks of an opponent along a run, and where a run over them ends.
-use Rattle.std.proofs.Common.{inl, inr, ◌≡◌, ℕ, zero, suc, ◌+◌, ◌<◌, ◌≤◌, List, [], ◌∷◌, ◌++◌, Bool, true, false, Option, Some, None, length, get_or, refl, sym, ap, ◌∙◌, subst, ⊎_elim, append_assoc, append-nil, arith}
+use Rattle.std.proofs.Common.{inl, inr, ◌≡◌, ℕ, ◌<◌, ◌≤◌, List, [], ◌∷◌, ◌++◌, Bool, false, Some, length, refl, sym, ap, ◌∙◌, subst, ⊎_elim, append_assoc, append-nil, arith}
 use Rattle.std.specs.Prelude.{◌⊎◌, All, nat_lt, slice_get, if◌then◌else◌}
 use Rattle.std.proofs.lemmas.Bool.{cases_lt, false≢true}
 use Rattle.std.proofs.lemmas.Bool.Decides.{nat_tests}
@@ -7,13 +7,12 @@ use Rattle.std.proofs.lemmas.List.Elements.{All-cons, All-nil}
 use Rattle.std.proofs.lemmas.Option.{none-some, same_Some, slice_get_within}
 use Rattle.fond_state.specs.Traces.{TraceOf, as_recorded}
 use Rattle.fond_task.specs.declared.task.Act.{Act}
-use Rattle.fond_task.specs.declared.task.Entry.{Entry}
 use Rattle.fond_task.specs.declared.task.Task.{Task}
 use Rattle.fond_task.specs.declared.rule.Pair.{Pair}
 use Rattle.fond_task.specs.declared.rule.Rule.{Rule}
 use Rattle.fond_task.specs.declared.rule.Targets.{Targets}
 use Rattle.fond_task.specs.declared.rule.Targets.TheVariants.{One, All as Each}
-use Rattle.fond_task.specs.Policies.{IsApplicable, IsGoal, IsNext, Reach, selected, start, onward}
+use Rattle.fond_task.specs.Policies.{IsGoal, IsNext, Reach, selected, start, onward}
 use Rattle.fond_task.specs.Rules.{AreMet}
 use Rattle.fond_task.specs.Solutions.{IsSolution}
 use Rattle.fond_task.specs.Steps.{next_state}

@@ -3,3 +3,8 @@
 #![tactic(auto)]
 
 pub mod drawn;
+mod edges;
+pub mod graph;
+mod items;
+mod nodes;
+mod strings;
