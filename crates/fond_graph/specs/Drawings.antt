@@ -13,7 +13,7 @@ use Rattle.fond_rules.specs.Select.{selected_rule}
 use Rattle.fond_policy.specs.Counts.{ReachesMore}
 use Rattle.fond_reach.specs.Graphs.{IsGraph}
 use Rattle.fond_reach.specs.declared.node.Node.{Node}
-use Rattle.fond_reach.specs.declared.node.Node.TheVariants.{Goal, Stuck, Acts}
+use Rattle.fond_reach.specs.declared.node.Node.TheVariants.{Goal, Acts}
 use Rattle.fond_graph.specs.declared.drawn.Drawn.{Drawn}
 use Rattle.fond_graph.specs.declared.drawn.Drawn.TheVariants.{Text, Spent}
 

@@ -45,7 +45,7 @@ fn put_edges_of(from: usize, node: &Node, later: &mut bool, text: &mut Text)
     }
 }
 
-/// Adds the edges of all nodes. Takes time in the number of edges.
+/// Adds the edges of all nodes. Takes time in the number of nodes and edges.
 pub(crate) fn put_edges(nodes: &[Node], text: &mut Text)
     ensures { Adds text.old text.new (listed false (flat_map (λ item. edges_of item.0 item.1) (enumerate_from 0 nodes.now))) }
 {

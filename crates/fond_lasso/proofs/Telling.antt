@@ -1,5 +1,5 @@
 -- What the texts of findings tell.
-use Rattle.std.proofs.Common.{◌≡◌, ◌<◌, ◌≤◌, ◌+◌, ◌-◌, ◌++◌, ℕ, zero, suc, List, [], ◌∷◌, Bool, true, false, Option, Some, All, length, map, slice_get, refl, sym, ap, ◌∙◌, subst, inl, inr, ⊎_elim, append-nil, arith}
+use Rattle.std.proofs.Common.{◌≡◌, ◌<◌, ◌+◌, ◌-◌, ◌++◌, ℕ, List, [], ◌∷◌, Bool, true, false, Some, All, length, map, slice_get, refl, sym, ap, ◌∙◌, subst, inl, inr, ⊎_elim, append-nil, arith}
 use Rattle.std.proofs.lemmas.Bool.{lt-ltb}
 use Rattle.std.proofs.lemmas.List.{length-map}
 use Rattle.std.specs.Prelude.{◌⊎◌, Contains, codes, if◌then◌else◌, nat_lt}
@@ -11,7 +11,7 @@ use Rattle.fond_games.specs.Findings.{AreReached, ShowsLasso, ShowsStuck, TellsR
 use Rattle.fond_games.specs.Lassos.{ActsEverywhere}
 use Rattle.fond_games.specs.Rankings.{IsLeastRanking}
 use Rattle.fond_games.specs.Renaming.{FirstUsed}
-use Rattle.fond_games.specs.Told.{AreOpen, TellsNone, TellsSolution, numbers_line, rank_text}
+use Rattle.fond_games.specs.Told.{TellsNone, TellsSolution, numbers_line, rank_text}
 use Rattle.fond_policy.specs.Counts.{ReachesMore}
 use Rattle.fond_policy.proofs.Counted.{more_counted}
 use Rattle.fond_task.specs.declared.task.Task.{Task}
@@ -19,7 +19,7 @@ use Rattle.fond_task.specs.Policies.{IsGoal, Policy, Reach, game}
 use Rattle.fond_task.specs.Solutions.{IsSolution}
 use Rattle.fond_task.specs.Texts.{state_text}
 use Rattle.fond_lasso.specs.Ordered.{AreRenamed}
-use Rattle.fond_lasso.specs.Listing.{IsLassoText, IsStuckText, level_text, levels_text, numbered_text}
+use Rattle.fond_lasso.specs.Listing.{IsLassoText, IsStuckText, level_text, levels_text}
 use Rattle.fond_lasso.proofs.Listing.{level_is}
 use Rattle.fond_lasso.proofs.Relisted.{retold, state_at, states_among, states_distinct, texts_same}
 use Rattle.fond_lasso.proofs.Told.{told_below}
