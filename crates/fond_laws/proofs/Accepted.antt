@@ -48,12 +48,12 @@ module _ (task : LiftedTask) (game : Task) where
 
 -- a certificate of one ground task of a task is one of each ground task of a task that is the same
 module _ (game another : Task) (alike : AreAlike game another) where
-  text_alike : (cert : Cert) (text : List ℕ) → IsCertText game cert text → IsCertText another cert text
+  pub text_alike : (cert : Cert) (text : List ℕ) → IsCertText game cert text → IsCertText another cert text
   text_alike cert text is = (alike.belongs cert is.0, is.1, is.2 ∙ alike.spelled cert)
 
 module _ (texts : Texts) where
   -- two ground tasks of the task that three texts describe are alike
-  both_alike : (task other : LiftedTask) (game another : Task) → DescribeGround texts task game → DescribeGround texts other another → AreAlike game another
+  pub both_alike : (task other : LiftedTask) (game another : Task) → DescribeGround texts task game → DescribeGround texts other another → AreAlike game another
   both_alike task other game another one two = alike game another (same_ground other game another (ground_of_same task other game (texts_have_one_task_lem texts task other one.0.0 two.0.0) one.1) two.1)
 
   -- each reply of `check` to the text of a correct certificate is that of the verdict that it is accepted

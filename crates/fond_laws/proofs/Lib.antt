@@ -34,3 +34,4 @@ pub mod SameFiles
 mod Refused
 mod Accepted
 mod Stuck
+mod Dueled

@@ -1,12 +1,11 @@
 -- What is read from trees that are alike is one, up to addresses and capacities: domains, problems and side lists.
-use Rattle.std.proofs.Common.{◌≡◌, ℕ, Bool, true, false, cond, not, List, [], ◌∷◌, Option, Some, None, is_some, map, codes, refl, sym, ap, ◌∙◌, subst}
+use Rattle.std.proofs.Common.{◌≡◌, ℕ, Bool, true, false, cond, not, List, [], ◌∷◌, Option, Some, None, is_some, codes, refl, sym, ap, ◌∙◌, subst}
 use Rattle.std.specs.Prelude.{filter}
 use Rattle.fond_tree.specs.Alike.{IsAlike}
 use Rattle.fond_tree.specs.Trees.{is_node, members_of}
 use Rattle.fond_tree.specs.declared.tree.Tree.{Tree}
 use Rattle.fond_ast.specs.declared.files.Pattern.{Pattern}
 use Rattle.fond_ast.specs.declared.files.Side.{Side}
-use Rattle.fond_ast.specs.declared.names.Kind.{Kind}
 use Rattle.fond_ast.specs.declared.names.ReadAtom.{ReadAtom}
 use Rattle.fond_ast.specs.declared.files.Domain.{Domain}
 use Rattle.fond_ast.specs.declared.files.Problem.{Problem}

@@ -1,5 +1,5 @@
 -- A written pattern has one pattern over numbers.
-use Rattle.std.proofs.Common.{◌≡◌, ℕ, Bool, true, false, not, List, Option, map, position, ap}
+use Rattle.std.proofs.Common.{◌≡◌, ℕ, true, false, not, List, Option, map, position, ap}
 use Rattle.std.specs.Prelude.{◌==◌, ◌&&◌}
 use Rattle.std.specs.Option.{option_map_or}
 use Rattle.std.specs.Str.{bytes_eq}

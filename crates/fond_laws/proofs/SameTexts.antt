@@ -1,6 +1,5 @@
 -- Certificates are spelled alike in tasks that are the same.
-use Rattle.std.proofs.Common.{◌≡◌, ℕ, zero, suc, List, [], ◌∷◌, ◌++◌, Option, map, slice_get, flat_map, refl, sym, ap, ◌∙◌}
-use Rattle.std.specs.Prelude.{⊤}
+use Rattle.std.proofs.Common.{◌≡◌, ℕ, zero, suc, List, [], ◌∷◌, ◌++◌, Option, map, slice_get, flat_map, refl, ap, ◌∙◌}
 use Rattle.std.specs.List.{AllZip, enumerate_from, filter_map}
 use Rattle.std.specs.Option.{option_map, option_map_or}
 use Rattle.fond_state.specs.Cubes.{literal_at}

@@ -1,5 +1,5 @@
 -- The laws of replies.
-use Rattle.std.specs.Prelude.{◌≡◌, ◌⊎◌, ℕ, List, [], ◌∷◌, ⊤, codes}
+use Rattle.std.specs.Prelude.{◌≡◌, ◌⊎◌, ◌≤◌, ℕ, List, [], ◌∷◌, ⊤, codes, length}
 use Rattle.fond_ast.specs.declared.task.LiftedTask.{LiftedTask}
 use Rattle.fond_task.specs.declared.task.Task.{Task}
 use Rattle.fond_policy.specs.declared.cert.Cert.{Cert}
@@ -20,7 +20,7 @@ use Rattle.fond_tool.specs.Jobs.{JobReply, texts}
 use Rattle.fond_laws.specs.Stuck.{EndsStuck}
 use Rattle.fond_commands.specs.Tasks.{Describe}
 use Rattle.fond_commands.specs.Replies.{Reply, line_reply}
-use Rattle.fond_commands.specs.declared.words.Job.TheVariants.{Check, Demo, Migrate, Plan}
+use Rattle.fond_commands.specs.declared.words.Job.TheVariants.{Check, Demo, Duel, Migrate, Plan}
 use Rattle.fond_commands.specs.declared.status.Ending.{Ending}
 use Rattle.fond_commands.specs.declared.status.Ending.TheVariants.{Done, Unsolvable}
 
@@ -77,6 +77,12 @@ IsPolicyCert cert = ⊤
 abbrev pub CorrectPoliciesNeverStick : Type 0
 CorrectPoliciesNeverStick = (pick : Pick) (task : LiftedTask) (game : Task) (read : Cert) (words lines : List ℕ) (last : State) → IsGroundOf task game → IsRight game read → IsPolicyCert read
     → (trace : Trace pick task game (rules_of read) (initial task) words lines last) → ¬ EndsStuck trace
+
+-- if three texts describe a task, each reply of `duel` to the text of a correct policy of it, with at most as many rules as there are
+-- steps, ends at a goal
+abbrev pub DuelsReachGoals : Type 0
+DuelsReachGoals = (domain problem side : List ℕ) (task : LiftedTask) (game : Task) (cert : Cert) (text : List ℕ) (steps : ℕ) (reply : Reply) → DescribeGround (texts domain problem side) task game → IsCertText game cert text
+    → IsRight game cert → IsPolicyCert cert → length (rules_of cert) ≤ steps → JobReply (Duel steps) (domain ∷ problem ∷ side ∷ text ∷ []) reply → reply.ending ≡ Done
 
 -- what `demo` prints as done is a certificate of its task between its lines, and the reply of `check` to that, for the same texts,
 -- is that it is accepted as lean

@@ -1,6 +1,6 @@
 //! The laws of replies, each the contract of a function with an empty body.
 
-ghost use Rattle.fond_laws.specs.Replies.{CorrectAreAccepted, CorrectPoliciesNeverStick, DemosAreAccepted, HopelessTasksAreRefused, MigratedAreAccepted, PlannedAreAccepted, SmallTasksAreDecided, SolutionsNeverStick};
+ghost use Rattle.fond_laws.specs.Replies.{CorrectAreAccepted, CorrectPoliciesNeverStick, DemosAreAccepted, DuelsReachGoals, HopelessTasksAreRefused, MigratedAreAccepted, PlannedAreAccepted, SmallTasksAreDecided, SolutionsNeverStick};
 
 /// `check` accepts the text of each correct certificate of the task that its files describe.
 pub fn correct_are_accepted()
@@ -36,6 +36,11 @@ pub fn solutions_never_stick()
 /// `run` never prints `stuck` for the rules of a correct policy, whoever picks the outcomes.
 pub fn correct_policies_never_stick()
     ensures { CorrectPoliciesNeverStick }
+{}
+
+/// `duel` ends at a goal for each correct policy that has at most as many rules as there are steps.
+pub fn duels_reach_goals()
+    ensures { DuelsReachGoals }
 {}
 
 /// `check` accepts each certificate that `demo` prints for its task, as lean.
