@@ -59,6 +59,9 @@ class Rows(unittest.TestCase):
                 write(folder, name, text)
             status, text = program.run(*row.get("words"), cwd=folder)
             self.assertEqual(status, row.get("status"))
+            if row.get("head") is not None:
+                self.assertEqual(text[: len(row.get("head"))], row.get("head").encode())
+                return
             if row.get("checked") is None:
                 self.assertEqual(text, row.get("text", "").encode())
                 return

@@ -2,7 +2,7 @@ ghost use Rattle.std.specs.Prelude.{◌≡◌, ◌<◌, ◌-◌};
 
 use crate::coin::ground_coin;
 use fond_exec::executor::Executor;
-use fond_exec::laws::{lucky_steps_descend, lucky_steps_end};
+use fond_exec::laws::{duels_end, lucky_steps_descend, lucky_steps_end};
 use fond_exec::simulator::Simulator;
 use fond_exec::step::SimStep;
 use fond_rules::rules::Rules;
@@ -68,4 +68,5 @@ fn the_last_outcome_is_picked(rt: HostRuntime) -> Result<(), Fail> {
 fn laws_of_steps_can_be_called() {
     lucky_steps_descend();
     lucky_steps_end();
+    duels_end();
 }

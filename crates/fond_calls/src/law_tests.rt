@@ -7,6 +7,10 @@ use fond_cert::laws::{
     tables_differ,
 };
 use fond_check::laws::right_are_accepted;
+use fond_games::laws::{
+    fair_solutions_are_strong_cyclic, kept_tours_are_lassos, lassos_decide, rankings_decide,
+    tours_exist, unfair_solutions_are_strong,
+};
 use fond_policy::laws::{covers_are_solutions, items_are_closed};
 use fond_reader::laws::{clean_domains_are_read, clean_problems_are_read};
 use fond_regress::laws::stable_cubes_are_sure;
@@ -82,4 +86,14 @@ fn laws_of_certificates_can_be_called() {
     tables_are_clean();
     documents_differ();
     right_are_accepted();
+}
+
+#[test]
+fn laws_of_lassos_can_be_called() {
+    lassos_decide::<u32, u32>();
+    rankings_decide::<u32, u32>();
+    fair_solutions_are_strong_cyclic::<u32, u32>();
+    unfair_solutions_are_strong::<u32, u32>();
+    tours_exist();
+    kept_tours_are_lassos::<u32, u32>();
 }

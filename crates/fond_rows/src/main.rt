@@ -12,7 +12,7 @@ mod rows;
 use crate::error::RowError;
 use crate::rows::Rows;
 use fond_laws::replies::{
-    correct_are_accepted, correct_policies_never_stick, demos_are_accepted,
+    correct_are_accepted, correct_policies_never_stick, demos_are_accepted, duels_reach_goals,
     hopeless_tasks_are_refused, migrated_are_accepted, planned_are_accepted,
     small_tasks_are_decided, solutions_never_stick,
 };
@@ -29,6 +29,7 @@ fn call_laws() {
     solutions_never_stick();
     correct_policies_never_stick();
     demos_are_accepted();
+    duels_reach_goals();
 }
 
 /// The table that a file holds.

@@ -37,6 +37,14 @@ fn is_checked(alloc: Global, row: Row<'_>, cert: &[u8], verdict: &str) -> Result
     Ok(checked(alloc, row, cert)?.is(0, verdict.as_bytes()))
 }
 
+/// Whether a text is that of the row, or begins with the row's head if it has one.
+fn is_text(row: Row<'_>, text: &[u8]) -> Result<bool, RowError> {
+    if let Some(head) = row.text("head") {
+        return Ok(text.starts_with(head.as_bytes()));
+    }
+    Ok(text == row.text("text").ok_or(RowError::Lacks("text"))?.as_bytes())
+}
+
 /// Whether what was told is the answer of the row: it has its status, and its text or a certificate with the verdict that the row
 /// has for it.
 fn is_answer(alloc: Global, row: Row<'_>, told: &Told) -> Result<bool, RowError> {
@@ -47,7 +55,7 @@ fn is_answer(alloc: Global, row: Row<'_>, told: &Told) -> Result<bool, RowError>
     let text = told.text.as_slice();
     match row.text("checked") {
         Some(verdict) => is_checked(alloc, row, text, verdict),
-        None => Ok(text == row.text("text").ok_or(RowError::Lacks("text"))?.as_bytes()),
+        None => is_text(row, text),
     }
 }
 
