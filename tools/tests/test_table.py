@@ -82,7 +82,7 @@ class Table(unittest.TestCase):
         self.assertEqual(ran.returncode, 2)
 
     def test_the_policies_of_the_examples_are_judged(self):
-        """The rules of each example's policy are a solution, if they reach at most 1,000 states; without its first rule, none is told to be."""
+        """The rules of each example's policy are a solution, if they reach at most 1,000 states."""
         seen = 0
         for cert in sorted(glob.glob(os.path.join(program.TOP, "examples", "*", "*.c[eo][rv]*"))):
             problem = os.path.splitext(cert)[0]
@@ -96,9 +96,6 @@ class Table(unittest.TestCase):
                 status, head = self.judged(domain, problem, ran.stdout)
                 self.assertIn((status, head), ((0, "solution"), (2, "undecided 1000")))
                 seen += status == 0
-                lines = ran.stdout.splitlines(True)
-                status, head = self.judged(domain, problem, b"".join(lines[:1] + lines[2:]))
-                self.assertIn((status, head), ((10, "stuck"), (10, "lasso"), (2, "undecided 1000"), (0, "solution")))
         self.assertGreater(seen, 4)
 
     def judged(self, domain, problem, table):
