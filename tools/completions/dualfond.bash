@@ -1,7 +1,8 @@
 # Completes the words of dualfond in bash: commands, the launcher's options, and files where a command reads one.
 # To use it, source this file, or put it in a folder of bash-completion under the name dualfond.
 
-# What a command has at each position after its name: F is a file, N a number of states, and - something to type.
+# What a command has at each position after its name: F is a file, N a number of states, T one of at most a thousand, and - something
+# to type.
 _dualfond_positions() {
     case $1 in
         plan) echo F F F N ;;
@@ -9,6 +10,9 @@ _dualfond_positions() {
         run) echo F F F F F ;;
         simulate) echo F F F F - - ;;
         check | migrate) echo F F F F ;;
+        duel) echo F F F F - ;;
+        explain) echo F F F F T ;;
+        graph) echo F F F F N ;;
         help) echo C ;;
         --install) echo D ;;
     esac
@@ -16,7 +20,7 @@ _dualfond_positions() {
 
 _dualfond() {
     local current=${COMP_WORDS[COMP_CWORD]}
-    local commands="plan succ run simulate check migrate demo"
+    local commands="plan succ run simulate duel check explain graph migrate demo"
     local first=1 position kind
     COMPREPLY=()
     [ "${COMP_WORDS[1]}" = --progress ] && first=2
@@ -35,6 +39,7 @@ _dualfond() {
         O*) COMPREPLY=($(compgen -W "$commands help" -- "$current")) ;;
         C*) COMPREPLY=($(compgen -W "$commands" -- "$current")) ;;
         N*) COMPREPLY=($(compgen -W 1000000 -- "$current")) ;;
+        T*) COMPREPLY=($(compgen -W 1000 -- "$current")) ;;
         D*) compopt -o dirnames 2>/dev/null ;;
     esac
 }
