@@ -1,7 +1,7 @@
 """Files that are small or plain and may cost a planner far more than their length: each function makes those of one size.
 
 Each returns the texts of its files by name: the domain `d`, the problem `p`, the side list `u`, and where the command takes them the
-certificate `cert` and the script `script`. A family says which command reads them, and how it is meant to end.
+certificate `cert`, the script `script` and the table `table`. A family says which command reads them, and how it is meant to end.
 """
 import dataclasses
 import os
@@ -12,6 +12,8 @@ BUDGET = "1000000"
 PLAN = ("plan", "d", "p", "u", BUDGET)
 CHECK = ("check", "d", "p", "u", "cert")
 RUN = ("run", "d", "p", "u", "cert", "script")
+EXPLAIN = ("explain", "d", "p", "u", "table", "1000")
+GRAPH = ("graph", "d", "p", "u", "cert", BUDGET)
 
 
 def texts(domain, problem, **more):
@@ -160,6 +162,46 @@ def pairs(count):
     return texts(domain, "(:init (g)) (:goal (g))", cert=certificate(*lines))
 
 
+def steps(count):
+    """A way of so many places, from each of which an action leads to the next one or to nine others, and the policy that goes on."""
+    draw = random.Random(count)
+    lines, rows = [f"(:predicates {named('(p', count, join=') ')}))"], []
+    for place in range(count - 1):
+        ends = [place + 1, *(draw.randrange(count) for _ in range(9))]
+        moves = " ".join(f"(and (not (p{place})) (p{end}))" if end != place else "()" for end in ends)
+        lines.append(f"(:action go{place} :precondition (p{place}) :effect (oneof {moves}))")
+        rows.append(f"do (go{place}) : +(p{place})")
+    return texts("\n".join(lines), f"(:init (p0)) (:goal (p{count - 1}))", table=certificate("table 1", *rows, "end"))
+
+
+def held(count):
+    """The same, where an opponent picks the outcomes in the second half, and can stay there for ever."""
+    return steps(count) | {"u": "\n".join(f"go{place}" for place in range(count // 2, count - 1))}
+
+
+def table(count):
+    """A table of so many rows with 50 literals each on 1,000 atoms, before one that always holds."""
+    draw = random.Random(count)
+    rows = []
+    for _ in range(count):
+        atoms = sorted(draw.sample(range(1000), 50))
+        rows.append("do (go) :" + "".join(f" {draw.choice('+-')}(p{atom})" for atom in atoms))
+    domain = f"(:predicates (g) {named('(p', 1000, join=') ')})) (:action go :effect (oneof (g) ()))"
+    domain += f" (:action set :precondition (g) :effect (and {named('(p', 1000, join=') ')})))"
+    return texts(domain, "(:goal (g))", table=certificate("table 1", *rows, "do (go) :", "end"))
+
+
+def count_up(count):
+    """A binary counter over so many states, a power of two, and the policy of its one action."""
+    bits = count.bit_length() - 1
+    ups = []
+    for bit in range(bits):
+        lower = f"(and {named('(b', bit, join=') ')}))" if bit else "()"
+        ups.append(f"(when (and {lower} (not (b{bit}))) (b{bit})) (when (and {lower} (b{bit})) (not (b{bit})))")
+    domain = f"(:predicates {named('(b', bits, join=') ')})) (:action up :effect (and {' '.join(ups)}))"
+    return texts(domain, f"(:goal (and {named('(b', bits, join=') ')})))", cert=certificate("dualfond 1 policy", "rule (up) fair 0 goal :", "reach 2", "end"))
+
+
 @dataclasses.dataclass(frozen=True)
 class Family:
     """Files of one kind, the command that reads them, and the status with which it is meant to end."""
@@ -195,4 +237,8 @@ FAMILIES = [
     Family("parity", PLAN, 1, parity, (12, 14, 16)),
     Family("static-or", PLAN, 0, static_or, (6, 8, 12)),
     Family("pairs", CHECK, 0, pairs, (8000, 16000, 32000)),
+    Family("steps", EXPLAIN, 0, steps, (250, 500, 1000)),
+    Family("held", EXPLAIN, 10, held, (250, 500, 1000)),
+    Family("table", EXPLAIN, 0, table, (25000, 50000, 100000)),
+    Family("count-up", GRAPH, 0, count_up, (16384, 65536, 262144)),
 ]

@@ -21,7 +21,7 @@ PATH = os.path.join(top, "bench", "hostile")
 # A size of each family that is small enough for any program.
 SMALL = {"cubes": 3, "cubes-by-actions": 1, "rules": 3, "either": 3, "twins": 2, "forall-outcomes": 2, "layers": 3, "partial-run": 64,
          "partial-check": 64, "clear-effect": 9, "clear-precondition": 9, "product": 9, "nested": 2, "counter": 4, "parity": 4,
-         "static-or": 2, "pairs": 3}
+         "static-or": 2, "pairs": 3, "steps": 6, "held": 6, "table": 3, "count-up": 8}
 
 
 def loaded():
@@ -102,8 +102,9 @@ class Files(unittest.TestCase):
 
 @unittest.skipUnless(has_program(), "no program")
 class Runs(unittest.TestCase):
-    # What the answer begins with, and what it ends with.
-    SAID = {"plan": "dualfond ", "check": "accepted ", "run": "rule "}
+    # What the answer of a command, or of a family, begins with.
+    SAID = {"plan": "dualfond ", "check": "accepted ", "run": "rule ", "explain": "solution\n", "graph": '{"edges":[{"from":0,',
+            "forall-outcomes": "refused domain ", "held": "lasso\n"}
 
     def answer(self, family, size):
         """The status of a command, and what it printed."""
@@ -118,12 +119,18 @@ class Runs(unittest.TestCase):
             with self.subTest(family=family.name):
                 status, text = self.answer(family, SMALL[family.name])
                 self.assertEqual(status, family.status, text)
-                said = "refused domain " if family.name == "forall-outcomes" else self.SAID[family.words[0]]
-                self.assertTrue(text.startswith(said), text)
+                self.assertTrue(text.startswith(self.SAID.get(family.name, self.SAID[family.words[0]])), text)
 
     def test_forall_outcomes(self):
         family = next(it for it in hostile_tasks.FAMILIES if it.name == "forall-outcomes")
         self.assertEqual(self.answer(family, 2)[1], "refused domain 1 51 F23\n")
+
+    def test_all_states_are_told(self):
+        """The way has a rank for each place but the last one, and the counter as many nodes as states."""
+        family = next(it for it in hostile_tasks.FAMILIES if it.name == "steps")
+        self.assertEqual(self.answer(family, 6)[1].count("rank "), 5)
+        family = next(it for it in hostile_tasks.FAMILIES if it.name == "count-up")
+        self.assertEqual(self.answer(family, 8)[1].count('"atoms"'), 8)
 
     def test_runs_take_all_steps(self):
         """Each step takes the last rule of partial conditions, since no drawn one holds, and the first of the equal ones."""
