@@ -35,3 +35,7 @@ mod Refused
 mod Accepted
 mod Stuck
 mod Dueled
+pub mod Known
+pub mod Reaching
+mod GroundMaps
+mod LiftedMaps

@@ -4,3 +4,4 @@ pub mod Alike
 pub mod Same
 pub mod Stuck
 pub mod Replies
+pub mod PolicyLaws

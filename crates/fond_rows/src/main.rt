@@ -11,6 +11,7 @@ mod rows;
 
 use crate::error::RowError;
 use crate::rows::Rows;
+use fond_laws::policies::policies_are_characterized;
 use fond_laws::replies::{
     correct_are_accepted, correct_policies_never_stick, demos_are_accepted, duels_reach_goals,
     hopeless_tasks_are_refused, migrated_are_accepted, planned_are_accepted,
@@ -19,7 +20,7 @@ use fond_laws::replies::{
 use std::{env, fs};
 use toml::Table;
 
-/// Calls each law of the tool's replies.
+/// Calls each law of the tool's replies, and that of policies.
 fn call_laws() {
     correct_are_accepted();
     planned_are_accepted();
@@ -30,6 +31,7 @@ fn call_laws() {
     correct_policies_never_stick();
     demos_are_accepted();
     duels_reach_goals();
+    policies_are_characterized();
 }
 
 /// The table that a file holds.
