@@ -32,12 +32,16 @@ abbrev pub cube_number : Spot → ℕ
 cube_number (Goal number) = number
 cube_number (NotSure number act) = number
 
--- a spot is what is wrong with a layer: with the first of its cubes that is not sure
-pub record IsSpot (task : Task) (earlier : List (List CubeView)) (layer : List CubeView) (spot : Spot) : Type 0 where
+-- a spot is what is wrong with the first of some cubes that is not sure as one of a layer
+pub record IsSpotInto (task : Task) (earlier : List (List CubeView)) (layer cubes : List CubeView) (spot : Spot) : Type 0 where
   pub cube : CubeView
-  pub has_cube : slice_get layer (cube_number spot) ≡ Some cube
+  pub has_cube : slice_get cubes (cube_number spot) ≡ Some cube
   pub wrong : IsWrong task earlier layer cube spot
-  pub first : (other : CubeView) → Contains (take (cube_number spot) layer) other → IsSureCube task earlier layer other
+  pub first : (other : CubeView) → Contains (take (cube_number spot) cubes) other → IsSureCube task earlier layer other
+
+-- a spot is what is wrong with a layer: with the first of its cubes that is not sure
+abbrev pub IsSpot : Task → List (List CubeView) → List CubeView → Spot → Type 0
+IsSpot task earlier layer spot = IsSpotInto task earlier layer layer spot
 
 -- a spot as a fault of its layer
 abbrev pub fault_of : Spot → LayerFault

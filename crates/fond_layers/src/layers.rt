@@ -3,6 +3,7 @@
 ghost use Rattle.fond_task.specs.Certificates.{LiesInLayers};
 ghost use Rattle.fond_task.specs.Layers.{CubeView, IsSureLayer, AreSureLayers};
 ghost use Rattle.fond_layers.specs.Deads.{IsFirstDead};
+ghost use Rattle.fond_layers.specs.Far.{IsFarList, IsFarSpot, list_before};
 ghost use Rattle.fond_layers.specs.Faults.{IsSpot, IsLayerFault};
 ghost use Rattle.fond_layers.specs.Leads.{LiesInSome};
 ghost use Rattle.fond_layers.specs.Over.{IsOver, AreOver};
@@ -12,7 +13,7 @@ ghost use Rattle.std.specs.Prelude.{◌≡◌, ◌<◌, ◌-◌, ◌^◌, List, 
 use crate::fault::{LayerFault, Spot};
 use crate::force::lies_in_some;
 use crate::indexed::Indexed;
-use crate::sure::spot;
+use crate::sure::{goal_spot, spot};
 use fond_state::cube::Cube;
 use fond_state::state::State;
 use fond_task::task::Task;
@@ -166,7 +167,26 @@ impl Layers {
         ensures spot { (layer : List CubeView) → slice_get self.now at ≡ Some layer →
             MatchOption result (IsSureLayer t.now (take at self.now) layer) (IsSpot t.now (take at self.now) layer) }
     {
-        spot(t, &self.items[..at as usize], self.layer(at), image)
+        let layer = self.layer(at);
+        spot(t, &self.items[..at as usize], layer, layer, image)
+    }
+
+    /// What is wrong with the list of this number, one of numbered lists beyond these layers, if it is not far: the first cube that
+    /// is not, and whether that is for the goal or, if not, for which first action. Takes the time of `fault`. `image` is
+    /// overwritten.
+    pub fn far_fault(&self, t: &Task, far: &Layers, at: u32, image: &mut Cube) -> Option<Spot>
+        requires there { at < length far.now }
+        requires over { AreOver (length t.now.atoms) self.now }
+        requires far_over { AreOver (length t.now.atoms) far.now }
+        requires long { length image.old ≡ length t.now.atoms }
+        ensures same_length { length image.new ≡ length image.old }
+        ensures spot { (cubes : List CubeView) → slice_get far.now at ≡ Some cubes →
+            MatchOption result (IsFarList t.now self.now (list_before far.now at) cubes) (IsFarSpot t.now self.now (list_before far.now at) cubes) }
+    {
+        if at == 0 {
+            return goal_spot(t, far.get(at).as_slice());
+        }
+        spot(t, self.items.as_slice(), far.layer(at - 1), far.layer(at), image)
     }
 
     /// Appends a layer that is sure above those that are there. Takes the time of `fault`. `image` is overwritten.
@@ -184,7 +204,7 @@ impl Layers {
     {
         let alloc = *self.items.allocator();
         let layer = Indexed::new(alloc, l);
-        if let Some(spot) = spot(t, self.items.as_slice(), &layer, image) {
+        if let Some(spot) = spot(t, self.items.as_slice(), &layer, &layer, image) {
             return Err(LayerFault::from(spot));
         }
         self.add(layer)?;

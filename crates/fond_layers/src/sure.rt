@@ -1,13 +1,14 @@
-//! Whether a layer is sure above earlier ones.
+//! Whether cubes are sure, as those of a layer above earlier ones.
 
-ghost use Rattle.fond_task.specs.Layers.{Forces, IsSureCube, IsSureLayer};
-ghost use Rattle.fond_layers.specs.Faults.{Escapes, IsFirstEscape, IsWrong, IsSpot, cube_number};
+ghost use Rattle.fond_task.specs.Layers.{CubeView, Forces, IsSureCube};
+ghost use Rattle.fond_layers.specs.Far.{IsFarList, IsFarSpot};
+ghost use Rattle.fond_layers.specs.Faults.{Escapes, IsFirstEscape, IsWrong, IsSpotInto, cube_number};
 ghost use Rattle.fond_layers.specs.Over.{IsOver, AreOver};
 ghost use Rattle.fond_task.specs.Values.{value};
 ghost use Rattle.fond_task.specs.Within.{is_act_within};
 ghost use Rattle.fond_task.specs.declared.task.Act.{Act};
 ghost use Rattle.fond_task.specs.declared.form.Kleene.TheVariants.{No};
-ghost use Rattle.std.specs.Prelude.{◌≡◌, ◌<◌, ◌^◌, length, Contains, MatchBool, MatchOption, IfSome, IsTrue};
+ghost use Rattle.std.specs.Prelude.{◌≡◌, ◌<◌, ◌^◌, [], None, length, Contains, MatchBool, MatchOption, IfSome, IsTrue};
 
 use crate::fault::Spot;
 use crate::force::forces;
@@ -82,20 +83,43 @@ fn wrong(
     }
 }
 
-/// What is wrong with the layer, if it is not sure above the earlier ones. Takes, for each cube, time in the size of
-/// the goal and the preconditions, and for each outcome of an action that may be applicable, time in its size and in
-/// that of all layers.
-pub(crate) fn spot(t: &Task, earlier: &[Indexed], layer: &Indexed, image: &mut Cube) -> Option<Spot>
-    requires few { length layer.now < 2 ^ 32 }
+/// What is wrong with the first of these cubes that is not sure as one of the layer above the earlier ones. Takes, for each cube,
+/// time in the size of the goal and the preconditions, and for each outcome of an action that may be applicable, time in its size
+/// and in that of all layers.
+pub(crate) fn spot(
+    t: &Task,
+    earlier: &[Indexed],
+    layer: &Indexed,
+    cubes: &Indexed,
+    image: &mut Cube,
+) -> Option<Spot>
+    requires few { length cubes.now < 2 ^ 32 }
+    requires over { IsOver (length t.now.atoms) cubes.now }
     requires earlier_over { AreOver (length t.now.atoms) earlier.now }
     requires layer_over { IsOver (length t.now.atoms) layer.now }
     requires long { length image.old ≡ length t.now.atoms }
     ensures same_length { length image.new ≡ length image.old }
-    ensures spot { MatchOption result (IsSureLayer t.now earlier.now layer.now) (IsSpot t.now earlier.now layer.now) }
+    ensures spot { MatchOption result ((cube : CubeView) → Contains cubes.now cube → IsSureCube t.now earlier.now layer.now cube)
+        (IsSpotInto t.now earlier.now layer.now cubes.now) }
 {
-    for (number, cube) in layer.as_slice().iter().enumerate() {
+    for (number, cube) in cubes.as_slice().iter().enumerate() {
         if let Some(spot) = wrong(t, earlier, layer, number as u32, cube, image) {
             return Some(spot);
+        }
+    }
+    None
+}
+
+/// What is wrong with the first of these cubes on which the goal is not No, as one of a list that has none before it.
+pub(crate) fn goal_spot(t: &Task, cubes: &[Cube]) -> Option<Spot>
+    requires few { length cubes.now < 2 ^ 32 }
+    requires over { IsOver (length t.now.atoms) cubes.now }
+    ensures { MatchOption result (IsFarList t.now [] None cubes.now) (IsFarSpot t.now [] None cubes.now) }
+{
+    for (number, cube) in cubes.iter().enumerate() {
+        match value(&t.goal, cube) {
+            Kleene::No => {}
+            _ => return Some(Spot::Goal { cube: number as u32 }),
         }
     }
     None

@@ -10,12 +10,13 @@ returns-in-Some-clause-spot c =
     let task = c.args.t.now in
     let earlier = c.args.earlier.now in
     let layer = c.args.layer.now in
+    let list = c.args.cubes.now in
     let items = c.as_slice-cube-items.result.now in
     let i = c.loop-number.number in
     let spot = c.in-Some.spot in
     let numbered : i ≡ cube_number spot = sym c.in-Some.ensures.numbered in
-    let At : ℕ → Type 0 = λ n. slice_get layer n ≡ Some c.cube-item.result in
-    let Front : ℕ → Type 0 = λ n. (other : CubeView) → Contains (take n layer) other → IsSureCube task earlier layer other in
+    let At : ℕ → Type 0 = λ n. slice_get list n ≡ Some c.cube-item.result in
+    let Front : ℕ → Type 0 = λ n. (other : CubeView) → Contains (take n list) other → IsSureCube task earlier layer other in
     let Among : List CubeView → Type 0 = λ cubes. (other : CubeView) → Contains (take i cubes) other → IsSureCube task earlier layer other in
     record {
       cube = c.cube-item.result;

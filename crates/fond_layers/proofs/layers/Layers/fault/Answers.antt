@@ -11,9 +11,9 @@ pub returns-clause-spot : goal.returns-clause-spot
 returns-clause-spot c = λ layer at.
     let task = c.args.t.now in
     let layers = c.args.self.now in
-    let own : c.layer.result.now ≡ layer = same_numbered layers c.args.at c.layer.result.now layer c.layer.ensures.layer at in
+    let own : c.layer-layer.result.now ≡ layer = same_numbered layers c.args.at c.layer-layer.result.now layer c.layer-layer.ensures.layer at in
     let P : List CubeView → Type 0 = λ layer. MatchOption c.spot.result (IsSureLayer task (take c.args.at layers) layer) (IsSpot task (take c.args.at layers) layer) in
-    let Q : List (List CubeView) → Type 0 = λ earlier. MatchOption c.spot.result (IsSureLayer task earlier c.layer.result.now) (IsSpot task earlier c.layer.result.now) in
+    let Q : List (List CubeView) → Type 0 = λ earlier. MatchOption c.spot.result (IsSureLayer task earlier c.layer-layer.result.now) (IsSpot task earlier c.layer-layer.result.now) in
     subst P own (subst Q (ap (take c.args.at) (c.deref.ensures.value ∙ c.self.view_is)) c.spot.ensures.spot)
 
 pub spot-requires-clause-earlier_over : goal.spot-requires-clause-earlier_over
