@@ -21,13 +21,13 @@ use Rattle.fond_check.specs.declared.verdict.Verdict.TheVariants.{Accepted, Rule
 use Rattle.fond_policy.proofs.Counted.{split_at, more_counted, counted_once}
 
 -- a sure cube is not wrong
-not_wrong : (task : Task) (earlier : List (List CubeView)) (layer : List CubeView) (cube : CubeView) (spot : Spot) → IsSureCube task earlier layer cube → ¬ IsWrong task earlier layer cube spot
+pub not_wrong : (task : Task) (earlier : List (List CubeView)) (layer : List CubeView) (cube : CubeView) (spot : Spot) → IsSureCube task earlier layer cube → ¬ IsWrong task earlier layer cube spot
 not_wrong task earlier layer cube (Goal number) sure wrong = wrong sure.no_goal
 not_wrong task earlier layer cube (NotSure number act) sure wrong =
     wrong.1.escapes.1 (sure.forced wrong.1.act (Contains_numbered task.acts act wrong.1.act wrong.1.has_act) wrong.1.escapes.0)
 
 -- sure layers have no bad one
-not_bad : (task : Task) (layers : List (List CubeView)) (number : ℕ) (spot : Spot) → AreSureLayers task layers → ¬ IsFirstBadLayer task layers number spot
+pub not_bad : (task : Task) (layers : List (List CubeView)) (number : ℕ) (spot : Spot) → AreSureLayers task layers → ¬ IsFirstBadLayer task layers number spot
 not_bad task layers number spot sure bad =
     let layer_sure = sure (take number layers) bad.layer (drop (suc number) layers) (split_at layers number bad.layer bad.has_layer) in
     not_wrong task (take number layers) bad.layer bad.wrong.cube spot

@@ -15,7 +15,7 @@ use fond_state::state::State;
 use fond_task::task::Task;
 
 /// The number of the first item that is not sure. Takes the time of `sure_item` for each item.
-pub(crate) fn first_bad_item(
+pub fn first_bad_item(
     t: &Task,
     rules: &Rules,
     items: &Items,
@@ -37,7 +37,7 @@ pub(crate) fn first_bad_item(
 }
 
 /// Whether there is an item of this number, and the state lies in its cube.
-pub(crate) fn is_in_item(items: &Items, number: u32, state: &State) -> bool
+pub fn is_in_item(items: &Items, number: u32, state: &State) -> bool
     requires { AreItemsOver (length state.now) items.now }
     ensures { Decides result (IsIn items.now number state.now) }
 {

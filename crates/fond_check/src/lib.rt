@@ -4,9 +4,9 @@
 #![tactic(auto)]
 
 pub mod check;
-mod items;
+pub mod items;
 pub mod laws;
 mod lean;
-mod parts;
+pub mod parts;
 pub mod text;
 pub mod verdict;

@@ -38,7 +38,7 @@ fn bad_layer(t: &Task, layers: &Layers, image: &mut Cube) -> Option<(u32, Spot)>
 
 /// The first layer that is not sure above those before it, with what is wrong with it. Takes the time of `Layers::fault`
 /// for each layer, and memory for one cube.
-pub(crate) fn first_bad_layer(
+pub fn first_bad_layer(
     alloc: Global,
     t: &Task,
     layers: &Layers,
@@ -94,7 +94,7 @@ pub(crate) fn is_lean_pair(t: &Task, layers: &Layers, pair: &Pair, pad: &mut Pad
 }
 
 /// The number of the first pair that is not sure. Takes the time of `sure_pair` for each pair.
-pub(crate) fn first_bad_pair(t: &Task, layers: &Layers, pairs: &Pairs, pad: &mut Pad) -> Option<u64>
+pub fn first_bad_pair(t: &Task, layers: &Layers, pairs: &Pairs, pad: &mut Pad) -> Option<u64>
     requires over { AreOver (length t.now.atoms) layers.now }
     requires pairs_over { ArePairsOver (length t.now.atoms) pairs.now }
     requires pad { pad.old ≡ length t.now.atoms }
@@ -110,7 +110,7 @@ pub(crate) fn first_bad_pair(t: &Task, layers: &Layers, pairs: &Pairs, pad: &mut
 }
 
 /// The number of the first rule that is not sure. Takes the time of `sure_rule` for each rule.
-pub(crate) fn first_bad_rule(t: &Task, pairs: &Pairs, rules: &Rules, pad: &mut Pad) -> Option<u32>
+pub fn first_bad_rule(t: &Task, pairs: &Pairs, rules: &Rules, pad: &mut Pad) -> Option<u32>
     requires pairs_over { ArePairsOver (length t.now.atoms) pairs.now }
     requires belong { BelongTo t.now rules.now }
     requires pad { pad.old ≡ length t.now.atoms }

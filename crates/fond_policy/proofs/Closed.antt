@@ -43,7 +43,7 @@ found_first test (one ∷ rules) (suc number) rule is passes none =
     ∙ found_first test rules number rule is passes (λ before other lt at. none (suc before) other (omega (arith, lt)) at)
 
 -- in each state of a cube on which a condition is first, its action is chosen
-chosen_on : (rules : List Rule) (number : ℕ) (cube : CubeView) (on : IsFirstOn (firsts_of rules) number cube) (state : List Bool) → LiesIn state cube → selected rules state ≡ Some on.first.act
+pub chosen_on : (rules : List Rule) (number : ℕ) (cube : CubeView) (on : IsFirstOn (firsts_of rules) number cube) (state : List Bool) → LiesIn state cube → selected rules state ≡ Some on.first.act
 chosen_on rules number cube on state lies =
     let rule = rule_of rules number on.first on.numbered in
     let within : CubeLiesIn cube rule.0.cond = subst (λ (f : First). CubeLiesIn cube f.cond) (sym rule.2) on.lies in

@@ -1,5 +1,5 @@
 -- Certificates that belong to a task.
-use Rattle.std.specs.Prelude.{◌<◌, ◌^◌, List, All, length, ⊤}
+use Rattle.std.specs.Prelude.{◌≡◌, ℕ, ◌<◌, ◌^◌, List, All, Some, length, slice_get, ⊤}
 use Rattle.fond_task.specs.declared.task.Task.{Task}
 use Rattle.fond_task.specs.declared.rule.Pair.{Pair}
 use Rattle.fond_task.specs.declared.rule.Rule.{Rule}
@@ -10,6 +10,7 @@ use Rattle.fond_policy.specs.declared.item.Item.{Item}
 use Rattle.fond_policy.specs.declared.item.Way.{Way}
 use Rattle.fond_policy.specs.declared.item.Way.TheVariants.{Goal, Rule as ByRule}
 use Rattle.fond_policy.specs.Items.{AreItemsOver}
+use Rattle.fond_policy.specs.declared.best.BestCert.{BestCert}
 use Rattle.fond_policy.specs.declared.cert.Cert.{Cert}
 use Rattle.fond_policy.specs.declared.cert.Cert.TheVariants.{Policy, Refusal, Covered}
 
@@ -49,3 +50,12 @@ Belongs task (Policy layers pairs rules reach) = BelongAsLayers task layers × B
 Belongs task (Refusal layers) = BelongAsLayers task layers
 Belongs task (Covered layers pairs rules items start) =
     BelongAsLayers task layers × BelongAsPairs task pairs × BelongAsRules task rules × BelongAsItems task items
+
+-- a certificate of least rank belongs to a task if its parts do, there is a rank for each item, and goal items have rank 0
+pub record BelongsAsBest (task : Task) (cert : BestCert) : Type 0 where
+  pub as_layers : BelongAsLayers task cert.layers
+  pub as_rules : BelongAsRules task cert.rules
+  pub as_items : BelongAsItems task cert.items
+  pub counted : length cert.ranks ≡ length cert.items
+  pub goals : (number : ℕ) (item : Item) (rank : ℕ) → slice_get cert.items number ≡ Some item → item.way ≡ Goal → slice_get cert.ranks number ≡ Some rank → rank ≡ 0
+  pub as_lists : BelongAsLayers task cert.far

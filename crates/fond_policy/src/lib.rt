@@ -9,6 +9,7 @@
 #![tactic(auto)]
 
 mod altered;
+pub mod best;
 pub mod cert;
 pub mod conditions;
 pub mod firsts;

@@ -1,0 +1,4 @@
+pub mod Beyond
+pub mod Nearest
+pub mod Best
+pub mod Verdicts

@@ -1,0 +1,4 @@
+pub mod Ranks
+pub mod Certificates
+pub mod Ratings
+pub mod Laws
