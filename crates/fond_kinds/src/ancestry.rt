@@ -7,6 +7,7 @@ ghost use Rattle.std.specs.Prelude.{◌≡◌, ◌<◌, ◌^◌, true, length, I
 
 use crate::grower::grown;
 use crate::links::{Links, parent_at};
+use crate::order::places_of;
 use fond_text::fault::NoMemory;
 use std::alloc::Global;
 use std::marker::Model;
@@ -16,6 +17,7 @@ use std::marker::Model;
 pub(crate) struct Ancestry {
     parents: Vec<Option<u32>>,
     links: Links,
+    places: Vec<u32>,
 }
 
 impl Model for Ancestry {
@@ -37,7 +39,32 @@ impl Ancestry {
         ensures { IfOk result (λ ancestry. ancestry ≡ parents.items) }
     {
         let links = grown(alloc, &parents)?;
-        Ok(Ancestry { parents, links })
+        let places = places_of(alloc, &links, parents.len())?;
+        Ok(Ancestry {
+            parents,
+            links,
+            places,
+        })
+    }
+
+    /// The place of a number in an order in which the numbers below one take consecutive places, from its own on. It is at
+    /// least 1, and 0 for no number.
+    fn place(&self, number: u32) -> u32 {
+        match self.places.get(number as usize) {
+            Some(place) => *place,
+            None => 0,
+        }
+    }
+
+    /// The place of a number, and that of the parent that the root of its tree has lost, if it has lost one. What is above the
+    /// number is above one of the two in its tree.
+    pub(crate) fn places(&self, number: u32) -> (u32, u32)
+        requires { number < length self.now }
+    {
+        match parent_at(&self.parents, self.links.root(number)) {
+            Some(lost) => (self.place(number), self.place(lost)),
+            None => (self.place(number), 0),
+        }
     }
 
     /// Whether the first number is below the second: it is the second, or its parent is below the second. A cycle is a tree

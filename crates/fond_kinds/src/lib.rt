@@ -6,4 +6,5 @@ mod ancestry;
 pub mod fault;
 mod grower;
 mod links;
+mod order;
 pub mod table;

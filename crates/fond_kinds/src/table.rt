@@ -216,6 +216,16 @@ impl<'a> TypeTable<'a> {
         other == 0 || self.ancestry.is_below(number, other)
     }
 
+    /// Two places in an order of the types, each of which comes right before all types below it; types closed in a cycle hang
+    /// below one of them. The first is the place of this type, so a type above it has the last place among such types that is
+    /// no later than the first place, or than the second, which matters only below a cycle. This makes a guess quick; that it
+    /// is right is for `is_subtype` to tell.
+    pub fn places(&self, number: u32) -> (u32, u32)
+        requires { IsNumber self.now.types.now number }
+    {
+        self.ancestry.places(number)
+    }
+
     /// The index of the first declaration of a type.
     pub(crate) fn first(&self, name: &[u8]) -> Option<u32>
         requires { (number : ℕ) × (number_of self.now.types.now name.now ≡ Some number) }
