@@ -1,7 +1,8 @@
 -- The sites of a condition and of an effect, by their outermost forms, and the first fault at sites.
-use Rattle.std.proofs.Common.{◌≡◌, ℕ, ◌+◌, ◌<◌, ◌≤◌, List, [], ◌∷◌, ◌++◌, Option, Some, slice_get, map, take, drop, sum, length, get_or, sym, ap, ◌∙◌, subst, arith, append-nil}
+use Rattle.std.proofs.Common.{◌≡◌, ℕ, ◌+◌, ◌<◌, ◌≤◌, List, [], ◌∷◌, ◌++◌, Option, Some, slice_get, map, take, drop, sum, length, get_or, sym, ap, ◌∙◌, subst, arith, append-nil, IfOk, Result}
 use Rattle.std.specs.List.{flat_map}
 use Rattle.std.proofs.lemmas.List.{map-append, take_more, at_drop_more}
+use Rattle.std.proofs.lemmas.Result.{IfOk-weaker}
 use Rattle.std.proofs.lemmas.List.Sums.{sum_by-cons}
 use Rattle.std.proofs.lemmas.List.Concat.{flat_map-append}
 use Rattle.fond_ast.specs.Read.{condition_variables, condition_variables_step, effect_variables, effect_variables_step}
@@ -11,6 +12,7 @@ use Rattle.fond_ast.specs.declared.syntax.Cond.TheFolds.{fold_out-Cond, map-Cond
 use Rattle.fond_ast.specs.declared.syntax.Effect.{Effect, out-Effect}
 use Rattle.fond_ast.specs.declared.syntax.Effect.TheOpen as open_effect
 use Rattle.fond_ast.specs.declared.syntax.Effect.TheFolds.{fold_out-Effect, map-Effect}
+use Rattle.fond_text.specs.declared.fault.NoMemory.{NoMemory}
 use Rattle.fond_text.specs.declared.first.Found.{Found}
 use Rattle.fond_text.specs.declared.place.Place.{Place}
 use Rattle.fond_text.specs.Firsts.{IsFirst, IsEarlier}
@@ -48,6 +50,10 @@ module _ (files : Declarations) where
   -- the only site of a list
   pub site_one : (site : Site) (found : Option Found) → IsFirst (At site) found → IsFirst (OccursAmong files (site ∷ [])) found
   site_one site found h = among_one At site found h
+
+  -- the only site of a list, if memory lasts
+  pub site_alone : (site : Site) (found : Result (Option Found) NoMemory) → IfOk found (IsFirst (At site)) → IfOk found (IsFirst (OccursAmong files (site ∷ [])))
+  site_alone site found h = IfOk-weaker found (IsFirst (At site)) (IsFirst (OccursAmong files (site ∷ []))) (site_one site) h
 
   -- the sites of two lists
   pub sites_both : (sites others : List Site) (one other first : Option Found) → IsFirst (OccursAmong files sites) one → IsFirst (OccursAmong files others) other → IsEarlier one other first → IsFirst (OccursAmong files (sites ++ others)) first

@@ -6,7 +6,7 @@ ghost use Rattle.fond_names.specs.Files.{declarations_of};
 ghost use Rattle.fond_names.specs.Names.{predicate_of};
 ghost use Rattle.fond_names.specs.Sites.{AnAtom, AnEquality, AList};
 ghost use Rattle.fond_names.specs.Unknown.{IsMisfit};
-ghost use Rattle.std.specs.Prelude.{◌≡◌, Some};
+ghost use Rattle.std.specs.Prelude.{◌≡◌, IfOk, Some};
 
 use crate::files::Files;
 use crate::lookup::find_predicate;
@@ -18,7 +18,9 @@ use crate::variable::find_term;
 use fond_ast::files::Declared;
 use fond_ast::names::{ReadAtom, Term, TypedName};
 use fond_text::code::{TYPE_MISMATCH, UNKNOWN_PREDICATE, UNKNOWN_TERM, WRONG_ARITY};
+use fond_text::fault::NoMemory;
 use fond_text::first::{Found, earlier, found_if};
+use std::alloc::Global;
 
 /// A term, if it is unknown.
 fn unknown_one(files: &Files, around: &Around, term: &Term) -> Option<Found>
@@ -40,29 +42,41 @@ fn unknown_term(files: &Files, around: &Around, atom: &ReadAtom) -> Option<Found
 }
 
 /// An argument, if it does not fit a parameter.
-fn misfit(files: &Files, around: &Around, argument: &Term, parameter: &TypedName) -> Option<Found>
-    ensures { IsFirst (IsMisfit (declarations_of files.now) around.now argument.now parameter.now) result }
+fn misfit(
+    alloc: Global,
+    files: &Files,
+    around: &Around,
+    argument: &Term,
+    parameter: &TypedName,
+) -> Result<Option<Found>, NoMemory>
+    ensures { IfOk result (IsFirst (IsMisfit (declarations_of files.now) around.now argument.now parameter.now)) }
 {
     match find_term(files, around, argument) {
         Some(declared) => {
-            let bad = are_misfits(&files.types, &declared.kinds, &parameter.kinds);
-            found_if(bad, argument.place, TYPE_MISMATCH)
+            let bad = are_misfits(alloc, &files.types, &declared.kinds, &parameter.kinds)?;
+            Ok(found_if(bad, argument.place, TYPE_MISMATCH))
         }
-        None => None,
+        None => Ok(None),
     }
 }
 
 /// The first argument of an atom that does not fit its parameter.
-fn mismatch(files: &Files, around: &Around, predicate: &Declared, atom: &ReadAtom) -> Option<Found>
+fn mismatch(
+    alloc: Global,
+    files: &Files,
+    around: &Around,
+    predicate: &Declared,
+    atom: &ReadAtom,
+) -> Result<Option<Found>, NoMemory>
     requires { predicate_of files.now.domain.now atom.now.name ≡ Some predicate.now }
-    ensures { IsFirst (HasMismatch (declarations_of files.now) around.now atom.now) result }
+    ensures { IfOk result (IsFirst (HasMismatch (declarations_of files.now) around.now atom.now)) }
 {
     let mut first = None;
     for i in 0..atom.terms.len().min(predicate.parameters.len()) {
         let (argument, parameter) = (atom.terms.get(i), predicate.parameters.get(i));
-        first = earlier(first, misfit(files, around, argument, parameter));
+        first = earlier(first, misfit(alloc, files, around, argument, parameter)?);
     }
-    first
+    Ok(first)
 }
 
 /// An atom, if it has another number of terms than its predicate has parameters.
@@ -75,17 +89,23 @@ fn wrong_arity(files: &Files, predicate: &Declared, atom: &ReadAtom) -> Option<F
 }
 
 /// The first fault of names in an atom.
-pub(crate) fn atom_fault(files: &Files, around: &Around, atom: &ReadAtom) -> Option<Found>
-    ensures { IsFirstAt (declarations_of files.now) (AnAtom around.now atom.now) result }
+pub(crate) fn atom_fault(
+    alloc: Global,
+    files: &Files,
+    around: &Around,
+    atom: &ReadAtom,
+) -> Result<Option<Found>, NoMemory>
+    ensures { IfOk result (IsFirstAt (declarations_of files.now) (AnAtom around.now atom.now)) }
 {
     let terms = unknown_term(files, around, atom);
     match find_predicate(files, &atom.name) {
         Some(predicate) => {
             let arity = wrong_arity(files, predicate, atom);
-            let arguments = earlier(mismatch(files, around, predicate, atom), terms);
-            earlier(arity, arguments)
+            let misfit = mismatch(alloc, files, around, predicate, atom)?;
+            let arguments = earlier(misfit, terms);
+            Ok(earlier(arity, arguments))
         }
-        None => earlier(found_if(true, atom.head, UNKNOWN_PREDICATE), terms),
+        None => Ok(earlier(found_if(true, atom.head, UNKNOWN_PREDICATE), terms)),
     }
 }
 

@@ -30,7 +30,7 @@ fn condition_fault(
 {
     match condition {
         Cond::Truth => Ok(None),
-        Cond::Holds(atom) => Ok(atom_fault(files, around, atom)),
+        Cond::Holds(atom) => atom_fault(alloc, files, around, atom),
         Cond::Equal(term, other) => Ok(equality_fault(files, around, term, other)),
         Cond::And(parts) | Cond::Or(parts) => conditions_fault(alloc, files, parts, around),
         Cond::Not(part) => condition_fault(alloc, files, part, around),
@@ -109,7 +109,7 @@ fn effect_fault(
 {
     match effect {
         Effect::Nothing => Ok(None),
-        Effect::Add(atom) | Effect::Delete(atom) => Ok(atom_fault(files, around, atom)),
+        Effect::Add(atom) | Effect::Delete(atom) => atom_fault(alloc, files, around, atom),
         Effect::And(parts) | Effect::OneOf(parts) => effects_fault(alloc, files, parts, around),
         Effect::Forall(names, part) => universal_fault(alloc, files, names, part, around),
         Effect::When(condition, part) => {
@@ -211,16 +211,16 @@ pub(crate) fn domain_site_fault(alloc: Global, files: &Files) -> Result<Option<F
 }
 
 /// The first fault of names in the initial atoms of the problem.
-fn init_fault(files: &Files) -> Option<Found>
-    ensures { IsFirstIn (declarations_of files.now) (initial_sites files.now.problem.now) result }
+fn init_fault(alloc: Global, files: &Files) -> Result<Option<Found>, NoMemory>
+    ensures { IfOk result (IsFirstIn (declarations_of files.now) (initial_sites files.now.problem.now)) }
 {
     let outside = outside();
     let mut first = None;
     for i in 0..files.problem.init.len() {
         let initial = files.problem.init.get(i);
-        first = earlier(first, atom_fault(files, &outside, &initial.atom));
+        first = earlier(first, atom_fault(alloc, files, &outside, &initial.atom)?);
     }
-    first
+    Ok(first)
 }
 
 /// The first fault of names in the initial atoms and the goal of the problem.
@@ -228,7 +228,7 @@ pub(crate) fn problem_site_fault(alloc: Global, files: &Files) -> Result<Option<
     ensures { IfOk result (IsFirstIn (declarations_of files.now) (problem_sites files.now.problem.now)) }
 {
     let outside = outside();
-    let first = init_fault(files);
+    let first = init_fault(alloc, files)?;
     Ok(earlier(
         first,
         condition_fault(alloc, files, &files.problem.goal, &outside)?,

@@ -3,11 +3,11 @@ use Rattle.fond_names.specs.Files.{declarations_of}
 use Rattle.fond_names.proofs.AtomFaults.{fault_if_declared, fault_if_unknown}
 use Rattle.fond_names.proofs.atoms.atom_fault.Goals as goal
 
-pub returns-in-Some : goal.returns-in-Some
-returns-in-Some c =
+pub returns-in_ok-misfit-in-Some : goal.returns-in_ok-misfit-in-Some
+returns-in_ok-misfit-in-Some c =
     fault_if_declared (declarations_of c.args.files.now) c.args.around.now c.args.atom.now c.in-Some.predicate.now (sym c.in-Some.ensures)
-    c.wrong_arity-arity.result c.mismatch.result c.unknown_term-terms.result c.earlier-arguments.result c.earlier.result
-    c.wrong_arity-arity.ensures c.mismatch.ensures c.unknown_term-terms.ensures c.earlier-arguments.ensures c.earlier.ensures
+    c.wrong_arity-arity.result c.in_ok-misfit-in-Some.misfit c.unknown_term-terms.result c.earlier-arguments.result c.earlier.result
+    c.wrong_arity-arity.ensures c.in_ok-misfit-in-Some.ensures c.unknown_term-terms.ensures c.earlier-arguments.ensures c.earlier.ensures
 
 pub returns-in-None : goal.returns-in-None
 returns-in-None c =

@@ -12,8 +12,8 @@ pub loop-i-preserved : goal.loop-i-preserved
 loop-i-preserved c =
     let files = declarations_of c.args.files.now in
     let around = c.args.around.now in
-    below_next (IsMisfitAt files around c.args.predicate.now c.args.atom.now) c.loop-i.i c.loop-i.first c.misfit.result c.earlier-first.result c.loop-i.invariant
-    (misfit_at files around c.args.predicate.now c.args.atom.now c.loop-i.i c.get-argument.result.now c.get-parameter.result.now c.misfit.result c.get-argument.ensures c.get-parameter.ensures c.misfit.ensures) c.earlier-first.ensures
+    below_next (IsMisfitAt files around c.args.predicate.now c.args.atom.now) c.loop-i.i c.loop-i.first c.in_ok-misfit.field-0 c.earlier-first.result c.loop-i.invariant
+    (misfit_at files around c.args.predicate.now c.args.atom.now c.loop-i.i c.get-argument.result.now c.get-parameter.result.now c.in_ok-misfit.field-0 c.get-argument.ensures c.get-parameter.ensures c.in_ok-misfit.ensures) c.earlier-first.ensures
 
 pub returns : goal.returns
 returns c =

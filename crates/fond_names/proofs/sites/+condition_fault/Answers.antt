@@ -12,7 +12,7 @@ use Rattle.fond_ast.specs.declared.names.TypedName.{TypedName}
 use Rattle.fond_names.specs.Faults.{OccursAmong}
 use Rattle.fond_names.specs.Files.{declarations_of}
 use Rattle.fond_names.specs.Sites.{Site, AnAtom, AnEquality, AList, condition_sites}
-use Rattle.fond_names.proofs.SiteLemmas.{condition_sites_by, condition_variables_by, site_one, sites_both, site_then, sites_next, fewer_left}
+use Rattle.fond_names.proofs.SiteLemmas.{condition_sites_by, condition_variables_by, site_one, site_alone, sites_both, site_then, sites_next, fewer_left}
 use Rattle.fond_names.proofs.sites.+condition_fault.Goals as goal
 
 pub condition_fault-returns-in-Holds : goal.condition_fault-returns-in-Holds
@@ -20,7 +20,7 @@ condition_fault-returns-in-Holds t c =
     let files = declarations_of c.args.files.now in
     let around = c.args.around.now in
     let same = condition_sites_by c.args.condition.now (open_condition.Holds c.in-Holds.atom) (ap out-Cond c.in-Holds.is ∙ made.outs-Holds c.in-Holds.atom) around in
-    subst (λ (sites : List Site). IsFirst (OccursAmong files sites) c.atom_fault.result) (sym same) (site_one files (AnAtom around c.in-Holds.atom) c.atom_fault.result c.atom_fault.ensures)
+    subst (λ (sites : List Site). IfOk c.atom_fault.result (IsFirst (OccursAmong files sites))) (sym same) (site_alone files (AnAtom around c.in-Holds.atom) c.atom_fault.result c.atom_fault.ensures)
 
 pub condition_fault-returns-in-Equal : goal.condition_fault-returns-in-Equal
 condition_fault-returns-in-Equal t c =

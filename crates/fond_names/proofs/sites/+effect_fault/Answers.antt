@@ -12,7 +12,7 @@ use Rattle.fond_ast.specs.declared.names.TypedName.{TypedName}
 use Rattle.fond_names.specs.Faults.{OccursAmong}
 use Rattle.fond_names.specs.Files.{declarations_of}
 use Rattle.fond_names.specs.Sites.{Site, AnAtom, AList, condition_sites, effect_sites}
-use Rattle.fond_names.proofs.SiteLemmas.{effect_sites_by, effect_variables_by, site_one, sites_both, site_then, sites_next, fewer_left}
+use Rattle.fond_names.proofs.SiteLemmas.{effect_sites_by, effect_variables_by, site_alone, sites_both, site_then, sites_next, fewer_left}
 use Rattle.fond_names.proofs.sites.+effect_fault.Goals as goal
 
 pub effect_fault-returns-in-Add : goal.effect_fault-returns-in-Add
@@ -25,7 +25,7 @@ effect_fault-returns-in-Add t c =
       | inl e ↦ effect_sites_by c.args.effect.now (open_effect.Add atom) (ap out-Effect e ∙ made.outs-Add atom) around
       | inr e ↦ effect_sites_by c.args.effect.now (open_effect.Delete atom) (ap out-Effect e ∙ made.outs-Delete atom) around
     ] in
-    subst (λ (sites : List Site). IsFirst (OccursAmong files sites) c.atom_fault.result) (sym same) (site_one files (AnAtom around atom) c.atom_fault.result c.atom_fault.ensures)
+    subst (λ (sites : List Site). IfOk c.atom_fault.result (IsFirst (OccursAmong files sites))) (sym same) (site_alone files (AnAtom around atom) c.atom_fault.result c.atom_fault.ensures)
 
 pub effect_fault-returns-in_ok-effect_fault-in-When : goal.effect_fault-returns-in_ok-effect_fault-in-When
 effect_fault-returns-in_ok-effect_fault-in-When t c =

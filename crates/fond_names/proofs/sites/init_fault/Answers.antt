@@ -11,5 +11,5 @@ pub loop-i-preserved : goal.loop-i-preserved
 loop-i-preserved c =
     let files = declarations_of c.args.files.now in
     let initial = c.get-initial.result.now in
-    site_more files (λ (one : InitAtom). AnAtom [] one.atom) c.args.files.now.problem.now.init c.loop-i.i initial c.loop-i.first c.atom_fault.result c.earlier-first.result c.get-initial.ensures c.loop-i.invariant
-    (subst (λ (around : Scope). IsFirst (λ place code. OccursAt files place code (AnAtom around initial.atom)) c.atom_fault.result) c.outside-outside.ensures c.atom_fault.ensures) c.earlier-first.ensures
+    site_more files (λ (one : InitAtom). AnAtom [] one.atom) c.args.files.now.problem.now.init c.loop-i.i initial c.loop-i.first c.in_ok-atom_fault.field-0 c.earlier-first.result c.get-initial.ensures c.loop-i.invariant
+    (subst (λ (around : Scope). IsFirst (λ place code. OccursAt files place code (AnAtom around initial.atom)) c.in_ok-atom_fault.field-0) c.outside-outside.ensures c.in_ok-atom_fault.ensures) c.earlier-first.ensures
