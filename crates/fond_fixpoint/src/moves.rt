@@ -1,6 +1,7 @@
 //! The moves of a graph, in flat lists.
 
-ghost use Rattle.fond_fixpoint.specs.Moves.{Move, move_at};
+ghost use Rattle.fond_fixpoint.specs.Moves.{Move, IsLike, move_at};
+ghost use Rattle.std.specs.Bool.{Decides};
 ghost use Rattle.std.specs.Prelude.{◌≡◌, ◌<◌, ◌^◌, List, [], ◌∷◌, ◌++◌, length, OnOk};
 
 use fond_text::fault::NoMemory;
@@ -52,7 +53,7 @@ impl Moves {
     }
 
     /// The number of moves.
-    pub(crate) fn len(&self) -> u32
+    pub fn len(&self) -> u32
         ensures { result ≡ length self.now }
     {
         self.heads.len() as u32
@@ -89,6 +90,16 @@ impl Moves {
     {
         let head = self.heads[number as usize];
         &self.targets[head.begin as usize..head.end as usize]
+    }
+
+    /// Whether there is a move of this number with this source, this fairness and these targets, whatever its action is.
+    pub fn is_like(&self, number: u32, source: u32, unfair: bool, targets: &[u32]) -> bool
+        ensures { Decides result (IsLike self.now number source unfair targets.now) }
+    {
+        number < self.len()
+            && self.source(number) == source
+            && self.is_unfair(number) == unfair
+            && self.targets(number) == targets
     }
 
     /// Adds a move at the end.
