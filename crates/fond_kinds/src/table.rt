@@ -216,10 +216,10 @@ impl<'a> TypeTable<'a> {
         other == 0 || self.ancestry.is_below(number, other)
     }
 
-    /// Two places in an order of the types, each of which comes right before all types below it; types closed in a cycle hang
-    /// below one of them. The first is the place of this type, so a type above it has the last place among such types that is
-    /// no later than the first place, or than the second, which matters only below a cycle. This makes a guess quick; that it
-    /// is right is for `is_subtype` to tell.
+    /// Two places in an order of the types in which each type comes right before all types below it: the place of this type,
+    /// and, if the types above it close a cycle, that of the type at which the order has cut the cycle, or else 0. Of types none
+    /// of which is below another, only the last one whose place is not after one of the two can be above this type. That makes
+    /// a guess; `is_subtype` tells whether it is right.
     pub fn places(&self, number: u32) -> (u32, u32)
         requires { IsNumber self.now.types.now number }
     {
