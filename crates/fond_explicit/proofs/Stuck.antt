@@ -129,16 +129,10 @@ module _ (task : Task) (from : List Bool) (states : List (List Bool)) (moves : L
         forced : is_true state act.pre ≡ true → Forces before layer (full_cube state) act
         forced holds =
             let move = space.opened_first node opened_node.0 state has_state opened_node.1 number act has_act holds in
-            let played = space.played move.number move.there in
-            let same_state : played.state ≡ state = same_Some played.state state (sym played.has_state ∙ ap (slice_get states) move.source ∙ has_state) in
-            let same_act : played.act ≡ act = same_Some played.act act (sym played.has_act ∙ ap (slice_get task.acts) move.takes ∙ has_act) in
-            let leads = subst (λ (a : Act). AreNexts states state (move_at moves move.number).targets a.outcomes) same_act
-            (subst (λ s. AreNexts states s (move_at moves move.number).targets played.act.outcomes) same_state played.leads) in
-            let flagged : (move_at moves move.number).unfair ≡ act.unfair = played.flagged ∙ ap (λ (a : Act). a.unfair) same_act in
             let lost = (settled.falls_hold node round fell).1 move.number move.there move.source in
             ⊎_elim
-            (λ early. let to = some_next states state (λ target. fell_before round (fate_of fates target)) (move_at moves move.number).targets act.outcomes leads early in into_before to.0 to.1 to.2)
-            (λ here. by move.number leads act.unfair refl (subst (here_by move.number) flagged here))
+            (λ early. let to = some_next states state (λ target. fell_before round (fate_of fates target)) (move_at moves move.number).targets act.outcomes move.leads early in into_before to.0 to.1 to.2)
+            (λ here. by move.number move.leads act.unfair refl (subst (here_by move.number) move.flagged here))
             (or_cases _ _ lost)
           where
             here_by : ℕ → Bool → Type 0

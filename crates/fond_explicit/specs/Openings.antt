@@ -1,6 +1,8 @@
 -- Opening states one by one.
 use Rattle.std.specs.Prelude.{◌≡◌, ◌⊎◌, ℕ, ◌≤◌, List, [], ◌∷◌, ◌++◌, Bool, Option, Some, None, Contains, length, slice_get}
 use Rattle.fond_text.specs.Lists.{AreDistinct}
+use Rattle.fond_fixpoint.specs.Moves.{Move, IsLike}
+use Rattle.fond_task.specs.declared.task.Act.{Act}
 use Rattle.fond_task.specs.declared.task.Task.{Task}
 use Rattle.fond_task.specs.Policies.{IsNext}
 use Rattle.fond_explicit.specs.declared.space.Space.{Space}
@@ -40,9 +42,13 @@ pub record IsFull (task : Task) (state : List Bool) (budget : ℕ) (states : Lis
   pub leads : IsNext task state number next
   pub lacks : IsFullWithout budget states next
 
+-- a move is kept: it was added at the end, or there was one that differs from it at most in the action
+abbrev pub IsMoveKept : List Move → List Move → Move → Type 0
+IsMoveKept old new move = (new ≡ old ++ move ∷ []) ⊎ ((new ≡ old) × ((number : ℕ) × IsLike old number move.source move.unfair move.targets))
+
 -- a part of opening this state: a space stays right if the state is reachable, and nothing in it is lost
 pub record IsOpening (task : Task) (state : List Bool) (old new : Space) : Type 0 where
   pub keeps : (from : List Bool) → IsReachable task from state → IsSpaceFrom task from old → IsSpaceFrom task from new
   pub same : new.opened ≡ old.opened
   pub stays : (node : ℕ) (other : List Bool) → slice_get old.states node ≡ Some other → slice_get new.states node ≡ Some other
-  pub moves_stay : (node act : ℕ) → HasMove old.moves node act → HasMove new.moves node act
+  pub moves_stay : (node : ℕ) (from : List Bool) (act : Act) → HasMove old.states old.moves node from act → HasMove new.states new.moves node from act

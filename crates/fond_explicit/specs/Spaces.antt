@@ -32,17 +32,18 @@ pub record IsMoveOf (task : Task) (states : List (List Bool)) (move : Move) : Ty
   pub flagged : move.unfair ≡ act.unfair
   pub leads : AreNexts states state move.targets act.outcomes
 
--- some move takes an action in a node
-pub record HasMove (moves : List Move) (node act : ℕ) : Type 0 where
+-- some move of a node leads where an action leads from its state, and is as fair as the action
+pub record HasMove (states : List (List Bool)) (moves : List Move) (node : ℕ) (state : List Bool) (act : Act) : Type 0 where
   pub number : ℕ
   pub there : number < length moves
   pub source : (move_at moves number).source ≡ node
-  pub takes : (move_at moves number).act ≡ act
+  pub flagged : (move_at moves number).unfair ≡ act.unfair
+  pub leads : AreNexts states state (move_at moves number).targets act.outcomes
 
--- a node is opened if its state is a goal, or each action that is applicable in the state has a move
+-- a node is opened if its state is a goal, or for each action that is applicable in the state some move leads where it leads
 abbrev pub IsOpened : Task → List (List Bool) → List Move → ℕ → Type 0
 IsOpened task states moves node = (state : List Bool) → slice_get states node ≡ Some state → ¬ IsGoal task state →
-    (number : ℕ) (act : Act) → slice_get task.acts number ≡ Some act → is_true state act.pre ≡ true → HasMove moves node number
+    (number : ℕ) (act : Act) → slice_get task.acts number ≡ Some act → is_true state act.pre ≡ true → HasMove states moves node state act
 
 -- states that are reachable from the first, with moves among them, of which so many are opened
 pub record IsSpace (task : Task) (from : List Bool) (states : List (List Bool)) (moves : List Move) (opened : ℕ) : Type 0 where

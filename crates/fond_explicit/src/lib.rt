@@ -3,8 +3,8 @@
 //! state; or that more states are reachable than the bound. Each answer is proved right by the definitions of the game
 //! (specs/Answers.antt). Turning choices into rules and layers into small ones is left to the crates above.
 //!
-//! States are the nodes of a graph and applicable actions its moves; the nested fixpoint of fond_fixpoint finds which nodes
-//! are won and in which rounds the others are lost.
+//! States are the nodes of a graph and applicable actions its moves, equal ones kept once; the nested fixpoint of
+//! fond_fixpoint finds which nodes are won and in which rounds the others are lost.
 #![tactic(auto)]
 
 pub mod act_index;
@@ -13,6 +13,7 @@ mod choose;
 mod decide;
 pub mod filing;
 mod opening;
+mod recent;
 pub mod solve;
 mod space;
 mod strata;

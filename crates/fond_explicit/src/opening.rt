@@ -76,8 +76,8 @@ fn reach_all(
     Ok(true)
 }
 
-/// Adds the move of an action, if it is applicable in the state to be opened. Whether there is room for the states to which
-/// it leads.
+/// Adds the move of an action, if it is applicable in the state to be opened, unless an equal move was kept recently. Whether
+/// there is room for the states to which it leads.
 fn open_act(
     alloc: Global,
     t: &Task,
@@ -97,7 +97,7 @@ fn open_act(
     ensures next_long { length scratch.new.next ≡ length t.now.atoms }
     ensures few { IfOk result (λ _. length space.new.states ≤ budget) }
     ensures opening { IfOk result (λ _. IsOpening t.now state.now space.old space.new) }
-    ensures room { IfOk result (λ room. MatchBool room ((a : Act) → slice_get t.now.acts act ≡ Some a → is_true state.now a.pre ≡ true → HasMove space.new.moves space.old.opened act) (IsFull t.now state.now budget space.new.states)) }
+    ensures room { IfOk result (λ room. MatchBool room ((a : Act) → slice_get t.now.acts act ≡ Some a → is_true state.now a.pre ≡ true → HasMove space.new.states space.new.moves space.old.opened state.now a) (IsFull t.now state.now budget space.new.states)) }
 {
     if !applicable(t, state, act) {
         return Ok(true);
@@ -106,14 +106,18 @@ fn open_act(
         return Ok(false);
     }
     let unfair = t.acts.get(act as usize).unfair;
-    space
-        .moves
-        .push(space.opened, act, unfair, scratch.targets.as_slice())?;
+    scratch.recent.keep(
+        &mut space.moves,
+        space.opened,
+        act,
+        unfair,
+        scratch.targets.as_slice(),
+    )?;
     Ok(true)
 }
 
-/// Adds the moves of the candidates that are applicable in the state to be opened. Whether there is room for the states to
-/// which they lead.
+/// Adds the moves of the candidates that are applicable in the state to be opened, equal ones once. Whether there is room for
+/// the states to which they lead.
 fn open_acts(
     alloc: Global,
     t: &Task,
@@ -133,7 +137,7 @@ fn open_acts(
     ensures next_long { length scratch.new.next ≡ length t.now.atoms }
     ensures few { IfOk result (λ _. length space.new.states ≤ budget) }
     ensures opening { IfOk result (λ _. IsOpening t.now state.now space.old space.new) }
-    ensures room { IfOk result (λ room. MatchBool room ((number : ℕ) (a : Act) → slice_get t.now.acts number ≡ Some a → is_true state.now a.pre ≡ true → HasMove space.new.moves space.old.opened number) (IsFull t.now state.now budget space.new.states)) }
+    ensures room { IfOk result (λ room. MatchBool room ((number : ℕ) (a : Act) → slice_get t.now.acts number ≡ Some a → is_true state.now a.pre ≡ true → HasMove space.new.states space.new.moves space.old.opened state.now a) (IsFull t.now state.now budget space.new.states)) }
 {
     for act in acts {
         if !open_act(alloc, t, space, state, *act, budget, scratch)? {
@@ -143,9 +147,9 @@ fn open_acts(
     Ok(true)
 }
 
-/// Opens the next state: afterwards all moves out of it are there, unless there is no room for the states to which they lead.
-/// Whether there is room. Takes time in the number of atoms and, for each candidate, in the size of its precondition and, if
-/// it is applicable, in the number of atoms times that of the outcomes.
+/// Opens the next state: afterwards the moves of all actions that are applicable in it are there, equal ones once, unless
+/// there is no room for the states to which they lead. Whether there is room. Takes time in the number of atoms and, for each
+/// candidate, in the size of its precondition and, if it is applicable, in the number of atoms times that of the outcomes.
 fn open_next(
     alloc: Global,
     t: &Task,

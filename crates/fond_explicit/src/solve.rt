@@ -10,6 +10,7 @@ use crate::answer::Solved;
 use crate::decide::decide;
 use crate::filing::index_of;
 use crate::opening::open_batch;
+use crate::recent::Recent;
 use crate::space::{Scratch, Space};
 use fond_fixpoint::moves::Moves;
 use fond_state::state::State;
@@ -81,6 +82,7 @@ pub fn solve_by(
     let mut scratch = Scratch {
         next: from.copy(alloc)?,
         targets: Vec::new(alloc),
+        recent: Recent::new(alloc)?,
     };
     let mut space = begin(alloc, t, from)?;
     open_all(alloc, t, index, &mut space, budget, &mut scratch)

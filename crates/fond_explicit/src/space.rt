@@ -1,11 +1,12 @@
 //! The states that were found, and the moves among them.
 
+use crate::recent::Recent;
 use fond_fixpoint::moves::Moves;
 use fond_state::state::State;
 use fond_store::store::Store;
 
-/// States by their numbers, the moves between them, and how many states are opened: of the first so many, all moves are
-/// there.
+/// States by their numbers, the moves between them, and how many states are opened: for each action that is applicable in one
+/// of the first so many, there is a move to its next states, which equal actions share.
 #[derive(Drop)]
 pub(crate) struct Space {
     pub(crate) states: Store,
@@ -13,9 +14,11 @@ pub(crate) struct Space {
     pub(crate) opened: u32,
 }
 
-/// A state and a list of numbers that opening overwrites, so that it takes no memory for them each time.
+/// A state and a list of numbers that opening overwrites, so that it takes no memory for them each time, and the moves that
+/// were kept recently.
 #[derive(Drop)]
 pub(crate) struct Scratch {
     pub(crate) next: State,
     pub(crate) targets: Vec<u32>,
+    pub(crate) recent: Recent,
 }

@@ -19,14 +19,12 @@ loop-act-preserved c =
       few = c.in_ok-open_act.ensures.few;
       opening = opening_then task state c.args.space.now c.loop-act.space c.open_act.new.space before.opening opening;
       done = λ k a small at holds. ⊎_elim
-          (λ early. opening.moves_stay node (get_or acts k 0) (before.done k a early at holds))
+          (λ early. opening.moves_stay node state a (before.done k a early at holds))
           (λ late.
           let same : k ≡ i = omega arith in
-          let P : ℕ → Type 0 = λ j. HasMove c.open_act.new.space.moves node (get_or acts j 0) in
-          let Q : ℕ → Type 0 = λ n. HasMove c.open_act.new.space.moves n (get_or acts i 0) in
-          let now : HasMove c.open_act.new.space.moves c.loop-act.space.opened (get_or acts i 0)
+          let now : HasMove c.open_act.new.space.states c.open_act.new.space.moves c.loop-act.space.opened state a
           = MatchBool-at_true _ _ c.if-not-branch.false c.in_ok-open_act.ensures.room a (ap (λ j. slice_get task.acts (get_or acts j 0)) (sym same) ∙ at) holds in
-          subst P (sym same) (subst Q before.opening.same now))
+          subst (λ (n : ℕ). HasMove c.open_act.new.space.states c.open_act.new.space.moves n state a) before.opening.same now)
           (cases_lt k i);
     }
 
@@ -35,5 +33,4 @@ returns-clause-room c = λ number a at holds.
     let acts = c.args.acts.now in
     let has = c.requires.candidates.all number a at holds in
     let same : get_or acts has.0 0 ≡ number = same_Some _ _ (sym (slice_get-get_or acts has.0 0 has.1) ∙ slice_get-get_or acts has.0 number has.1) ∙ has.2 in
-    let P : ℕ → Type 0 = λ n. HasMove c.loop-act.space.moves c.args.space.now.opened n in
-    subst P same (c.loop-act.invariant.done has.0 a (omega (arith, has.1, c.loop-act-test.false)) (ap (slice_get c.args.t.now.acts) same ∙ at) holds)
+    c.loop-act.invariant.done has.0 a (omega (arith, has.1, c.loop-act-test.false)) (ap (slice_get c.args.t.now.acts) same ∙ at) holds

@@ -10,5 +10,5 @@ invariant-loop-act l = record {
   next_long : length l.scratch.next ≡ length l.t.atoms;
   few : length l.space.states ≤ l.budget;
   opening : IsOpening l.t l.state l.fn.space l.space;
-  done : (k : ℕ) (a : Act) → k < l.act-index → slice_get l.t.acts (get_or l.acts k 0) ≡ Some a → is_true l.state a.pre ≡ true → HasMove l.space.moves l.fn.space.opened (get_or l.acts k 0);
+  done : (k : ℕ) (a : Act) → k < l.act-index → slice_get l.t.acts (get_or l.acts k 0) ≡ Some a → is_true l.state a.pre ≡ true → HasMove l.space.states l.space.moves l.fn.space.opened l.state a;
 }

@@ -1,4 +1,4 @@
-use Rattle.std.proofs.Common.{Some, sym, ap, ◌∙◌, subst, refl}
+use Rattle.std.proofs.Common.{Some, sym, ap, ◌∙◌, subst}
 use Rattle.std.proofs.lemmas.Bool.{MatchBool-at_true, MatchBool-at_false, true≢false}
 use Rattle.fond_explicit.specs.Filings.{AreCandidates}
 use Rattle.fond_explicit.proofs.Opened.{goal_opened, kept_open, state_opened, state_past}
