@@ -1,5 +1,5 @@
 -- Ground actions, their outcomes, and lists of them.
-use Rattle.std.proofs.Common.{◌≡◌, ℕ, zero, suc, ◌+◌, ◌<◌, ◌≤◌, ◌∙◌, ◌&&◌, nat_le, nat_lt, Bool, true, false, List, [], ◌∷◌, ◌++◌, Some, Result, Ok, Err, IfErr, IsErrAnd, length, get_or, slice_get, take, map, refl, sym, ap, subst, arith}
+use Rattle.std.proofs.Common.{◌≡◌, ℕ, zero, suc, ◌+◌, ◌<◌, ◌≤◌, ◌∙◌, ◌&&◌, nat_le, nat_lt, Bool, true, List, [], ◌∷◌, ◌++◌, Some, Result, Ok, Err, IfErr, IsErrAnd, length, get_or, slice_get, take, map, refl, sym, ap, subst, arith}
 use Rattle.std.specs.List.{AllZip, list_all}
 use Rattle.std.proofs.lemmas.Bool.Decides.{nat_tests}
 use Rattle.std.proofs.lemmas.List.Folds.{list_all-append}
@@ -33,14 +33,11 @@ outcomes_stand task lists effect entries has are =
 pub count_same : (task : LiftedTask) (lists : List (List Literal)) (effect : GroundEffect) → HasOutcomes task lists effect → length lists ≡ length (ground.outcome_lists effect)
 count_same task lists effect has = zip-length (AllZip (StandsForLiteral task)) lists (ground.outcome_lists effect) has.outcomes
 
-pub count_listed : (effect : GroundEffect) (entries : List (List Entry)) → ground.AreOutcomesOf (ground.outcome_lists effect) entries → length (ground.outcome_lists effect) ≡ length entries
-count_listed effect entries are = zip-length (AllZip ground.IsEntryOf) (ground.outcome_lists effect) entries are
-
 pub at_most : (n m : ℕ) → n ≤ m → nat_le n m ≡ true
 at_most n m le = grind (arith, nat_tests)
 
-pub more_than : (n m : ℕ) → m < n → nat_le n m ≡ false
-more_than n m lt = grind (arith, nat_tests)
+pub within_most : (n m : ℕ) → nat_le n m ≡ true → n ≤ m
+within_most n m h = grind (arith, nat_tests)
 
 pub some_of : (n : ℕ) → 0 < n → nat_lt 0 n ≡ true
 some_of n lt = grind (arith, nat_tests)
@@ -58,12 +55,6 @@ all_first test xs x rest is h = (and-parts (test x) (list_all test rest) (sym (a
 
 pub all_rest : {X : Type 0} (test : X → Bool) (xs : List X) (x : X) (rest : List X) → xs ≡ x ∷ rest → list_all test xs ≡ true → list_all test rest ≡ true
 all_rest test xs x rest is h = (and-parts (test x) (list_all test rest) (sym (ap (list_all test) is) ∙ h)).1
-
-pub all_after : {X : Type 0} (test : X → Bool) (xs : List X) (x : X) (rest : List X) (whole : Bool) → xs ≡ x ∷ rest → test x ≡ true → list_all test xs ≡ whole → list_all test rest ≡ whole
-all_after test xs x rest whole is h before = sym (ap (list_all test) is ∙ ap (λ b. b && list_all test rest) h) ∙ before
-
-pub none_after : {X : Type 0} (test : X → Bool) (xs : List X) (x : X) (rest : List X) (whole : Bool) → xs ≡ x ∷ rest → test x ≡ false → list_all test xs ≡ whole → whole ≡ false
-none_after test xs x rest whole is h before = sym before ∙ ap (list_all test) is ∙ ap (λ b. b && list_all test rest) h
 
 pub all_pushed : {X : Type 0} (test : X → Bool) (xs next : List X) (x : X) → next ≡ xs ++ x ∷ [] → test x ≡ true → list_all test xs ≡ true → list_all test next ≡ true
 all_pushed test xs next x is h before = ap (list_all test) is ∙ list_all-append test xs (x ∷ []) ∙ and-both (list_all test xs) _ before (and-both (test x) true h refl)

@@ -56,6 +56,7 @@ module _ (task : LiftedTask) (env : List ℕ) where
       ap numbered (sym (rolls-OneOf members)) ∙ ap (λ f. f env) (fold-roll-LEffect (List ℕ → Bool) (numbered_step task) (open_effect.OneOf members))
       ∙ (λ i. not (length-map members.items (fold-LEffect (List ℕ → Bool) (numbered_step task)) i == 0) && each members.items i)
 
+module _ (env : List ℕ) where
   pub outcomes-And : (members : Vec LEffect Global) → outcomes env (And members) ≡ concatenations (map (outcomes env) members.items)
   outcomes-And members =
       ap (outcomes env) (sym (rolls-And members)) ∙ ap (λ f. f env) (fold-roll-LEffect (List ℕ → List (List Literal)) outcomes_step (open_effect.And members))

@@ -1,5 +1,6 @@
 pub mod Indexed
 pub mod Odometer
+pub mod Powers
 pub mod Signs
 pub mod Withins
 pub mod Literals

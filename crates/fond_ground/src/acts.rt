@@ -1,5 +1,5 @@
 //! The actions of the ground task. The kept lists of objects of all schemas are found before any action is grounded, since
-//! too many actions are reported before too many outcomes are.
+//! a task that is too large is refused first.
 
 ghost use Rattle.fond_ast.specs.declared.task.LSchema.{LSchema};
 ghost use Rattle.fond_ground.specs.Atoms.{fluent_atoms};
@@ -56,23 +56,19 @@ pub(crate) fn kept_lists(alloc: Global, table: &Table) -> Result<Option<Vec<Args
     Ok(Some(lists))
 }
 
-/// The outcomes of a ground effect, or the fault of a schema at this place with too many of them.
-fn outcomes_of(alloc: Global, place: Place, effect: &GroundEffect) -> Result<Outcomes, FrontError>
-    requires { has_members effect.now ≡ true }
+/// The outcomes of a ground effect.
+fn outcomes_of(alloc: Global, effect: &GroundEffect) -> Result<Outcomes, NoMemory>
+    requires members { has_members effect.now ≡ true }
+    requires few { length (outcome_lists effect.now) ≤ MOST_OUTCOMES }
     ensures listed { IfOk result (AreOutcomesOf (outcome_lists effect.now)) }
     ensures few { IfOk result (λ all. length all ≤ MOST_OUTCOMES) }
     ensures some { IfOk result (λ all. 0 < length all) }
     ensures within { (atoms : ℕ) → is_effect_over atoms effect.now ≡ true → IfOk result (λ all. list_all (list_all (is_entry_within atoms)) all ≡ true) }
-    ensures many { IfErr result (Refuses (λ fault. (fault ≡ at_domain place TOO_MANY_OUTCOMES) × (MOST_OUTCOMES < length (outcome_lists effect.now)))) }
 {
     match outcomes(alloc, effect) {
         Ok(all) => Ok(all),
-        Err(OneofFault::TooMany(_)) => Err(FrontError::Refused(Fault {
-            file: FileKind::Domain,
-            place,
-            code: TOO_MANY_OUTCOMES,
-        })),
-        Err(OneofFault::NoMemory) => Err(FrontError::NoMemory),
+        Err(OneofFault::TooMany(_)) => unreachable!(),
+        Err(OneofFault::NoMemory) => Err(NoMemory),
     }
 }
 
@@ -84,19 +80,18 @@ fn act_of(
     schema: &LSchema,
     objects: &Objects,
     unfair: bool,
-) -> Result<Act, FrontError>
+) -> Result<Act, NoMemory>
     requires there { slice_get table.now.facts.task.now.schemas number ≡ Some schema.now }
     requires numbered { is_numbered table.now.facts.task.now objects.now schema.now.effect ≡ true }
     requires unfair { Decides unfair (IsUnfairWith schema.now objects.now) }
+    requires few { has_few schema.now.effect objects.now ≡ true }
     ensures act { IfOk result (IsActOf table.now.facts.task.now (record { schema = number; objects = objects.now })) }
     ensures within { IfOk result (λ act. is_act_within (length (fluent_atoms table.now.facts.task.now)) act ≡ true) }
-    ensures few { IfOk result (λ act. has_few schema.now.effect objects.now ≡ true) }
-    ensures many { IfErr result (Refuses (λ fault. (fault ≡ at_domain schema.now.place TOO_MANY_OUTCOMES) × (has_few schema.now.effect objects.now ≡ false))) }
 {
     let mut env = Vec::from_slice(alloc, objects.as_slice())?;
     let pre = form_of(alloc, table, &schema.pre, &mut env)?;
     let effect = ground_effect(alloc, table, &schema.effect, &mut env)?;
-    let outcomes = outcomes_of(alloc, schema.place, &effect)?;
+    let outcomes = outcomes_of(alloc, &effect)?;
     Ok(Act {
         ground: GroundAction {
             schema: number,
@@ -116,15 +111,14 @@ fn put_acts(
     schema: &LSchema,
     lists: &ArgsList,
     acts: &mut Acts,
-) -> Result<(), FrontError>
+) -> Result<(), NoMemory>
     requires there { slice_get table.now.facts.task.now.schemas number ≡ Some schema.now }
     requires numbered { list_all (λ objects. is_numbered table.now.facts.task.now objects schema.now.effect) lists.now ≡ true }
+    requires few { list_all (has_few schema.now.effect) lists.now ≡ true }
     ensures acts { OnOk result ((more : List Act) × (acts.new ≡ acts.old ++ more)
         × AllZip (IsActOf table.now.facts.task.now) (map (λ objects. record { schema = number; objects = objects }) lists.now) more) }
     ensures within { OnOk result (list_all (is_act_within (length (fluent_atoms table.now.facts.task.now))) acts.old ≡ true
         → list_all (is_act_within (length (fluent_atoms table.now.facts.task.now))) acts.new ≡ true) }
-    ensures few { OnOk result (list_all (has_few schema.now.effect) lists.now ≡ true) }
-    ensures many { IfErr result (Refuses (λ fault. (fault ≡ at_domain schema.now.place TOO_MANY_OUTCOMES) × (list_all (has_few schema.now.effect) lists.now ≡ false))) }
 {
     let patterns = Patterns::of(alloc, &schema.patterns)?;
     for objects in lists.as_slice() {
@@ -134,13 +128,12 @@ fn put_acts(
     Ok(())
 }
 
-/// The actions with these lists of objects, schema by schema, or the fault of the first schema with too many outcomes.
-pub(crate) fn acts_of(alloc: Global, table: &Table, lists: &[ArgsList]) -> Result<Acts, FrontError>
-    requires { lists.now ≡ map (kept_args table.now.facts.task.now) table.now.facts.task.now.schemas }
+/// The actions with these lists of objects, schema by schema.
+pub(crate) fn acts_of(alloc: Global, table: &Table, lists: &[ArgsList]) -> Result<Acts, NoMemory>
+    requires few { list_all (has_few_outcomes table.now.facts.task.now) table.now.facts.task.now.schemas ≡ true }
+    requires all { lists.now ≡ map (kept_args table.now.facts.task.now) table.now.facts.task.now.schemas }
     ensures acts { IfOk result (AllZip (IsActOf table.now.facts.task.now) (kept_actions table.now.facts.task.now)) }
     ensures within { IfOk result (λ acts. list_all (is_act_within (length (fluent_atoms table.now.facts.task.now))) acts ≡ true) }
-    ensures few { IfOk result (λ acts. list_all (has_few_outcomes table.now.facts.task.now) table.now.facts.task.now.schemas ≡ true) }
-    ensures many { IfErr result (Refuses (λ fault. Somewhere (IsFirstMany table.now.facts.task.now fault) table.now.facts.task.now.schemas)) }
 {
     let schemas = &table.facts.task.schemas;
     let mut acts = Acts::new(alloc);

@@ -13,7 +13,7 @@ use fond_text::fault::NoMemory;
 use std::alloc::Global;
 
 /// The number of lists of one object of each range, or `usize::MAX` if there are more.
-fn tuple_count(ranges: &Ranges) -> usize
+pub(crate) fn tuple_count(ranges: &Ranges) -> usize
     ensures { result ≡ min (length (tuples (objects_of ranges.now))) (2 ^ 64 - 1) }
 {
     let mut count: usize = 1;

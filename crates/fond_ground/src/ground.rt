@@ -19,6 +19,7 @@ ghost use Rattle.std.specs.Prelude.{◌≡◌, ◌<◌, ◌≤◌, ◌^◌, [], 
 use crate::acts::{acts_of, kept_lists};
 use crate::atoms::{atom_count, fluent_atoms};
 use crate::forms::form_of;
+use crate::limits::few_outcomes;
 use crate::table::Table;
 use fond_ast::task::LiftedTask;
 use fond_join::matching::ArgsList;
@@ -158,6 +159,7 @@ fn few_acts(alloc: Global, table: &Table) -> Result<Acts, FrontError>
     ensures refused { IfErr result (Refuses (IsGroundFault table.now.facts.task.now)) }
 {
     let lists = few_lists(alloc, table)?;
+    few_outcomes(table.facts.task, &lists)?;
     let acts = acts_of(alloc, table, &lists)?;
     Ok(acts)
 }
@@ -190,7 +192,8 @@ fn parts_of(alloc: Global, task: &LiftedTask, atoms: &Atoms) -> Result<Parts, Fr
 /// The ground task of a task, or the fault of a task that is too large, F21 to F23 (docs/FAULTS.md).
 ///
 /// Fluent atoms are counted before they are listed, and of the kept actions no more are looked for than a task may have,
-/// so a task that is too large is refused before its actions are grounded. Grounding takes time in the size of the
+/// so a task that is too large is refused before its actions are grounded. Outcomes are counted before effects are written
+/// out. Grounding takes time in the size of the
 /// conditions and effects of the kept actions, written out over the lists of objects of their quantifiers, until a
 /// constant decides the rest. Beside the result it takes memory for an index of the fluent and the initial atoms, for the
 /// kept lists of objects, and for the ground effect of one action.

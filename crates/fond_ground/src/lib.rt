@@ -8,6 +8,7 @@ mod effects;
 mod forms;
 pub mod ground;
 mod junction;
+mod limits;
 mod patterns;
 mod table;
 mod tuples;

@@ -1,22 +1,17 @@
-use Rattle.std.proofs.Common.{◌≡◌, ◌∙◌, ◌+◌, ◌++◌, [], ℕ, List, false, take, drop, sym, ap, subst, arith}
+use Rattle.std.proofs.Common.{◌≡◌, ◌∙◌, ◌+◌, ◌++◌, [], ℕ, List, drop, sym, ap, subst, arith}
 use Rattle.std.specs.List.{list_all, AllZip}
 use Rattle.std.proofs.lemmas.Grind.{common_steps}
-use Rattle.std.proofs.lemmas.List.{append_assoc, append-nil, take-append-drop}
+use Rattle.std.proofs.lemmas.List.{append_assoc, append-nil}
 use Rattle.fond_ast.specs.declared.task.LSchema.{LSchema}
 use Rattle.fond_join.specs.Kept.{kept_args}
 use Rattle.fond_task.specs.declared.task.Act.{Act}
-use Rattle.fond_text.specs.Lists.{Somewhere}
-use Rattle.fond_text.specs.declared.code.TheConstants.{TOO_MANY_OUTCOMES}
-use Rattle.fond_text.specs.declared.fault.Fault.{Fault}
-use Rattle.fond_ground.specs.Faults.{at_domain}
 use Rattle.fond_text.specs.declared.atom.GroundAction.{GroundAction}
 use Rattle.fond_ground.specs.Effects.{is_numbered}
 use Rattle.fond_ground.specs.Grounds.{kept_actions, IsActOf}
-use Rattle.fond_ground.specs.Limits.{has_few, has_few_outcomes, IsFirstMany}
-use Rattle.fond_ground.proofs.Actions.{handed_on, all_pushed, mapped_at, refuses_map, take_item}
-use Rattle.fond_ground.proofs.Counts.{drop_item}
+use Rattle.fond_ground.specs.Limits.{has_few, has_few_outcomes}
+use Rattle.fond_ground.proofs.Actions.{mapped_at}
 use Rattle.fond_ground.proofs.Kept.{actions_from, actions_next, actions_of}
-use Rattle.fond_ground.proofs.Numbered.{kept_numbered}
+use Rattle.fond_ground.proofs.Numbered.{all_get, kept_numbered}
 use Rattle.fond_ground.proofs.Zips.{zip-append}
 use Rattle.fond_ground.proofs.acts.acts_of.Goals as goal
 
@@ -24,19 +19,25 @@ pub put_acts-requires-clause-numbered : goal.put_acts-requires-clause-numbered
 put_acts-requires-clause-numbered c =
     let task = c.args.table.now.facts.task.now in
     let schema = c.get.result.now in
-    let kept = mapped_at (kept_args task) task.schemas c.args.lists.now c.loop-i.i schema c.index-lists-i.result c.requires c.get.ensures c.index-lists-i.is in
+    let kept = mapped_at (kept_args task) task.schemas c.args.lists.now c.loop-i.i schema c.index-lists-i.result c.requires.all c.get.ensures c.index-lists-i.is in
     ap (list_all (λ objects. is_numbered task objects schema.effect)) kept ∙ kept_numbered task c.loop-i.i schema c.get.ensures
+
+pub put_acts-requires-clause-few : goal.put_acts-requires-clause-few
+put_acts-requires-clause-few c =
+    let task = c.args.table.now.facts.task.now in
+    let schema = c.get.result.now in
+    let kept = mapped_at (kept_args task) task.schemas c.args.lists.now c.loop-i.i schema c.index-lists-i.result c.requires.all c.get.ensures c.index-lists-i.is in
+    ap (list_all (has_few schema.effect)) kept ∙ all_get (has_few_outcomes task) task.schemas c.loop-i.i schema c.requires.few c.get.ensures
 
 pub loop-i-preserved : goal.loop-i-preserved
 loop-i-preserved c =
     let task = c.args.table.now.facts.task.now in
     let schema = c.get.result.now in
     let i = c.loop-i.i in
-    let kept = mapped_at (kept_args task) task.schemas c.args.lists.now i schema c.index-lists-i.result c.requires c.get.ensures c.index-lists-i.is in
+    let kept = mapped_at (kept_args task) task.schemas c.args.lists.now i schema c.index-lists-i.result c.requires.all c.get.ensures c.index-lists-i.is in
     let before = c.loop-i.invariant in
     let added = c.in_ok-put_acts.ensures.acts in
     record {
-      few = all_pushed (has_few_outcomes task) (take i task.schemas) (take (i + 1) task.schemas) schema (take_item task.schemas i schema c.get.ensures) (sym (ap (list_all (has_few schema.effect)) kept) ∙ c.in_ok-put_acts.ensures.few) before.few;
       within = c.in_ok-put_acts.ensures.within before.within;
       acts = λ rest r.
           let here = subst (λ (lists : List (List ℕ)). AllZip (IsActOf task) (actions_of i lists) added.0) kept added.2 in
@@ -51,21 +52,3 @@ returns-clause-acts c =
     let none : drop c.loop-i.i task.schemas ≡ [] = grind (arith, common_steps) in
     subst (λ (acts : List Act). AllZip (IsActOf task) (kept_actions task) acts) (append-nil c.loop-i.acts)
     (c.loop-i.invariant.acts [] (subst (λ (left : List LSchema). AllZip (IsActOf task) (actions_from task c.loop-i.i left) []) (sym none) tt))
-
-pub returns-in_err-put_acts-clause-many : goal.returns-in_err-put_acts-clause-many
-returns-in_err-put_acts-clause-many c =
-    let task = c.args.table.now.facts.task.now in
-    let schema = c.get.result.now in
-    let i = c.loop-i.i in
-    let kept = mapped_at (kept_args task) task.schemas c.args.lists.now i schema c.index-lists-i.result c.requires c.get.ensures c.index-lists-i.is in
-    handed_on _ _ _ c.from_residual.ensures.1
-    (refuses_map (λ (fault : Fault). (fault ≡ at_domain schema.place TOO_MANY_OUTCOMES) × (list_all (has_few schema.effect) c.index-lists-i.result ≡ false))
-    (λ (fault : Fault). Somewhere (IsFirstMany task fault) task.schemas)
-    (λ fault h. record {
-      before = take i task.schemas;
-      item = schema;
-      after = drop (i + 1) task.schemas;
-      split = sym (take-append-drop i task.schemas) ∙ ap (λ rest. take i task.schemas ++ rest) (drop_item task.schemas i schema c.get.ensures);
-      has = (c.loop-i.invariant.few, sym (ap (list_all (has_few schema.effect)) kept) ∙ h.1, h.0);
-    })
-    _ c.in_err-put_acts.ensures.many)

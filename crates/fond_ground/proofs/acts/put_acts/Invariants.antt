@@ -12,7 +12,7 @@ use Rattle.fond_ground.proofs.acts.put_acts.Given as goal
 abbrev pub invariant-loop-objects : goal.invariant-loop-objects
 invariant-loop-objects l = record {
   numbered : list_all (λ objects. is_numbered l.table.facts.task.now objects l.schema.effect) (drop l.objects-index l.lists) ≡ true;
-  few : list_all (has_few l.schema.effect) (drop l.objects-index l.lists) ≡ list_all (has_few l.schema.effect) l.lists;
+  few : list_all (has_few l.schema.effect) (drop l.objects-index l.lists) ≡ true;
   within : list_all (is_act_within (length (fluent_atoms l.table.facts.task.now))) l.initial.acts ≡ true → list_all (is_act_within (length (fluent_atoms l.table.facts.task.now))) l.acts ≡ true;
   acts : (rest : List Act) → AllZip (IsActOf l.table.facts.task.now) (map (λ objects. record { schema = l.number; objects = objects }) (drop l.objects-index l.lists)) rest
       → (more : List Act) × (l.acts ++ rest ≡ l.initial.acts ++ more) × AllZip (IsActOf l.table.facts.task.now) (map (λ objects. record { schema = l.number; objects = objects }) l.lists) more;

@@ -40,7 +40,7 @@ ground_effect-returns-in_ok-parts-in-And-clause-effect t c =
     let parts = c.in_ok-parts-in-And.parts in
     let lists = map (outcomes env) c.deref-in-And.result.now in
     subst (λ (some : List (List Literal)). HasOutcomes task some (made.And parts))
-    (ap (λ members. concatenations (map (outcomes env) members)) c.deref-in-And.ensures.value ∙ sym (ap (outcomes env) c.in-And.is ∙ outcomes-And task env c.in-And.members))
+    (ap (λ members. concatenations (map (outcomes env) members)) c.deref-in-And.ensures.value ∙ sym (ap (outcomes env) c.in-And.is ∙ outcomes-And env c.in-And.members))
     (has-And task lists parts c.in_ok-parts-in-And.ensures.effects)
 
 pub ground_effect-returns-in_ok-parts-in-OneOf-clause-effect : goal.ground_effect-returns-in_ok-parts-in-OneOf-clause-effect
@@ -55,7 +55,7 @@ ground_effect-returns-in_ok-parts-in-OneOf-clause-effect t c =
     ap (λ n. not (n == 0)) (length-map members (outcomes env) ∙ ap length c.deref-in-OneOf.ensures.value)
     ∙ (and-parts (not (length c.in-OneOf.members.items == 0)) (list_all (is_numbered task env) c.in-OneOf.members.items) whole).0 in
     subst (λ (some : List (List Literal)). HasOutcomes task some (made.OneOf parts))
-    (ap (λ some. flat_map (λ part. part) (map (outcomes env) some)) c.deref-in-OneOf.ensures.value ∙ sym (ap (outcomes env) c.in-OneOf.is ∙ outcomes-OneOf task env c.in-OneOf.members))
+    (ap (λ some. flat_map (λ part. part) (map (outcomes env) some)) c.deref-in-OneOf.ensures.value ∙ sym (ap (outcomes env) c.in-OneOf.is ∙ outcomes-OneOf env c.in-OneOf.members))
     (has-OneOf task lists parts some c.in_ok-parts-in-OneOf.ensures.effects)
 
 pub ground_effect-returns-in_ok-parts-in-Forall-clause-effect : goal.ground_effect-returns-in_ok-parts-in-Forall-clause-effect
@@ -66,7 +66,7 @@ ground_effect-returns-in_ok-parts-in-Forall-clause-effect t c =
     let lists = map (λ objects. outcomes (env ++ objects) c.deref-in-Forall.result.now) (tuples (objects_of c.as_slice.result.now)) in
     subst (λ (some : List (List Literal)). HasOutcomes task some (made.And parts))
     ((λ i. concatenations (map (λ objects. outcomes (env ++ objects) (c.deref-in-Forall.ensures i)) (tuples (objects_of (c.as_slice.ensures i)))))
-    ∙ sym (ap (outcomes env) c.in-Forall.is ∙ outcomes-Forall task env c.in-Forall.ranges c.in-Forall.part))
+    ∙ sym (ap (outcomes env) c.in-Forall.is ∙ outcomes-Forall env c.in-Forall.ranges c.in-Forall.part))
     (has-And task lists parts c.in_ok-parts-in-Forall.ensures.effects)
 
 pub ground_effect-returns-in_ok-effect-in-When-clause-effect : goal.ground_effect-returns-in_ok-effect-in-When-clause-effect
@@ -78,7 +78,7 @@ ground_effect-returns-in_ok-effect-in-When-clause-effect t c =
     let effect = c.in_ok-effect-in-When.effect in
     let lists = outcomes env c.in-When.part.value in
     let same : outcomes c.form_of.new.env.items c.deref-in-When.result.now ≡ lists = λ i. outcomes (c.in_ok-form-in-When.ensures.env i) (c.deref-in-When.ensures i) in
-    let whole = sym (ap (outcomes env) c.in-When.is ∙ outcomes-When task env condition c.in-When.part) in
+    let whole = sym (ap (outcomes env) c.in-When.is ∙ outcomes-When env condition c.in-When.part) in
     IfOk-weaker c.conditional.result _ (HasOutcomes task (outcomes env c.args.effect.now))
     (λ under all. subst (λ (some : List (List Literal)). HasOutcomes task some under) whole
     (all task env condition lists c.in_ok-form-in-When.ensures.value c.in_ok-form-in-When.ensures.within (subst (λ (some : List (List Literal)). HasOutcomes task some effect) same c.in_ok-effect-in-When.ensures.effect)))
