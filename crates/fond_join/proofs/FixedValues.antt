@@ -17,17 +17,8 @@ use Rattle.fond_join.specs.Fixed.{are_filled, AreBare, fixed_step, fixed_value, 
 use Rattle.fond_ast.specs.declared.task.LiftedTask.{LiftedTask}
 use Rattle.fond_join.specs.Partial.{partial_step, partial_value}
 use Rattle.fond_join.specs.Values.{condition_step, condition_value}
-use Rattle.fond_join.proofs.Joined.{joined_first}
+use Rattle.fond_join.proofs.Joined.{joined_first, joined_self}
 use Rattle.fond_join.proofs.Sound.{Tells, Tells-greater, Tells-joined, Tells-opposite}
-
--- a value that is joined to itself stays
-joined_self : (junction : Junction) (a : Kleene) → joined junction a a ≡ a
-joined_self All No = refl
-joined_self All Unknown = refl
-joined_self All Yes = refl
-joined_self Any No = refl
-joined_self Any Unknown = refl
-joined_self Any Yes = refl
 
 -- whether a list has an item
 abbrev is_some_list : {X : Type 0} → List X → Bool

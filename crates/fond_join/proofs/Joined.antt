@@ -54,6 +54,24 @@ pub joined_first : (junction : Junction) (a : Kleene) → joined junction (neutr
 joined_first All a = refl
 joined_first Any a = refl
 
+-- a value that is joined to itself stays
+pub joined_self : (junction : Junction) (a : Kleene) → joined junction a a ≡ a
+joined_self All No = refl
+joined_self All Unknown = refl
+joined_self All Yes = refl
+joined_self Any No = refl
+joined_self Any Unknown = refl
+joined_self Any Yes = refl
+
+-- a value that is joined twice
+pub joined_again : (junction : Junction) (a v : Kleene) → joined junction (joined junction a v) v ≡ joined junction a v
+joined_again junction a v = joined_assoc junction a v v ∙ ap (joined junction a) (joined_self junction v)
+
+-- more of the same values
+pub joined_alike : {X : Type 0} (junction : Junction) (of : X → Kleene) (a v : Kleene) → ((x : X) → of x ≡ v) → (xs : List X) → fold (joined junction) (joined junction a v) (map of xs) ≡ joined junction a v
+joined_alike junction of a v each [] = refl
+joined_alike junction of a v each (x ∷ xs) = ap (λ u. fold (joined junction) u (map of xs)) (ap (joined junction (joined junction a v)) (each x) ∙ joined_again junction a v) ∙ joined_alike junction of a v each xs
+
 fold_append : (junction : Junction) (a : Kleene) (xs ys : List Kleene) → fold (joined junction) a (xs ++ ys) ≡ fold (joined junction) (fold (joined junction) a xs) ys
 fold_append junction a [] ys = refl
 fold_append junction a (x ∷ xs) ys = fold_append junction (joined junction a x) xs ys

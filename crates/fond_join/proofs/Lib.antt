@@ -4,6 +4,8 @@ pub mod Found
 pub mod Items
 pub mod Known
 pub mod Joined
+pub mod Occurring
+pub mod Local
 pub mod PairedOff
 pub mod Sound
 pub mod Tables

@@ -11,3 +11,4 @@ pub mod matching;
 mod rows;
 mod search;
 mod value;
+pub mod variables;

@@ -11,6 +11,7 @@ ghost use Rattle.std.specs.Prelude.{◌≡◌, ◌++◌, List, Some, None, true,
 
 use crate::facts::Facts;
 use crate::fixed::{fixed_value, over};
+use crate::variables::has_variables;
 use fond_ast::form::{LAtom, LCond, LTerm, Range};
 use fond_task::form::{Junction, Kleene};
 use fond_text::fault::NoMemory;
@@ -156,7 +157,8 @@ fn quantified_value(
     }
 }
 
-/// The value of the junction of a condition over the lists of objects of some ranges, list by list.
+/// The value of the junction of a condition over the lists of objects of some ranges, list by list. Of the objects of a
+/// variable that does not occur in the condition, the first one decides.
 #[cycle(evaluating)]
 fn range_value(
     facts: &Facts,
@@ -171,6 +173,8 @@ fn range_value(
     match ranges {
         [] => value(facts, scope, part),
         [range, rest @ ..] => {
+            let number = scope.env.len();
+            let varies = has_variables(part, number, number + 1);
             let mut all = junction.neutral();
             for object in range.as_slice() {
                 scope.env.push(Some(*object))?;
@@ -178,6 +182,9 @@ fn range_value(
                 scope.env.pop();
                 all = junction.joined(all, one);
                 if is_decided(junction, all) {
+                    return Ok(all);
+                }
+                if !varies {
                     return Ok(all);
                 }
             }

@@ -10,7 +10,8 @@ use Rattle.fond_task.specs.declared.form.Junction.TheVariants.{All, Any}
 use Rattle.fond_join.specs.Partial.{partial_value}
 use Rattle.fond_join.proofs.FixedValues.{over_is, told_open}
 use Rattle.fond_join.proofs.Items.{first_item, rest_length, popped}
-use Rattle.fond_join.proofs.Joined.{at_exists, at_forall, joined_next, over_first, over_rest}
+use Rattle.fond_join.proofs.Joined.{at_exists, at_forall, joined_alike, joined_next, over_first, over_rest}
+use Rattle.fond_join.proofs.Local.{over_alike}
 use Rattle.fond_join.proofs.Sound.{Tells}
 use Rattle.fond_join.proofs.Weights.{total, weight, weight-And, weight-Or, weight-Not, weight-Imply, weight-Forall, weight-Exists, part_weight}
 use Rattle.fond_join.proofs.value.+evaluating.Goals as goal
@@ -101,6 +102,34 @@ range_value-returns-then-is_decided-clause-value t c =
 
 pub range_value-returns-then-is_decided-clause-same : goal.range_value-returns-then-is_decided-clause-same
 range_value-returns-then-is_decided-clause-same t c =
+    let env = c.args.scope.now.env.items in
+    let object = get_or c.as_slice-object-items.result.now c.loop-object.object-index 0 in
+    let grown = c.in_ok-push-in-len1-up.ensures.items ∙ ap (λ around. around ++ Some object ∷ []) c.loop-object.invariant.same in
+    let long : vec_len c.range_value.new.scope.env ≡ length c.range_value.new.scope.env.items = grind (arith, common_steps) in
+    popped env c.range_value.new.scope.env.items c.pop.new.self.items (Some object) (vec_len c.range_value.new.scope.env) (c.in_ok-one-in-len1-up.ensures.same ∙ grown) long c.pop.ensures.rest
+
+pub range_value-returns-then-not-varies-clause-value : goal.range_value-returns-then-not-varies-clause-value
+range_value-returns-then-not-varies-clause-value t c =
+    let task = c.args.facts.now.task.now in
+    let env = c.args.scope.now.env.items in
+    let part = c.args.part.now in
+    let junction = c.args.junction in
+    let i = c.loop-object.object-index in
+    let objects = c.as_slice-object-items.result.now in
+    let object = get_or objects i 0 in
+    let rest = objects_of (take (length c.args.ranges.now - 1) (drop 1 c.args.ranges.now)) in
+    let of = over_rest task env part junction rest in
+    let grown = c.in_ok-push-in-len1-up.ensures.items ∙ ap (λ around. around ++ Some object ∷ []) c.loop-object.invariant.same in
+    let one = c.in_ok-one-in-len1-up.ensures.value ∙ ap (λ around. joined_all junction (map (λ objects. partial_value task (around ++ map Some objects) part) (tuples rest))) grown in
+    let long = c.len-number.ensures in
+    let none = c.has_variables-varies.ensures c.if-not-varies.true (length env) (omega (arith, long)) (omega (arith, long)) in
+    c.joined-all.ensures ∙ ap (joined junction c.loop-object.all) one
+    ∙ sym (joined_alike junction of c.loop-object.all (of object) (λ other. over_alike task part env junction rest other object none) (drop (i + 1) objects))
+    ∙ joined_next junction of c.loop-object.all objects i object c.loop-object-test.true (get_or_default objects i 0 object c.loop-object-test.true)
+    ∙ c.loop-object.invariant.left
+
+pub range_value-returns-then-not-varies-clause-same : goal.range_value-returns-then-not-varies-clause-same
+range_value-returns-then-not-varies-clause-same t c =
     let env = c.args.scope.now.env.items in
     let object = get_or c.as_slice-object-items.result.now c.loop-object.object-index 0 in
     let grown = c.in_ok-push-in-len1-up.ensures.items ∙ ap (λ around. around ++ Some object ∷ []) c.loop-object.invariant.same in
