@@ -1,0 +1,7 @@
+pub mod Bits
+pub mod Below
+pub mod Literals
+pub mod Opposed
+pub mod Cubes
+pub mod Noted
+pub mod Soles

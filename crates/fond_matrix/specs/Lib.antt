@@ -1,0 +1,4 @@
+pub mod Rows
+pub mod Below
+pub mod Matrices
+pub mod Rivals
