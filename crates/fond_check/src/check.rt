@@ -1,7 +1,7 @@
 //! Checking a certificate.
 
 ghost use Rattle.fond_policy.specs.Belongs.{Belongs, BelongAsItems, BelongAsLayers, BelongAsPairs, BelongAsRules};
-ghost use Rattle.fond_policy.specs.Parts.{AreAllLean, ArePartsSure};
+ghost use Rattle.fond_policy.specs.Parts.{ArePartsSure};
 ghost use Rattle.fond_task.specs.Layers.{CubeView};
 ghost use Rattle.fond_task.specs.declared.rule.Pair.{Pair};
 ghost use Rattle.fond_policy.specs.Covers.{IsIn};
@@ -144,18 +144,20 @@ fn check_policy(
 fn item_fault(
     t: &Task,
     rules: &Rules,
+    conditions: &Conditions<'_>,
     items: &Items,
     start: u32,
     pad: &mut CoverPad,
 ) -> Option<Verdict>
     requires rules_belong { BelongAsRules t.now rules.now }
     requires items_belong { BelongAsItems t.now items.now }
+    requires same { conditions.now ≡ firsts_of rules.now }
     requires pad { pad.old ≡ length t.now.atoms }
     ensures same_pad { pad.new ≡ pad.old }
     ensures first { MatchOption result (AreSureItems t.now (firsts_of rules.now) items.now × IsIn items.now start t.now.init)
         (λ fault. (layers : List (List CubeView)) (pairs : List Pair) → ArePartsSure t.now layers pairs rules.now → IsCoverVerdict t.now layers pairs rules.now items.now start fault) }
 {
-    if let Some(at) = first_bad_item(t, rules, items, pad) {
+    if let Some(at) = first_bad_item(t, conditions, items, pad) {
         return Some(Verdict::Item { at });
     }
     if !is_in_item(items, start, &t.init) {
@@ -164,58 +166,7 @@ fn item_fault(
     None
 }
 
-/// Whether all pairs, rules and items are lean. Lists the literals of the conditions of the rules in the pad.
-fn decide_lean(
-    t: &Task,
-    layers: &Layers,
-    pairs: &Pairs,
-    rules: &Rules,
-    items: &Items,
-    pad: &mut Pad,
-    cover_pad: &mut CoverPad,
-) -> Result<bool, NoMemory>
-    requires layers_belong { BelongAsLayers t.now layers.now }
-    requires pairs_belong { BelongAsPairs t.now pairs.now }
-    requires rules_belong { BelongAsRules t.now rules.now }
-    requires items_belong { BelongAsItems t.now items.now }
-    requires pad { pad.old ≡ length t.now.atoms }
-    requires cover_pad { cover_pad.old ≡ length t.now.atoms }
-    ensures { IfOk result (λ lean. Decides lean (AreAllLean t.now layers.now pairs.now rules.now items.now)) }
-{
-    cover_pad.index(&Conditions::new(rules))?;
-    Ok(are_all_lean(t, layers, pairs, rules, items, pad, cover_pad))
-}
-
-/// The verdict on a policy whose layers, pairs and rules are sure, with a cover. The pads are overwritten.
-fn cover_verdict(
-    t: &Task,
-    layers: &Layers,
-    pairs: &Pairs,
-    rules: &Rules,
-    items: &Items,
-    start: u32,
-    pad: &mut Pad,
-    cover_pad: &mut CoverPad,
-) -> Result<Verdict, NoMemory>
-    requires layers_belong { BelongAsLayers t.now layers.now }
-    requires pairs_belong { BelongAsPairs t.now pairs.now }
-    requires rules_belong { BelongAsRules t.now rules.now }
-    requires items_belong { BelongAsItems t.now items.now }
-    requires sure { ArePartsSure t.now layers.now pairs.now rules.now }
-    requires pad { pad.old ≡ length t.now.atoms }
-    requires cover_pad { cover_pad.old ≡ length t.now.atoms }
-    ensures { IfOk result (IsCoverVerdict t.now layers.now pairs.now rules.now items.now start) }
-{
-    match item_fault(t, rules, items, start, cover_pad) {
-        Some(fault) => Ok(fault),
-        None => {
-            let lean = decide_lean(t, layers, pairs, rules, items, pad, cover_pad)?;
-            Ok(Verdict::Accepted { lean })
-        }
-    }
-}
-
-/// The verdict as `cover_verdict` gives it, with a pad of its own for the items.
+/// The verdict on a policy whose layers, pairs and rules are sure, with a cover. The pad is overwritten.
 fn check_items(
     alloc: Global,
     t: &Task,
@@ -235,7 +186,23 @@ fn check_items(
     ensures { IfOk result (IsCoverVerdict t.now layers.now pairs.now rules.now items.now start) }
 {
     let mut cover_pad = CoverPad::new(alloc, t.atoms.len() as u32)?;
-    cover_verdict(t, layers, pairs, rules, items, start, pad, &mut cover_pad)
+    let conditions = Conditions::new(alloc, rules)?;
+    match item_fault(t, rules, &conditions, items, start, &mut cover_pad) {
+        Some(fault) => Ok(fault),
+        None => {
+            let lean = are_all_lean(
+                t,
+                layers,
+                pairs,
+                rules,
+                &conditions,
+                items,
+                pad,
+                &mut cover_pad,
+            );
+            Ok(Verdict::Accepted { lean })
+        }
+    }
 }
 
 /// The verdict on a policy with a cover.
@@ -278,8 +245,7 @@ fn check_refusal(alloc: Global, t: &Task, layers: &Layers) -> Result<Verdict, No
 /// The verdict on a certificate: that it is correct, or its first fault. Tests each layer, pair and rule once for being
 /// sure. If there is a reach number, it walks through the states that the rules reach, breadth first, until they are more
 /// than this number, and takes memory for them. If there is a cover, it tests each item once for being sure, and visits no
-/// state. A correct policy is also tested for being lean; with a cover, this takes memory in the number of literals of the
-/// conditions of the rules.
+/// state, and takes about as much memory as the conditions of the rules. A correct policy is also tested for being lean.
 pub fn check(alloc: Global, t: &Task, cert: &Cert) -> Result<Verdict, NoMemory>
     requires { Belongs t.now cert.now }
     ensures { IfOk result (IsVerdict t.now cert.now) }

@@ -1,7 +1,7 @@
 //! Whether all pairs, rules and items of a certificate are lean.
 
 ghost use Rattle.fond_policy.specs.Parts.{AreAllLean, AreLean};
-ghost use Rattle.fond_policy.specs.Items.{firsts_of, AreItemsOver, AreLeanItems};
+ghost use Rattle.fond_policy.specs.Items.{firsts_of, AreItemsOver, AreLeanItems, Belong};
 ghost use Rattle.fond_task.specs.Rules.{IsLeanPair, IsLeanRule};
 ghost use Rattle.fond_task.specs.declared.rule.Pair.{Pair};
 ghost use Rattle.fond_task.specs.declared.rule.Rule.{Rule};
@@ -73,16 +73,15 @@ pub(crate) fn are_lean(
 }
 
 /// Whether all items are lean. Takes the time of `lean_item` for each item.
-fn are_items_lean(t: &Task, rules: &Rules, items: &Items, pad: &mut CoverPad) -> bool
-    requires belong { BelongTo t.now rules.now }
+fn are_items_lean(t: &Task, conditions: &Conditions<'_>, items: &Items, pad: &mut CoverPad) -> bool
+    requires belong { Belong t.now conditions.now }
     requires over { AreItemsOver (length t.now.atoms) items.now }
     requires pad { pad.old ≡ length t.now.atoms }
     ensures same_pad { pad.new ≡ pad.old }
-    ensures decides { Decides result (AreLeanItems t.now (firsts_of rules.now) items.now) }
+    ensures decides { Decides result (AreLeanItems t.now conditions.now items.now) }
 {
-    let conditions = Conditions::new(rules);
     for at in 0..items.len() {
-        if !lean_item(t, &conditions, items, at, pad) {
+        if !lean_item(t, conditions, items, at, pad) {
             return false;
         }
     }
@@ -95,6 +94,7 @@ pub(crate) fn are_all_lean(
     layers: &Layers,
     pairs: &Pairs,
     rules: &Rules,
+    conditions: &Conditions<'_>,
     items: &Items,
     pad: &mut Pad,
     cover_pad: &mut CoverPad,
@@ -102,10 +102,11 @@ pub(crate) fn are_all_lean(
     requires over { AreOver (length t.now.atoms) layers.now }
     requires pairs_over { ArePairsOver (length t.now.atoms) pairs.now }
     requires belong { BelongTo t.now rules.now }
+    requires same { conditions.now ≡ firsts_of rules.now }
     requires items_over { AreItemsOver (length t.now.atoms) items.now }
     requires pad { pad.old ≡ length t.now.atoms }
     requires cover_pad { cover_pad.old ≡ length t.now.atoms }
     ensures { Decides result (AreAllLean t.now layers.now pairs.now rules.now items.now) }
 {
-    are_lean(t, layers, pairs, rules, pad) && are_items_lean(t, rules, items, cover_pad)
+    are_lean(t, layers, pairs, rules, pad) && are_items_lean(t, conditions, items, cover_pad)
 }

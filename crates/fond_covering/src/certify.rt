@@ -34,6 +34,6 @@ pub(crate) fn passes(
         return Ok(false);
     }
     let mut pad = CoverPad::new(alloc, t.atoms.len() as u32)?;
-    let conditions = Conditions::new(rules);
+    let conditions = Conditions::new(alloc, rules)?;
     Ok(are_sure(t, &conditions, items, &mut pad))
 }

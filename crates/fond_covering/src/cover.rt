@@ -27,7 +27,7 @@ fn widened(alloc: Global, t: &Task, rules: &Rules, covering: Covering) -> Result
     ensures { IfOk result (λ covering. IsCovering t.now rules.now covering.items covering.start) }
 {
     let Covering { mut items, start } = covering;
-    let conditions = Conditions::new(rules);
+    let conditions = Conditions::new(alloc, rules)?;
     widen(alloc, t, &conditions, &mut items)?;
     Ok(Covering { items, start })
 }

@@ -1,11 +1,11 @@
 -- The first rule whose condition a cube does not contradict.
 use Rattle.std.proofs.Common.{◌≡◌, ℕ, zero, suc, ◌+◌, ◌<◌, ◌≤◌, List, [], ◌∷◌, Bool, true, false, not, cond, Option, Some, None, length, get_or, refl, sym, ap, ◌∙◌, subst, ⊎_elim, arith}
-use Rattle.std.specs.Prelude.{◌&&◌, slice_get, All}
+use Rattle.std.specs.Prelude.{◌&&◌, slice_get}
 use Rattle.std.specs.List.{position, position_or_len}
 use Rattle.std.proofs.lemmas.Bool.{false≢true, false_from_ne_true, cases_lt, cond-true, cond-false, lt-ltb}
 use Rattle.std.proofs.lemmas.List.Quantifiers.{position-Some}
 use Rattle.std.proofs.lemmas.Option.{none-some, same_Some, slice_get_within, slice_get-get_or, get_or_from_slice_get}
-use Rattle.fond_state.specs.Cubes.{Contradicts, CubeLiesIn}
+use Rattle.fond_state.specs.Cubes.{Contradicts}
 use Rattle.fond_match.specs.Besides.{permits, is_beside, is_beside-Decides}
 use Rattle.fond_task.specs.declared.rule.Rule.{Rule}
 use Rattle.fond_task.specs.Layers.{CubeView}
@@ -27,7 +27,7 @@ module _ {X : Type 0} (test : X → Bool) where
       go false earlier = omega arith
 
   -- an item that passes has a first one that does
-  has_first : (xs : List X) (k : ℕ) (x : X) → slice_get xs k ≡ Some x → test x ≡ true → position test xs ≡ Some (position_or_len test xs)
+  pub has_first : (xs : List X) (k : ℕ) (x : X) → slice_get xs k ≡ Some x → test x ≡ true → position test xs ≡ Some (position_or_len test xs)
   has_first xs k x is passes =
       let earlier = first_no_later xs k x is passes in
       let within = slice_get_within xs k x is in
@@ -35,7 +35,7 @@ module _ {X : Type 0} (test : X → Bool) where
       cond-true _ _ _ (lt-ltb _ _ below)
 
   -- the first item that passes is in the list
-  found_item : (xs : List X) (n : ℕ) → position test xs ≡ Some n → (x : X) × (slice_get xs n ≡ Some x) × (test x ≡ true)
+  pub found_item : (xs : List X) (n : ℕ) → position test xs ≡ Some n → (x : X) × (slice_get xs n ≡ Some x) × (test x ≡ true)
   found_item [] n is = absurd (none-some n is)
   found_item (y ∷ xs) n is = let at = position-Some test (y ∷ xs) n y is in (get_or (y ∷ xs) n y, slice_get-get_or (y ∷ xs) n y at.0, at.1)
 
@@ -49,7 +49,7 @@ opposed_by (Some false) (Some true) e = (false, refl, refl)
 opposed_by (Some false) (Some false) e = absurd (false≢true (sym e))
 
 -- cubes of which one does not lie beside the other contradict each other
-contradicts_by : (cube other : CubeView) → is_beside cube other ≡ false → Contradicts cube other
+pub contradicts_by : (cube other : CubeView) → is_beside cube other ≡ false → Contradicts cube other
 contradicts_by [] other e = absurd (false≢true (sym e))
 contradicts_by (known ∷ cube) [] e = absurd (false≢true (sym e))
 contradicts_by (known ∷ cube) (literal ∷ other) e = by (permits known literal) refl e (contradicts_by cube other)

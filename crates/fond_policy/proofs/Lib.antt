@@ -3,6 +3,7 @@ pub mod Closed
 pub mod Placed
 pub mod Widened
 pub mod Beside
+pub mod Apart
 pub mod Covered
 pub mod Beginning
 pub mod Walking

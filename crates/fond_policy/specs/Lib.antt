@@ -1,4 +1,5 @@
 pub mod Items
+pub mod Firsts
 pub mod Altered
 pub mod Wider
 pub mod Covers

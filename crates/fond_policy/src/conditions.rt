@@ -1,21 +1,43 @@
 //! The conditions of rules.
 
 ghost use Rattle.fond_policy.specs.Items.{firsts_of, AreFirstsOver, Belong, IsApart, IsFirstOn};
-ghost use Rattle.std.specs.Prelude.{◌≡◌, true, length, Decides};
+ghost use Rattle.fond_policy.specs.Firsts.{AreFirstConditions};
+ghost use Rattle.std.specs.Prelude.{◌≡◌, true, length, Decides, IfOk};
 
 use crate::firsts::Firsts;
-use crate::rivals::Rivals;
+use fond_matrix::matrix::Matrix;
 use fond_rules::rules::Rules;
 use fond_state::cube::Cube;
 use fond_task::task::Task;
 use fond_text::fault::NoMemory;
+use std::alloc::Global;
 use std::marker::Model;
 
-/// Whether the cube contradicts the condition of each rule before this number. Takes the time of `Rules::first_beside`.
-fn is_apart(rules: &Rules, rule: u32, c: &Cube) -> bool
-    requires { AreFirstsOver (length c.now) (firsts_of rules.now) }
+/// The conditions of no more than so many first rules are in a matrix. A question that the matrix answers takes time in the number of
+/// the rules, divided by 64, for each literal; the index mostly takes less with so many rules, and sometimes far more.
+const MANY: u32 = 1 << 16;
+
+/// The conditions of the first rules.
+fn matrix_of(alloc: Global, rules: &Rules) -> Result<Matrix, NoMemory>
+    ensures { IfOk result (λ matrix. AreFirstConditions matrix (firsts_of rules.now)) }
+{
+    let mut matrix = Matrix::new(alloc)?;
+    for number in 0..rules.len().min(MANY) {
+        matrix.push(&rules.get(number).cond)?;
+    }
+    Ok(matrix)
+}
+
+/// Whether the cube contradicts the condition of each rule before this number. Takes the time of `Matrix::first_beside`, if the matrix
+/// has these conditions, and otherwise that of `Rules::first_beside`.
+fn is_apart(rules: &Rules, matrix: &Matrix, rule: u32, c: &Cube) -> bool
+    requires over { AreFirstsOver (length c.now) (firsts_of rules.now) }
+    requires first { AreFirstConditions matrix.now (firsts_of rules.now) }
     ensures { Decides result (IsApart (firsts_of rules.now) rule c.now) }
 {
+    if rule <= matrix.len() {
+        return matrix.first_beside(c, rule).is_none();
+    }
     match rules.first_beside(c) {
         Some(first) => first >= rule,
         None => true,
@@ -23,51 +45,62 @@ fn is_apart(rules: &Rules, rule: u32, c: &Cube) -> bool
 }
 
 /// Whether the condition of this rule is the first on the cube. A cube that does not lie in it is found at once.
-fn is_first_on(rules: &Rules, rule: u32, c: &Cube) -> bool
-    requires { AreFirstsOver (length c.now) (firsts_of rules.now) }
+fn is_first_on(rules: &Rules, matrix: &Matrix, rule: u32, c: &Cube) -> bool
+    requires over { AreFirstsOver (length c.now) (firsts_of rules.now) }
+    requires first { AreFirstConditions matrix.now (firsts_of rules.now) }
     ensures { Decides result (IsFirstOn (firsts_of rules.now) rule c.now) }
 {
     if rule >= rules.len() {
         return false;
     }
-    rules.get(rule).cond.covers(c) && is_apart(rules, rule, c)
+    rules.get(rule).cond.covers(c) && is_apart(rules, matrix, rule, c)
 }
 
-/// Whether the rule `rival` is before the rule, and the cube does not contradict its condition.
-fn is_before(rules: &Rules, rule: u32, c: &Cube, rival: u32) -> bool
+/// Whether the cube does not lie in the rule's condition, or does not contradict that of the rule `rival`, which is before it. Takes two
+/// comparisons of cubes at most.
+fn is_not_first(rules: &Rules, rule: u32, c: &Cube, rival: u32) -> bool
     requires { AreFirstsOver (length c.now) (firsts_of rules.now) }
     ensures { result ≡ true → ¬ IsFirstOn (firsts_of rules.now) rule c.now }
 {
-    if rival >= rule || rival >= rules.len() {
+    if rule >= rules.len() {
+        return true;
+    }
+    if !rules.get(rule).cond.covers(c) {
+        return true;
+    }
+    if rival >= rule {
         return false;
     }
     !c.contradicts(&rules.get(rival).cond)
 }
 
-/// With more rules than this, looking for rivals takes longer than the index, which tells without them what is first.
-const MANY: u32 = 1 << 14;
-
-/// The conditions and actions of rules, which are lent.
+/// The conditions and actions of rules, which are lent, with the conditions of the first rules in a matrix.
 #[derive(Drop)]
 pub struct Conditions<'a> {
     rules: &'a Rules,
+    matrix: Matrix,
 }
 
 impl<'a> Model for Conditions<'a> {
     ghost use Rattle.std.specs.Prelude.{List};
     ghost use Rattle.fond_policy.specs.Items.{First, firsts_of};
+    ghost use Rattle.fond_policy.specs.Firsts.{AreFirstConditions};
 
     ghost Value = { List First };
 
     ghost view = { λ c. firsts_of c.rules.now };
+
+    ghost invariant = { λ c. AreFirstConditions c.matrix (firsts_of c.rules.now) };
 }
 
 impl<'a> Conditions<'a> {
-    /// The conditions and actions of these rules. Takes no memory.
-    pub fn new(rules: &'a Rules) -> Conditions<'a>
-        ensures { result ≡ firsts_of rules.now }
+    /// The conditions and actions of these rules. Takes time and memory in the number of the rules and of the literals of their
+    /// conditions; the memory is at most about that of the conditions themselves.
+    pub fn new(alloc: Global, rules: &'a Rules) -> Result<Conditions<'a>, NoMemory>
+        ensures { IfOk result (λ conditions. conditions ≡ firsts_of rules.now) }
     {
-        Conditions { rules }
+        let matrix = matrix_of(alloc, rules)?;
+        Ok(Conditions { rules, matrix })
     }
 
     /// Whether these are conditions over the task's atoms, and actions of the task. Takes time in the number of rules.
@@ -89,38 +122,17 @@ impl<'a> Firsts for Conditions<'a> {
     }
 
     fn first_on(&self, rule: u32, c: &Cube) -> bool {
-        is_first_on(self.rules, rule, c)
+        is_first_on(self.rules, &self.matrix, rule, c)
     }
 
     fn is_beaten(&self, rule: u32, c: &Cube, rival: u32) -> bool {
-        is_before(self.rules, rule, c, rival)
+        is_not_first(self.rules, rule, c, rival)
     }
 
-    fn find_rivals(&self, rule: u32, c: &Cube, rivals: &mut Rivals) {
-        if rule >= self.rules.len() {
+    fn find_rivals(&self, rule: u32, c: &Cube, rivals: &mut [u32]) {
+        if rule > self.matrix.len() || rivals.len() != c.len() {
             return;
         }
-        // a literal of the condition itself is needed, which one comparison tells, so it wants no rival
-        rivals.note_shared(&self.rules.get(rule).cond, rule);
-        if self.rules.len() > MANY {
-            return;
-        }
-        for earlier in 0..rule {
-            if rivals.are_found() {
-                return;
-            }
-            rivals.note_sole(c, &self.rules.get(earlier).cond, earlier);
-        }
-    }
-
-    fn list_conditions(&self, rivals: &mut Rivals) -> Result<(), NoMemory> {
-        rivals.unlist();
-        if self.rules.len() > MANY {
-            return Ok(());
-        }
-        for number in 0..self.rules.len() {
-            rivals.list_condition(&self.rules.get(number).cond)?;
-        }
-        Ok(())
+        self.matrix.find_rivals(c, rule, rivals);
     }
 }

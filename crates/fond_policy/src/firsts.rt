@@ -1,8 +1,6 @@
 //! Ordered conditions with the actions that they choose.
 
-use crate::rivals::Rivals;
 use fond_state::cube::Cube;
-use fond_text::fault::NoMemory;
 
 /// Conditions in order, each with an action. If several hold in a state, the first one counts.
 pub trait Firsts {
@@ -21,8 +19,8 @@ pub trait Firsts {
         requires { AreFirstsOver (length c.now) (firsts self.now) }
         ensures { Decides result (IsFirstOn (firsts self.now) rule c.now) };
 
-    /// Whether the condition of the number `rival` shows that that of the number `rule` is not the first on the cube: it is
-    /// before it, and the cube does not contradict it. False is always a correct answer.
+    /// Whether two comparisons of cubes show that the condition of the number `rule` is not the first on the cube: the cube does not
+    /// lie in it, or does not contradict the condition of the number `rival`, which is before it. False is always a correct answer.
     fn is_beaten(&self, rule: u32, c: &Cube, rival: u32) -> bool
         requires { AreFirstsOver (length c.now) (firsts self.now) }
         ensures { result ≡ true → ¬ IsFirstOn (firsts self.now) rule c.now }
@@ -30,13 +28,7 @@ pub trait Firsts {
         false
     }
 
-    /// Notes for each literal of the cube a condition before that of this number which the cube contradicts by this literal
-    /// alone. Nothing is claimed of what is noted, and noting nothing is always correct.
-    fn find_rivals(&self, rule: u32, c: &Cube, rivals: &mut Rivals) {}
-
-    /// Lists the literals of the conditions, which makes `find_rivals` fast if these are few. Nothing is claimed of the lists, and
-    /// listing nothing is always correct.
-    fn list_conditions(&self, rivals: &mut Rivals) -> Result<(), NoMemory> {
-        Ok(())
-    }
+    /// Notes for the atom of each literal of the cube the number of a condition before that of this number which the cube
+    /// contradicts by this literal alone. Nothing is claimed of what is noted, and noting nothing is always correct.
+    fn find_rivals(&self, rule: u32, c: &Cube, rivals: &mut [u32]) {}
 }

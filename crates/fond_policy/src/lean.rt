@@ -8,25 +8,30 @@ use crate::firsts::Firsts;
 use crate::item::Way;
 use crate::items::Items;
 use crate::pad::{CoverPad, Scratch};
-use crate::rivals::Rivals;
 use crate::sure::{is_sure_beside, sure_item};
 use fond_task::task::Task;
 
-/// Finds rivals of the rule of the item of this number. Takes time in the number of the earlier rules times that of the
-/// item's literals.
-pub(crate) fn find_rivals<R: Firsts>(rules: &R, items: &Items, at: u32, rivals: &mut Rivals)
+/// Notes rivals for the literals of the item of this number, and forgets the earlier ones. Takes the time of `Firsts::find_rivals`.
+pub(crate) fn find_rivals<R: Firsts>(rules: &R, items: &Items, at: u32, rivals: &mut [u32])
     requires { at < length items.now }
 {
+    for slot in rivals.iter_mut() {
+        *slot = u32::MAX;
+    }
     let item = items.get(at);
-    rivals.start(&item.cube);
     if let Way::Rule { rule, .. } = &item.way {
         rules.find_rivals(*rule, &item.cube, rivals);
     }
 }
 
+/// The number that is noted for the literal of this atom, or `u32::MAX`.
+pub(crate) fn rival_of(rivals: &[u32], atom: u32) -> u32 {
+    rivals.get(atom as usize).copied().unwrap_or(u32::MAX)
+}
+
 /// Whether the item of this number needs its literal of the atom, if it has one. The scratch cube is the item's cube, and is
-/// again afterwards. A literal of the condition of the item's rule, and one of which the rival tells that it is needed, take one
-/// comparison of cubes, and another one the time of `sure_item`.
+/// again afterwards. A literal of the condition of the item's rule, and one of which the rival tells that it is needed, take two
+/// comparisons of cubes at most, and another one the time of `sure_item`.
 pub(crate) fn needs<R: Firsts>(
     t: &Task,
     rules: &R,
@@ -61,7 +66,7 @@ fn needs_each<R: Firsts>(
     rules: &R,
     items: &Items,
     at: u32,
-    rivals: &Rivals,
+    rivals: &[u32],
     scratch: &mut Scratch,
 ) -> bool
     requires there { at < length items.now }
@@ -74,7 +79,7 @@ fn needs_each<R: Firsts>(
     ensures decides { (item : Item) → slice_get items.now at ≡ Some item → Decides result ((atom : ℕ) → NeedsLiteral t.now (R.firsts rules.now) items.now at item atom) }
 {
     for atom in 0..t.atoms.len() as u32 {
-        if !needs(t, rules, items, at, atom, rivals.rival(atom), scratch) {
+        if !needs(t, rules, items, at, atom, rival_of(rivals, atom), scratch) {
             return false;
         }
     }
@@ -95,9 +100,8 @@ fn needs_all<R: Firsts>(t: &Task, rules: &R, items: &Items, at: u32, pad: &mut C
     needs_each(t, rules, items, at, &pad.rivals, &mut pad.scratch)
 }
 
-/// Whether the item of this number is lean. Takes the time of `sure_item`, that in the number of the earlier rules times that
-/// of the item's literals, and the time of `sure_item` once more for each literal that no single earlier rule and no literal of
-/// the item's own rule shows to be needed.
+/// Whether the item of this number is lean. Takes the time of `sure_item`, that of `Firsts::find_rivals`, and the time of
+/// `sure_item` once more for each literal that no single earlier rule and no literal of the item's own rule shows to be needed.
 pub fn lean_item<R: Firsts>(t: &Task, rules: &R, items: &Items, at: u32, pad: &mut CoverPad) -> bool
     requires there { at < length items.now }
     requires belong { Belong t.now (R.firsts rules.now) }

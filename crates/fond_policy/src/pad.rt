@@ -2,8 +2,6 @@
 
 ghost use Rattle.std.specs.Prelude.{◌≡◌, length, IfOk};
 
-use crate::firsts::Firsts;
-use crate::rivals::Rivals;
 use fond_state::cube::Cube;
 use fond_text::fault::NoMemory;
 use std::alloc::Global;
@@ -20,7 +18,9 @@ pub(crate) struct Scratch {
 #[derive(Drop)]
 pub struct CoverPad {
     pub(crate) scratch: Scratch,
-    pub(crate) rivals: Rivals,
+    /// For the atom of each literal of an item's cube, the number of a rule that may show that the literal is needed, or `u32::MAX`.
+    /// Nothing is claimed of these numbers: each is tested where it is used.
+    pub(crate) rivals: Vec<u32>,
 }
 
 impl Model for CoverPad {
@@ -34,24 +34,16 @@ impl Model for CoverPad {
 }
 
 impl CoverPad {
-    /// A pad over this many atoms. Takes the memory of two cubes and of two numbers for each atom.
+    /// A pad over this many atoms. Takes the memory of two cubes and of a number for each atom.
     pub fn new(alloc: Global, atoms: u32) -> Result<CoverPad, NoMemory>
         ensures { IfOk result (λ p. p ≡ atoms) }
     {
         let cube = Cube::new(alloc, atoms)?;
         let image = Cube::new(alloc, atoms)?;
-        let rivals = Rivals::new(alloc, atoms)?;
+        let rivals = vec![in alloc; u32::MAX; atoms as usize]?;
         Ok(CoverPad {
             scratch: Scratch { cube, image },
             rivals,
         })
-    }
-
-    /// Lists the literals of the conditions in the pad, which makes `lean_item` fast if the conditions have few. Any conditions
-    /// may be listed: what the tests return does not depend on it. Takes time and memory in the number of these literals.
-    pub fn index<R: Firsts>(&mut self, rules: &R) -> Result<(), NoMemory>
-        ensures { self.new ≡ self.old }
-    {
-        rules.list_conditions(&mut self.rivals)
     }
 }

@@ -45,7 +45,7 @@ fn lead_into(
     true
 }
 
-/// Whether the rule goes on from the cube to the items of these numbers.
+/// Whether the rule goes on from the cube to the items of these numbers. Whether it is the first comes last, since it may take longest.
 fn goes_on<R: Firsts>(
     t: &Task,
     rules: &R,
@@ -65,7 +65,7 @@ fn goes_on<R: Firsts>(
     let Some(act) = rules.act(rule) else {
         return false;
     };
-    rules.first_on(rule, cube) && lead_into(others, t.acts.get(act as usize), cube, numbers, image)
+    lead_into(others, t.acts.get(act as usize), cube, numbers, image) && rules.first_on(rule, cube)
 }
 
 /// Whether the form has the value Yes on the cube.
@@ -103,7 +103,7 @@ fn is_sure_with<R: Firsts>(
     }
 }
 
-/// Whether the rival shows that the item of this number is not sure with this cube, whatever the items are.
+/// Whether the item's rule or the rival shows that the item of this number is not sure with this cube, whatever the items are.
 fn is_beaten<R: Firsts>(
     t: &Task,
     rules: &R,
@@ -123,8 +123,8 @@ fn is_beaten<R: Firsts>(
     }
 }
 
-/// Whether the item of this number is sure with the scratch cube in place of its own. If the rival shows that it is not, this
-/// takes one comparison of cubes.
+/// Whether the item of this number is sure with the scratch cube in place of its own. If the item's rule or the rival shows that it
+/// is not, this takes two comparisons of cubes at most.
 pub(crate) fn is_sure_beside<R: Firsts>(
     t: &Task,
     rules: &R,

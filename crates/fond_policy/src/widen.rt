@@ -3,13 +3,12 @@
 ghost use Rattle.fond_policy.specs.Items.{AreItemsOver, AreLeanItems, AreSureItems, Belong, NeedsLiteral};
 ghost use Rattle.fond_policy.specs.Wider.{AreWider, HaveWidened};
 ghost use Rattle.fond_policy.specs.declared.item.Item.{Item};
-ghost use Rattle.std.specs.Prelude.{◌≡◌, ◌<◌, ℕ, false, Some, length, slice_get, IfOk, OnOk, OnErr};
+ghost use Rattle.std.specs.Prelude.{◌≡◌, ◌<◌, ℕ, false, Some, length, slice_get, OnOk, OnErr};
 
 use crate::firsts::Firsts;
 use crate::items::Items;
-use crate::lean::{find_rivals, needs};
+use crate::lean::{find_rivals, needs, rival_of};
 use crate::pad::{CoverPad, Scratch};
-use crate::rivals::Rivals;
 use fond_task::task::Task;
 use fond_text::fault::NoMemory;
 use std::alloc::Global;
@@ -51,7 +50,7 @@ fn drop_each<R: Firsts>(
     rules: &R,
     items: &mut Items,
     at: u32,
-    rivals: &Rivals,
+    rivals: &[u32],
     scratch: &mut Scratch,
 ) -> bool
     requires there { at < length items.old }
@@ -67,7 +66,7 @@ fn drop_each<R: Firsts>(
 {
     let mut changed = false;
     for atom in 0..t.atoms.len() as u32 {
-        let dropped = drop_one(t, rules, items, at, atom, rivals.rival(atom), scratch);
+        let dropped = drop_one(t, rules, items, at, atom, rival_of(rivals, atom), scratch);
         changed = changed || dropped;
     }
     changed
@@ -129,19 +128,9 @@ fn settle<R: Firsts>(t: &Task, rules: &R, items: &mut Items, pad: &mut CoverPad)
     }
 }
 
-/// A pad over the task's atoms, in which the conditions are listed.
-fn pad_of<R: Firsts>(alloc: Global, t: &Task, rules: &R) -> Result<CoverPad, NoMemory>
-    ensures { IfOk result (λ p. p ≡ length t.now.atoms) }
-{
-    let mut pad = CoverPad::new(alloc, t.atoms.len() as u32)?;
-    pad.index(rules)?;
-    Ok(pad)
-}
-
 /// Widens sure items until they are lean. Their ways are kept, and each cube covers the old one. After an error the items are as
 /// they were. Passes over the items until none loses a literal, so at most once more than there are literals, and mostly two or
-/// three times; a pass takes the time of `lean_item` for each item. Takes memory for one pad and the
-/// literals of the conditions.
+/// three times; a pass takes the time of `lean_item` for each item. Takes memory for one pad.
 pub fn widen<R: Firsts>(
     alloc: Global,
     t: &Task,
@@ -155,7 +144,7 @@ pub fn widen<R: Firsts>(
     ensures wider { OnOk result (AreWider items.new items.old) }
     ensures err { OnErr result (items.new ≡ items.old) }
 {
-    let mut pad = pad_of(alloc, t, rules)?;
+    let mut pad = CoverPad::new(alloc, t.atoms.len() as u32)?;
     settle(t, rules, items, &mut pad);
     Ok(())
 }

@@ -1,5 +1,5 @@
 use Rattle.std.proofs.Common.{◌≡◌, length}
-use Rattle.fond_policy.specs.Items.{firsts_of, IsSureItem}
+use Rattle.fond_policy.specs.Items.{IsSureItem}
 use Rattle.fond_policy.proofs.Beginning.{Before}
 use Rattle.fond_check.proofs.items.first_bad_item.Given as goal
 
@@ -7,5 +7,5 @@ use Rattle.fond_check.proofs.items.first_bad_item.Given as goal
 abbrev pub invariant-loop-at : goal.invariant-loop-at
 invariant-loop-at l = record {
   pad : l.pad ≡ length l.t.atoms;
-  sure : Before l.items (λ n item. IsSureItem l.t (firsts_of l.fn.rules) l.items item) l.at;
+  sure : Before l.items (λ n item. IsSureItem l.t l.conditions l.items item) l.at;
 }

@@ -1,5 +1,5 @@
 use Rattle.std.proofs.Common.{◌≡◌, length}
-use Rattle.fond_policy.specs.Items.{firsts_of, IsLeanItem}
+use Rattle.fond_policy.specs.Items.{IsLeanItem}
 use Rattle.fond_policy.proofs.Beginning.{Before}
 use Rattle.fond_check.proofs.lean.are_items_lean.Given as goal
 
@@ -7,5 +7,5 @@ use Rattle.fond_check.proofs.lean.are_items_lean.Given as goal
 abbrev pub invariant-loop-at : goal.invariant-loop-at
 invariant-loop-at l = record {
   pad : l.pad ≡ length l.t.atoms;
-  lean : Before l.items (λ n item. IsLeanItem l.t (firsts_of l.fn.rules) l.items n item) l.at;
+  lean : Before l.items (λ n item. IsLeanItem l.t l.conditions l.items n item) l.at;
 }

@@ -1,4 +1,4 @@
-use Rattle.std.proofs.Common.{◌≡◌, refl, sym, ap, subst, ◌∙◌, arith}
+use Rattle.std.proofs.Common.{refl, sym, ap, subst, ◌∙◌, arith}
 use Rattle.std.proofs.lemmas.Bool.{false≢true}
 use Rattle.std.proofs.lemmas.Option.{slice_get_within}
 use Rattle.fond_state.specs.Cubes.{lies_in}
@@ -10,7 +10,7 @@ use Rattle.fond_policy.specs.Items.{AreItemsOver, AreSureItems, Belong}
 use Rattle.fond_covering.proofs.certify.passes.Goals as goal
 
 pub are_sure-requires-clause-belong : goal.are_sure-requires-clause-belong
-are_sure-requires-clause-belong c = subst (Belong c.args.t.now) (sym c.new-conditions.ensures) (firsts_belong c.args.t.now c.args.rules.now c.requires.belong)
+are_sure-requires-clause-belong c = subst (Belong c.args.t.now) (sym c.in_ok-conditions.ensures) (firsts_belong c.args.t.now c.args.rules.now c.requires.belong)
 
 pub returns-then-start-len : goal.returns-then-start-len
 returns-then-start-len c = (
@@ -41,12 +41,12 @@ returns c =
       λ yes. record {
         few = omega (arith, c.len.ensures);
         over = subst (λ atoms. AreItemsOver atoms items) c.len-2.ensures (c.if-not-are_over.ensures.0 refl);
-        sure = subst (λ firsts. AreSureItems task firsts items) c.new-conditions.ensures (c.are_sure.ensures.decides.0 yes);
+        sure = subst (λ firsts. AreSureItems task firsts items) c.in_ok-conditions.ensures (c.are_sure.ensures.decides.0 yes);
         starts = record {
           item = own;
           numbered = c.get.ensures;
           lies = (lies_in-Decides task.init own.cube).0 (sym c.if-not-holds.ensures);
         };
       },
-      λ sure. c.are_sure.ensures.decides.1 (subst (λ firsts. AreSureItems task firsts items) (sym c.new-conditions.ensures) sure.sure),
+      λ sure. c.are_sure.ensures.decides.1 (subst (λ firsts. AreSureItems task firsts items) (sym c.in_ok-conditions.ensures) sure.sure),
     )

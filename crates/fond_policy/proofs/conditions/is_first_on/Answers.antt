@@ -7,7 +7,7 @@ use Rattle.fond_policy.proofs.Ruled.{first_at, over_at}
 use Rattle.fond_policy.proofs.conditions.is_first_on.Goals as goal
 
 pub covers-requires : goal.covers-requires
-covers-requires c = over_at c.args.rules.now c.args.rule c.get.result.now (length c.args.c.now) c.requires c.get.ensures
+covers-requires c = over_at c.args.rules.now c.args.rule c.get.result.now (length c.args.c.now) c.requires.over c.get.ensures
 
 pub returns-then-covers : goal.returns-then-covers
 returns-then-covers c =

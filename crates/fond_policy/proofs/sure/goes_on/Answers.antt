@@ -20,20 +20,23 @@ lead_into-requires-clause-within g c =
     let P : ℕ → Type 0 = λ n. IsTrue (is_act_within n c.get.result.now) in
     subst P (sym c.requires.cube_over) (all_at (is_act_within (length c.args.t.now.atoms)) c.args.t.now.acts c.in-Some.act c.get.result.now c.args.t.now.acts_within c.get.ensures)
 
-pub returns-then-first_on-clause-decides : goal.returns-then-first_on-clause-decides
-returns-then-first_on-clause-decides g c =
+pub returns-then-lead_into-clause-decides : goal.returns-then-lead_into-clause-decides
+returns-then-lead_into-clause-decides g c =
     let firsts = g.R.Firsts.firsts c.args.rules.now in
     let acts = c.args.t.now.acts in
     let first = of_act firsts c.args.rule c.in-Some.act c.in-Some.ensures in
-    let same : (other : First) → slice_get firsts c.args.rule ≡ Some other → other.act ≡ c.in-Some.act = λ other at. ap (λ (f : First). f.act) (same_Some other first.0 (sym at ∙ first.1)) ∙ first.2 in
-    let on = c.if-first_on.ensures.0 refl in (
-      λ e. record { on = on; act = c.get.result.now; has_act = ap (slice_get acts) (same on.first on.numbered) ∙ c.get.ensures; leads = c.lead_into.ensures.decides.0 e },
+    let same : (other : First) → slice_get firsts c.args.rule ≡ Some other → other.act ≡ c.in-Some.act = λ other at. ap (λ (f : First). f.act) (same_Some other first.0 (sym at ∙ first.1)) ∙ first.2 in (
+      λ e. let on = c.first_on.ensures.0 e in record { on = on; act = c.get.result.now; has_act = ap (slice_get acts) (same on.first on.numbered) ∙ c.get.ensures; leads = c.if-lead_into.ensures.decides.0 refl },
+      λ goes. c.first_on.ensures.1 goes.on,
+    )
+
+pub returns-else-lead_into-clause-decides : goal.returns-else-lead_into-clause-decides
+returns-else-lead_into-clause-decides g c =
+    let firsts = g.R.Firsts.firsts c.args.rules.now in
+    let acts = c.args.t.now.acts in
+    let first = of_act firsts c.args.rule c.in-Some.act c.in-Some.ensures in
+    let same : (other : First) → slice_get firsts c.args.rule ≡ Some other → other.act ≡ c.in-Some.act = λ other at. ap (λ (f : First). f.act) (same_Some other first.0 (sym at ∙ first.1)) ∙ first.2 in (
+      λ e. absurd (false≢true (sym c.if-lead_into.false ∙ e)),
       λ goes. c.lead_into.ensures.decides.1 (subst (λ (a : Act). LeadInto c.args.others.now a c.args.cube.now c.args.numbers.now)
           (same_Some goes.act c.get.result.now (sym goes.has_act ∙ ap (slice_get acts) (same goes.on.first goes.on.numbered) ∙ c.get.ensures)) goes.leads),
     )
-
-pub returns-else-first_on-clause-decides : goal.returns-else-first_on-clause-decides
-returns-else-first_on-clause-decides g c = (
-  λ e. absurd (false≢true (sym c.if-first_on.false ∙ e)),
-  λ goes. c.first_on.ensures.1 goes.on,
-)
