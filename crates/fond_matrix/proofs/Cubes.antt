@@ -3,7 +3,7 @@ use Rattle.std.proofs.Common.{◌≡◌, ℕ, zero, suc, ◌+◌, ◌<◌, ◌�
 use Rattle.std.specs.Prelude.{◌⊎◌, slice_index_or, position}
 use Rattle.std.specs.Option.{IfSome, IfNone}
 use Rattle.std.proofs.lemmas.Bool.{cases_lt, cases_eq, false≢true, false_from_ne_true}
-use Rattle.std.proofs.lemmas.List.{get_or_past, get_or_push, get_or_append_left, get_or_default, get_or-take, length-take, length_push, map_push, take_at}
+use Rattle.std.proofs.lemmas.List.{get_or_past, get_or_push, get_or_append_left, get_or_default, get_or-take, length-take, length_push, map_push}
 use Rattle.fond_state.specs.Cubes.{literal_at, Contradicts}
 use Rattle.fond_match.specs.Lies.{is_sign}
 use Rattle.fond_match.specs.Besides.{is_beside, is_beside-Decides}
@@ -177,10 +177,6 @@ module _ (rows : List (List ℕ)) (counts : List ℕ) (none : counts ≡ []) whe
 
   pub no_bits : ((sign : Bool) (atom number : ℕ) → has rows sign atom number ≡ false) → IsMatrixOf (cubes_of rows 0 counts) rows
   no_bits clear sign atom number = clear sign atom number ∙ sym (ap (λ cs. is_sign (literal_at (cube_at cs number) atom) sign) no_cubes)
-
--- the last item is dropped again
-pub popped : {X : Type 0} (xs ys zs : List X) (x : X) (n : ℕ) → ys ≡ xs ++ x ∷ [] → n ≡ length xs → zs ≡ take n ys → zs ≡ xs
-popped xs ys zs x n pushed long is = is ∙ ap (take n) pushed ∙ take_at xs (x ∷ []) n (sym long)
 
 -- bits that are the same are still those of the cubes
 pub same_bits : (old new : List (List ℕ)) (counts others : List ℕ) → IsMatrixOf (cubes_of old 0 counts) old → ((sign : Bool) (atom number : ℕ) → has new sign atom number ≡ has old sign atom number) → others ≡ counts →

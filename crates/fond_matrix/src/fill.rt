@@ -1,6 +1,6 @@
 //! How a cube is added.
 
-ghost use Rattle.std.specs.Prelude.{◌≡◌, ◌<◌, ◌≤◌, ◌/◌, ◌-◌, ◌^◌, ℕ, Bool, [], Some, None, false, length, IfSome, IfNone, OnOk, OnErr};
+ghost use Rattle.std.specs.Prelude.{◌≡◌, ◌<◌, ◌≤◌, ◌/◌, ◌-◌, ◌^◌, ℕ, Bool, [], Some, None, false, length, IfSome, IfNone, OnOk};
 ghost use Rattle.fond_match.specs.Lies.{is_sign};
 ghost use Rattle.fond_state.specs.Cubes.{literal_at};
 ghost use Rattle.fond_matrix.specs.Rows.{row_at, has, IsNextLiteral};
@@ -23,8 +23,13 @@ pub(crate) fn next_literal(c: &Cube, nothing: &Cube, from: u32) -> Option<(u32, 
 }
 
 impl Rows {
-    /// Makes the words of the sets of all literals of a cube at least this many.
-    fn make_room(&mut self, nothing: &Cube, cube: &Cube, count: usize) -> Result<(), NoMemory>
+    /// Makes the words of the sets of all literals of a cube at least this many. All sets stay the same, also if memory runs out.
+    pub(crate) fn make_room(
+        &mut self,
+        nothing: &Cube,
+        cube: &Cube,
+        count: usize,
+    ) -> Result<(), NoMemory>
         requires { nothing.now ≡ [] }
         ensures same { (s : Bool) (a number : ℕ) → has self.new s a number ≡ has self.old s a number }
         ensures wide { OnOk result ((s : Bool) (a : ℕ) → literal_at cube.now a ≡ Some s → count ≤ length (row_at self.new s a)) }
@@ -38,7 +43,7 @@ impl Rows {
     }
 
     /// Notes that the cube of a number has the literals that a cube has.
-    fn mark(&mut self, nothing: &Cube, cube: &Cube, number: u32)
+    pub(crate) fn mark(&mut self, nothing: &Cube, cube: &Cube, number: u32)
         requires empty { nothing.now ≡ [] }
         requires room { (s : Bool) (a : ℕ) → literal_at cube.now a ≡ Some s → number / 64 < length (row_at self.old s a) }
         requires fresh { (s : Bool) (a : ℕ) → has self.old s a number ≡ false }
@@ -50,19 +55,5 @@ impl Rows {
             self.put(atom, sign, number);
             from = atom + 1;
         }
-    }
-
-    /// Adds a cube under a number, or changes nothing if memory runs out. Takes time in the number of the cube's literals and of its
-    /// words; and, spread over many cubes, that of a 64th of the cubes for each literal that is new.
-    pub(crate) fn add(&mut self, nothing: &Cube, cube: &Cube, number: u32) -> Result<(), NoMemory>
-        requires empty { nothing.now ≡ [] }
-        requires fresh { (s : Bool) (a : ℕ) → has self.old s a number ≡ false }
-        ensures here { OnOk result ((s : Bool) (a : ℕ) → has self.new s a number ≡ is_sign (literal_at cube.now a) s) }
-        ensures other { (s : Bool) (a k : ℕ) → ¬ k ≡ number → has self.new s a k ≡ has self.old s a k }
-        ensures err { OnErr result ((s : Bool) (a k : ℕ) → has self.new s a k ≡ has self.old s a k) }
-    {
-        self.make_room(nothing, cube, (number / 64) as usize + 1)?;
-        self.mark(nothing, cube, number);
-        Ok(())
     }
 }

@@ -65,14 +65,11 @@ impl Matrix {
         ensures err { OnErr result (self.new ≡ self.old) }
     {
         let number = self.lengths.len() as u32;
+        self.rows
+            .make_room(&self.nothing, cube, (number / 64) as usize + 1)?;
         self.lengths.push(cube.len() as u32)?;
-        match self.rows.add(&self.nothing, cube, number) {
-            Ok(()) => Ok(()),
-            Err(fault) => {
-                self.lengths.pop();
-                Err(fault)
-            }
-        }
+        self.rows.mark(&self.nothing, cube, number);
+        Ok(())
     }
 
     /// The number of the first of the cubes before this number that a cube does not contradict, if there is one. Takes time in the number
