@@ -13,8 +13,8 @@ use fond_text::fault::NoMemory;
 use std::alloc::Global;
 use std::marker::Model;
 
-/// The conditions of no more than so many first rules are in a matrix. A question that the matrix answers takes time in the number of
-/// the rules, divided by 64, for each literal; the index mostly takes less with so many rules, and sometimes far more.
+/// The matrix has the conditions of so many first rules at most. It answers in time that depends on the number of rules and literals alone.
+/// The index, which answers for the later rules, is faster if the cube has the literals of its branches, and otherwise far slower.
 const MANY: u32 = 1 << 16;
 
 /// The conditions of the first rules.
