@@ -9,8 +9,10 @@ pub mod Grounded
 pub mod Zips
 pub mod Kept
 pub mod Actions
+pub mod Alike
 mod Filed
 pub mod Numbered
 pub mod Distincts
+pub mod Empties
 pub mod Named
 pub mod Refusals

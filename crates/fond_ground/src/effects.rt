@@ -13,7 +13,7 @@ ghost use Rattle.fond_task.specs.Values.{value};
 ghost use Rattle.fond_task.specs.Within.{is_form_within};
 ghost use Rattle.fond_task.specs.declared.form.Kleene.TheVariants.{Yes};
 ghost use Rattle.std.specs.List.{list_all};
-ghost use Rattle.std.specs.Prelude.{◌≡◌, ◌++◌, ℕ, length, List, Option, Bool, is_some, map, true, IfOk, OnOk};
+ghost use Rattle.std.specs.Prelude.{◌≡◌, ◌++◌, [], ◌∷◌, ℕ, length, List, Option, Bool, is_some, map, true, IfOk, OnOk};
 
 use crate::forms::form_of;
 use crate::table::{Table, ground_numbers};
@@ -59,8 +59,29 @@ fn conditional(alloc: Global, form: Form, effect: GroundEffect) -> Result<Ground
     Ok(GroundEffect::When(form, Box::new(alloc, effect)?))
 }
 
+/// Whether no literal and no choice occurs in an effect, so that its one outcome is empty whatever the objects are. Takes
+/// time in the size of the effect, and no memory.
+fn is_empty(effect: &LEffect) -> bool
+    ensures { result ≡ true → (env : List ℕ) → outcomes env effect.now ≡ [] ∷ [] }
+{
+    match effect {
+        LEffect::Nothing => true,
+        LEffect::Add(_) | LEffect::Delete(_) | LEffect::OneOf(_) => false,
+        LEffect::And(members) => {
+            for member in members {
+                if !is_empty(member) {
+                    return false;
+                }
+            }
+            true
+        }
+        LEffect::Forall(_, part) => is_empty(part),
+        LEffect::When(_, part) => is_empty(part),
+    }
+}
+
 /// The ground effect of an effect, where these are the objects of the variables around it. Takes time and memory in the
-/// size of the effect written out over all lists of objects.
+/// size of the effect written out over all lists of objects, apart from quantified effects without a literal.
 #[cycle(grounding)]
 pub(crate) fn ground_effect(
     alloc: Global,
@@ -85,6 +106,9 @@ pub(crate) fn ground_effect(
             Ok(GroundEffect::OneOf(parts))
         }
         LEffect::Forall(ranges, part) => {
+            if is_empty(part) {
+                return Ok(GroundEffect::And(Vec::new(alloc)));
+            }
             let parts = ground_instances(alloc, table, ranges.as_slice(), part, env)?;
             Ok(GroundEffect::And(parts))
         }

@@ -11,13 +11,17 @@ ghost use Rattle.fond_ast.specs.Conditions.{ground_atom, tuples};
 ghost use Rattle.fond_task.specs.Junctions.{joined_all};
 ghost use Rattle.fond_task.specs.Values.{value};
 ghost use Rattle.fond_task.specs.Within.{is_form_within};
-ghost use Rattle.std.specs.Prelude.{◌≡◌, ◌++◌, List, Bool, Option, true, map, length, IfOk, OnOk};
+ghost use Rattle.fond_task.specs.declared.form.Kleene.{Kleene};
+ghost use Rattle.fond_text.specs.declared.atom.Atom.{Atom};
+ghost use Rattle.std.specs.Prelude.{◌≡◌, ◌+◌, ◌++◌, ℕ, List, Bool, Option, true, map, length, IfOk, OnOk};
 
 use crate::junction::{JunctionForm, junction_of};
 use crate::table::{Table, ground_numbers, object};
 use crate::tuples::Tuples;
 use fond_ast::form::{LAtom, LCond, Range};
-use fond_task::form::{Form, Junction};
+use fond_join::fixed::fixed_value;
+use fond_join::variables::has_variables;
+use fond_task::form::{Form, Junction, Kleene};
 use fond_text::fault::NoMemory;
 use std::alloc::Global;
 
@@ -120,7 +124,20 @@ fn members_form(
     Ok(whole.form())
 }
 
-/// The junction of the part, with this sign, over the lists of objects of the ranges.
+/// Whether a condition has the same value for all objects of the variables with numbers from `start` on and below `end`: its
+/// form decides it, or none of them occurs in it. Takes time in the size of the condition, and no memory.
+fn is_alike(part: &LCond, start: usize, end: usize) -> bool
+    ensures { result ≡ true → (known : Atom → Kleene) (env objects others : List ℕ) → length env ≡ start → length env + length objects ≡ end → length objects ≡ length others
+        → condition_value known (env ++ objects) part.now ≡ condition_value known (env ++ others) part.now }
+{
+    match fixed_value(&[], part) {
+        Kleene::No | Kleene::Yes => true,
+        Kleene::Unknown => !has_variables(part, start, end),
+    }
+}
+
+/// The junction of the part, with this sign, over the lists of objects of the ranges. If the part is the same for all of
+/// them, it is ground for the first one only.
 #[cycle(forming)]
 fn instances_form(
     alloc: Global,
@@ -137,6 +154,7 @@ fn instances_form(
     ensures env { OnOk result (env.new.items ≡ env.old.items) }
 {
     let around = env.len();
+    let alike = is_alike(part, around, around + ranges.len());
     let mut whole = JunctionForm::new(alloc, junction);
     let mut tuples = Tuples::of(alloc, ranges)?;
     while !tuples.is_done() {
@@ -146,12 +164,16 @@ fn instances_form(
         tuples.put_next(env)?;
         whole.add(signed_form(alloc, table, part, env, sign)?)?;
         env.truncate(around);
+        if alike {
+            return Ok(whole.form());
+        }
     }
     Ok(whole.form())
 }
 
 /// The ground condition of a condition, where these are the objects of the variables around it. Takes time in the size of
-/// the condition written out over all lists of objects, and memory in the size of the result.
+/// the condition written out over the lists of objects of those of its quantifiers whose variables occur in their part, and
+/// memory in the size of the result.
 pub(crate) fn form_of(
     alloc: Global,
     table: &Table,

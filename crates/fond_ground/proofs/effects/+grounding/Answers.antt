@@ -1,4 +1,4 @@
-use Rattle.std.proofs.Common.{◌≡◌, ◌∙◌, ◌++◌, ◌+◌, not, ℕ, Bool, [], List, true, length, map, take, drop, sym, ap, subst, arith}
+use Rattle.std.proofs.Common.{◌≡◌, ◌∙◌, ◌++◌, ◌+◌, ◌∷◌, not, ℕ, Bool, [], List, true, length, map, take, drop, sym, ap, subst, arith}
 use Rattle.std.specs.Prelude.{◌==◌, is_some}
 use Rattle.std.specs.List.{list_all, flat_map}
 use Rattle.std.proofs.lemmas.Grind.{common_steps}
@@ -17,6 +17,7 @@ use Rattle.std.proofs.Math.Seq.{take-append_seam}
 use Rattle.std.proofs.lemmas.Result.{IfOk-weaker}
 use Rattle.fond_ground.proofs.Signs.{drop_here}
 use Rattle.fond_ground.proofs.Zips.{zip_more}
+use Rattle.fond_ground.proofs.Empties.{all_empty}
 use Rattle.fond_ground.proofs.Grounded.{numbered-Add, numbered-Delete, numbered-OneOf, outcomes-And, outcomes-OneOf, outcomes-Forall, outcomes-When, has-And, has-OneOf}
 use Rattle.fond_ground.proofs.effects.+grounding.Goals as goal
 
@@ -58,14 +59,25 @@ ground_effect-returns-in_ok-parts-in-OneOf-clause-effect t c =
     (ap (λ some. flat_map (λ part. part) (map (outcomes env) some)) c.deref-in-OneOf.ensures.value ∙ sym (ap (outcomes env) c.in-OneOf.is ∙ outcomes-OneOf env c.in-OneOf.members))
     (has-OneOf task lists parts some c.in_ok-parts-in-OneOf.ensures.effects)
 
+pub ground_effect-returns-then-is_empty-clause-effect : goal.ground_effect-returns-then-is_empty-clause-effect
+ground_effect-returns-then-is_empty-clause-effect t c =
+    let task = c.args.table.now.facts.task.now in
+    let env = c.args.env.now.items in
+    let parts = c.new-then-is_empty.result in
+    let whole : outcomes env c.args.effect.now ≡ [] ∷ [] =
+    ap (outcomes env) c.in-Forall.is ∙ outcomes-Forall env c.in-Forall.ranges c.in-Forall.part
+    ∙ all_empty (λ objects. outcomes (env ++ objects) c.in-Forall.part.value) (λ objects. ap (outcomes (env ++ objects)) (sym c.deref-in-Forall.ensures) ∙ c.is_empty.ensures c.if-is_empty.true (env ++ objects)) (tuples (objects_of c.in-Forall.ranges)) in
+    subst (λ (some : List (List Literal)). HasOutcomes task some (made.And parts)) (sym whole)
+    (has-And task [] parts (subst (λ (some : List GroundEffect). HaveOutcomes task [] some) (sym c.new-then-is_empty.ensures.items) tt))
+
 pub ground_effect-returns-in_ok-parts-in-Forall-clause-effect : goal.ground_effect-returns-in_ok-parts-in-Forall-clause-effect
 ground_effect-returns-in_ok-parts-in-Forall-clause-effect t c =
     let task = c.args.table.now.facts.task.now in
     let env = c.args.env.now.items in
     let parts = c.in_ok-parts-in-Forall.parts in
-    let lists = map (λ objects. outcomes (env ++ objects) c.deref-in-Forall.result.now) (tuples (objects_of c.as_slice.result.now)) in
+    let lists = map (λ objects. outcomes (env ++ objects) c.deref-in-Forall-2.result.now) (tuples (objects_of c.as_slice.result.now)) in
     subst (λ (some : List (List Literal)). HasOutcomes task some (made.And parts))
-    ((λ i. concatenations (map (λ objects. outcomes (env ++ objects) (c.deref-in-Forall.ensures i)) (tuples (objects_of (c.as_slice.ensures i)))))
+    ((λ i. concatenations (map (λ objects. outcomes (env ++ objects) (c.deref-in-Forall-2.ensures i)) (tuples (objects_of (c.as_slice.ensures i)))))
     ∙ sym (ap (outcomes env) c.in-Forall.is ∙ outcomes-Forall env c.in-Forall.ranges c.in-Forall.part))
     (has-And task lists parts c.in_ok-parts-in-Forall.ensures.effects)
 

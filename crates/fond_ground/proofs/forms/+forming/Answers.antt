@@ -1,6 +1,7 @@
-use Rattle.std.proofs.Common.{◌≡◌, ◌∙◌, ◌++◌, ◌+◌, ℕ, [], List, true, not, length, map, take, drop, sym, ap, arith}
+use Rattle.std.proofs.Common.{◌≡◌, ◌∙◌, ◌++◌, ◌+◌, ℕ, [], List, true, not, length, map, take, drop, sym, ap, subst, arith}
 use Rattle.std.specs.List.{fold}
 use Rattle.std.proofs.lemmas.Grind.{common_steps}
+use Rattle.std.proofs.lemmas.List.{length-map}
 use Rattle.std.proofs.Math.Seq.{take-append_seam}
 use Rattle.fond_ast.specs.Ranges.{objects_of}
 use Rattle.fond_join.specs.Values.{condition_value}
@@ -12,6 +13,7 @@ use Rattle.fond_ground.specs.Atoms.{fluent_atoms}
 use Rattle.fond_ground.specs.Signs.{junction_value, signed}
 use Rattle.fond_ground.specs.Values.{atom_value}
 use Rattle.fond_ground.proofs.Signs.{same_form, signed_at, at-Holds, signed-And, signed-Or, signed-Not, signed-Imply, signed-Forall, signed-Exists, next_joined, drop_here, decided_whole}
+use Rattle.fond_ground.proofs.Alike.{AreLong, tuples_long, first_decides}
 use Rattle.fond_ground.proofs.forms.+forming.Goals as goal
 
 pub signed_form-returns-in-Holds-clause-value : goal.signed_form-returns-in-Holds-clause-value
@@ -136,6 +138,7 @@ pub instances_form-loop-alloc-init : goal.instances_form-loop-alloc-init
 instances_form-loop-alloc-init t c = record {
   around = (let ok = c.args.env.now.ok.0 in let len = c.len-around.ensures in omega (arith, ok, len));
   env = λ i. c.args.env.now.items;
+  long = subst (AreLong (length c.args.ranges.now)) (sym c.in_ok-tuples.ensures) (tuples_long (objects_of c.args.ranges.now) (length c.args.ranges.now) (length-map c.args.ranges.now (λ range. range.value)));
   kind = c.new-whole.ensures.kind;
   within = c.new-whole.ensures.within (length (fluent_atoms c.args.table.now.facts.task.now));
   value = λ cube.
@@ -163,6 +166,7 @@ instances_form-loop-alloc-preserved t c =
     record {
       around = before.around ∙ ap length before.env ∙ ap length (sym back);
       env = back;
+      long = (subst (AreLong (length c.args.ranges.now)) taken.split before.long).1;
       kind = c.add.ensures.kind ∙ before.kind;
       within = c.in_ok-add.ensures.within (length (fluent_atoms c.args.table.now.facts.task.now)) c.in_ok-signed_form.ensures.within before.within;
       value = λ cube.
@@ -174,6 +178,27 @@ instances_form-loop-alloc-preserved t c =
           (c.in_ok-signed_form.ensures.value cube ∙ ap (λ env. signed c.args.sign (condition_value known env c.args.part.now)) (taken.put ∙ ap (λ env. env ++ taken.objects) before.env))
           (before.value cube);
     }
+
+pub instances_form-returns-then-alike-clause-within : goal.instances_form-returns-then-alike-clause-within
+instances_form-returns-then-alike-clause-within t c =
+    let atoms = length (fluent_atoms c.args.table.now.facts.task.now) in
+    c.form-then-alike.ensures.within atoms (c.in_ok-add.ensures.within atoms c.in_ok-signed_form.ensures.within c.loop-alloc.invariant.within)
+
+pub instances_form-returns-then-alike-clause-value : goal.instances_form-returns-then-alike-clause-value
+instances_form-returns-then-alike-clause-value t c = λ cube.
+    let before = c.loop-alloc.invariant in
+    let taken = c.in_ok-put_next.ensures in
+    let known = atom_value c.args.table.now.facts.task.now cube in
+    let around = c.args.env.now.items in
+    let start_is : length around ≡ c.len-around.result = sym (before.around ∙ ap length before.env) in
+    let f : List ℕ → Kleene = λ objects. signed c.args.sign (condition_value known (around ++ objects) c.args.part.now) in
+    c.form-then-alike.ensures.value cube
+    ∙ first_decides c.args.junction f (length c.args.ranges.now) c.loop-alloc.tuples taken.objects c.put_next.new.self (junction_value cube c.loop-alloc.whole) (junction_value cube c.add.new.self) (value cube c.in_ok-signed_form.field-0) _
+    taken.split before.long
+    (c.in_ok-add.ensures.value cube ∙ ap (λ j. joined j (junction_value cube c.loop-alloc.whole) (value cube c.in_ok-signed_form.field-0)) before.kind)
+    (c.in_ok-signed_form.ensures.value cube ∙ ap (λ env. signed c.args.sign (condition_value known env c.args.part.now)) (taken.put ∙ ap (λ env. env ++ taken.objects) before.env))
+    (λ objects others one other. ap (signed c.args.sign) (c.is_alike-alike.ensures c.if-alike.true known around objects others start_is (omega (arith, one, start_is)) (one ∙ sym other)))
+    (before.value cube)
 
 pub instances_form-returns-clause-within : goal.instances_form-returns-clause-within
 instances_form-returns-clause-within t c = c.form-2.ensures.within (length (fluent_atoms c.args.table.now.facts.task.now)) c.loop-alloc.invariant.within

@@ -8,6 +8,7 @@ use Rattle.fond_task.specs.Within.{is_form_within}
 use Rattle.fond_ground.specs.Atoms.{fluent_atoms}
 use Rattle.fond_ground.specs.Signs.{junction_value, signed}
 use Rattle.fond_ground.specs.Values.{atom_value}
+use Rattle.fond_ground.proofs.Alike.{AreLong}
 use Rattle.fond_ground.proofs.forms.+forming.Given as goal
 
 -- the parts so far and those that are left give the whole
@@ -24,6 +25,7 @@ abbrev pub invariant-instances_form-loop-alloc : goal.invariant-instances_form-l
 invariant-instances_form-loop-alloc l = record {
   around : l.around ≡ length l.env.items;
   env : l.env.items ≡ l.fn.env.items;
+  long : AreLong (length l.ranges) l.tuples;
   kind : l.whole.junction ≡ l.fn.junction;
   within : list_all (is_form_within (length (fluent_atoms l.table.facts.task.now))) l.whole.parts.items ≡ true;
   value : (cube : List (Option Bool)) → fold (joined l.fn.junction) (junction_value cube l.whole) (map (λ objects. signed l.sign (condition_value (atom_value l.table.facts.task.now cube) (l.fn.env.items ++ objects) l.part)) l.tuples)
