@@ -17,6 +17,7 @@ use fond_check::parts::{first_bad_layer, first_bad_rule};
 use fond_layers::fault::Spot;
 use fond_layers::layers::{Layer, Layers};
 use fond_policy::best::BestCert;
+use fond_policy::conditions::Conditions;
 use fond_policy::pad::CoverPad;
 use fond_rules::pad::Pad;
 use fond_rules::pairs::Pairs;
@@ -52,7 +53,8 @@ fn cover_fault(alloc: Global, t: &Task, cert: &BestCert) -> Result<Option<Rated>
     ensures { IfOk result (λ found. MatchOption found (IsRightCover t.now cert.now.layers [] cert.now.rules cert.now.items cert.now.start) (IsRating t.now cert.now)) }
 {
     let mut pad = CoverPad::new(alloc, t.atoms.len() as u32)?;
-    if let Some(at) = first_bad_item(t, &cert.rules, &cert.items, &mut pad) {
+    let conditions = Conditions::new(alloc, &cert.rules)?;
+    if let Some(at) = first_bad_item(t, &conditions, &cert.items, &mut pad) {
         return Ok(Some(Rated::Item { at }));
     }
     if !is_in_item(&cert.items, cert.start, &t.init) {
