@@ -186,7 +186,13 @@ impl Layers {
         if at == 0 {
             return goal_spot(t, far.get(at).as_slice());
         }
-        spot(t, self.items.as_slice(), far.layer(at - 1), far.layer(at), image)
+        spot(
+            t,
+            self.items.as_slice(),
+            far.layer(at - 1),
+            far.layer(at),
+            image,
+        )
     }
 
     /// Appends a layer that is sure above those that are there. Takes the time of `fault`. `image` is overwritten.

@@ -119,7 +119,9 @@ pub(crate) fn goal_spot(t: &Task, cubes: &[Cube]) -> Option<Spot>
     for (number, cube) in cubes.iter().enumerate() {
         match value(&t.goal, cube) {
             Kleene::No => {}
-            _ => return Some(Spot::Goal { cube: number as u32 }),
+            _ => return Some(Spot::Goal {
+                cube: number as u32,
+            }),
         }
     }
     None
