@@ -60,7 +60,7 @@ impl Moves {
     }
 
     /// The node in which the action of the move is taken.
-    pub(crate) fn source(&self, number: u32) -> u32
+    pub fn source(&self, number: u32) -> u32
         requires { number < length self.now }
         ensures { result ≡ (move_at self.now number).source }
     {
@@ -76,7 +76,7 @@ impl Moves {
     }
 
     /// Whether an opponent picks the outcome of the move's action.
-    pub(crate) fn is_unfair(&self, number: u32) -> bool
+    pub fn is_unfair(&self, number: u32) -> bool
         requires { number < length self.now }
         ensures { result ≡ (move_at self.now number).unfair }
     {
@@ -84,7 +84,7 @@ impl Moves {
     }
 
     /// The nodes to which the outcomes of the move's action lead.
-    pub(crate) fn targets(&self, number: u32) -> &[u32]
+    pub fn targets(&self, number: u32) -> &[u32]
         requires { number < length self.now }
         ensures { result.now ≡ (move_at self.now number).targets }
     {

@@ -61,7 +61,7 @@ impl Preds {
     }
 
     /// The moves that lead to a node. A node past the last one has none.
-    pub(crate) fn get(&self, node: u32) -> &[u32] {
+    pub fn get(&self, node: u32) -> &[u32] {
         let node = node as usize;
         match (self.starts.get(node), self.starts.get(node + 1)) {
             (Some(start), Some(end)) => self
