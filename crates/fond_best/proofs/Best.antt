@@ -8,7 +8,7 @@ use Rattle.fond_policy.specs.declared.best.BestCert.{BestCert}
 use Rattle.fond_policy.proofs.Covered.{covers_solve}
 use Rattle.fond_games.specs.Rankings.{IsRanking}
 use Rattle.fond_best.specs.Certificates.{IsRightBest}
-use Rattle.fond_best.specs.Ranks.{HasRank, IsBest}
+use Rattle.fond_games.specs.Ranks.{HasRank, IsBest}
 use Rattle.fond_best.proofs.Beyond.{IsAmong, open_in, ranked_high}
 use Rattle.fond_best.proofs.Nearest.{rank_by, ranked_at_most, is_ranking}
 

@@ -4,7 +4,7 @@ use Rattle.fond_task.specs.declared.task.Task.{Task}
 use Rattle.fond_task.specs.Policies.{game, selected}
 use Rattle.fond_policy.specs.declared.best.BestCert.{BestCert}
 use Rattle.fond_best.specs.Certificates.{IsRightBest}
-use Rattle.fond_best.specs.Ranks.{IsBest}
+use Rattle.fond_games.specs.Ranks.{IsBest}
 use Rattle.fond_best.specs.Ratings.{IsRating}
 use Rattle.fond_best.specs.declared.rated.Rated.{Rated}
 use Rattle.fond_best.specs.declared.rated.Rated.TheVariants.{Least}

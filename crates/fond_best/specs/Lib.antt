@@ -1,4 +1,3 @@
-pub mod Ranks
 pub mod Certificates
 pub mod Ratings
 pub mod Laws

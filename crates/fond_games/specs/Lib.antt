@@ -1,6 +1,7 @@
 pub mod Walks
 pub mod Lassos
 pub mod Rankings
+pub mod Ranks
 pub mod Finite
 pub mod Graphs
 pub mod Levels

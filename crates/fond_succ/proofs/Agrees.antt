@@ -25,6 +25,7 @@ use Rattle.fond_succ.proofs.Lists.{Member-at}
 use Rattle.fond_succ.proofs.Firsts.{same_tests, has_position, item-at, one_place}
 use Rattle.fond_succ.proofs.Kept.{mapped}
 use Rattle.fond_succ.proofs.Bridges.{Correspond, IsBridge, Naming, count_down, count_up, more_down, more_up, reach_down, reach_up, solution_down, solution_up}
+use Rattle.fond_succ.proofs.Shortest.{best_down}
 use Rattle.fond_succ.proofs.Shown.{acts_everywhere_down, acts_everywhere_up, least_down, reaches_more_down, reaches_more_up, shown_lasso_down, stuck_down}
 use Rattle.fond_succ.proofs.Maps.{and_then, solvable_down, solvable_up}
 use Rattle.fond_succ.proofs.Plays.{distinct, long, plays}
@@ -166,4 +167,5 @@ module _ (task : LiftedTask) (game : Task) (is : IsGroundOf task game) where
         stuck = λ choose listed stem. stuck_down names above below bridge choose (lifted_policy task game choose) (policies_correspond choose) listed stem;
         lasso = λ choose listed stem cycle. shown_lasso_down names above below bridge choose (lifted_policy task game choose) (policies_correspond choose) listed stem cycle;
         least = λ choose rank acts. least_down names above below bridge choose (lifted_policy task game choose) (policies_correspond choose) acts rank;
+        best = λ choose rank. best_down names above below bridge choose (lifted_policy task game choose) (policies_correspond choose) rank;
       }

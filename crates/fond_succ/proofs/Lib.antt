@@ -21,3 +21,4 @@ pub mod Traces
 pub mod Truths
 pub mod Values
 pub mod Shown
+pub mod Shortest

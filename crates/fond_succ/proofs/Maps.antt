@@ -27,7 +27,7 @@ some_then f (Some x) has = refl
 
 module _ {S A V N : Type 0} (names : Naming S A V N) where
   -- a policy, in the states that stand for those of the other game: it chooses the number of the action, if there is one
-  abbrev restricted : Policy S A → Policy V N
+  abbrev pub restricted : Policy S A → Policy V N
   restricted policy v = if names.fits v then option_and_then names.number_of (policy (names.stands v)) else None
 
   module _ (same : S → S → Bool) where
@@ -36,7 +36,7 @@ module _ {S A V N : Type 0} (names : Naming S A V N) where
     raised choices s = if same (names.stands (names.back s)) s then option_and_then names.action_of (choices (names.back s)) else None
 
 module _ {S A V N : Type 0} (names : Naming S A V N) (lifted : Game S A) (ground : Game V N) (bridge : IsBridge names lifted ground) where
-  restricted_corresponds : (policy : Policy S A) → Correspond names (restricted names policy) policy
+  pub restricted_corresponds : (policy : Policy S A) → Correspond names (restricted names policy) policy
   restricted_corresponds policy v n a fits named = (
     λ chosen.
         let from = and_then names.number_of (policy (names.stands v)) n (through (names.fits v) _ n chosen).1 in
@@ -44,7 +44,7 @@ module _ {S A V N : Type 0} (names : Naming S A V N) (lifted : Game S A) (ground
     λ taken. cond-true (names.fits v) _ _ fits ∙ ap (option_and_then names.number_of) taken ∙ (bridge.numbered n a).0 named,
   )
 
-  restricted_finite : (policy : Policy S A) → IsFiniteMap policy → IsFiniteMap (restricted names policy)
+  pub restricted_finite : (policy : Policy S A) → IsFiniteMap policy → IsFiniteMap (restricted names policy)
   restricted_finite policy finite = (
     map names.back finite.0,
     λ v has.

@@ -169,11 +169,11 @@ module _ {S A V N : Type 0} (names : Naming S A V N) (lifted : Game S A) (ground
   nearer_up rank bound w fits (inr less) = inr less
 
   -- the same state again, by its way back
-  back_to : (s : S) (v : V) → IsTrue (names.fits v) → s ≡ names.stands v → names.back s ≡ v
+  pub back_to : (s : S) (v : V) → IsTrue (names.fits v) → s ≡ names.stands v → names.back s ≡ v
   back_to s v fits is = ap names.back is ∙ bridge.back_is v fits
 
   module _ (acts : ActsEverywhere ground choices) where
-    ranking_up : (rank : S → ℕ) → IsRanking lifted policy rank → IsRanking ground choices (λ v. rank (names.stands v))
+    pub ranking_up : (rank : S → ℕ) → IsRanking lifted policy rank → IsRanking ground choices (λ v. rank (names.stands v))
     ranking_up rank is = record {
       some = λ v reached open_.
           let here = reach_down names lifted ground bridge choices policy agrees v reached in
@@ -224,7 +224,7 @@ module _ {S A V N : Type 0} (names : Naming S A V N) (lifted : Game S A) (ground
           chosen = (agrees here.state named.0 a here.fits named.1).1 (subst (λ (one : S). policy one ≡ Some a) here.stands chosen);
         }
 
-    ranking_down : (rank : V → ℕ) → IsRanking ground choices rank → IsRanking lifted policy (λ s. rank (names.back s))
+    pub ranking_down : (rank : V → ℕ) → IsRanking ground choices rank → IsRanking lifted policy (λ s. rank (names.back s))
     ranking_down rank is = record {
       some = λ s reached open_.
           let here = reach_up names lifted ground bridge choices policy agrees s reached in

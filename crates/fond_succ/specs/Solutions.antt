@@ -7,6 +7,7 @@ use Rattle.fond_ast.specs.Solutions as lifted
 use Rattle.fond_games.specs.Findings.{ShowsLasso, ShowsStuck}
 use Rattle.fond_games.specs.Lassos.{ActsEverywhere}
 use Rattle.fond_games.specs.Rankings.{IsLeastRanking}
+use Rattle.fond_games.specs.Ranks.{IsBest}
 use Rattle.fond_rules.specs.declared.table.TableRow.{TableRow}
 use Rattle.fond_rules.specs.Tables.{table_choice}
 use Rattle.fond_task.specs.Policies as ground
@@ -34,7 +35,8 @@ table_policy task game rows = lifted_policy task game (table_choice rows)
 -- it reaches the states for which reached ones stand, and as many, and in both or in neither more than a number; one is solvable if and
 -- only if the other is; and in both or none more than a number of states can be reached. The policy acts everywhere in both or in none;
 -- what tells of a stuck run or of a lasso of it in the ground task tells of one in the task, with the states for which the listed ones
--- stand; and if it acts everywhere, its least ranking in the ground task is that in the task, state by state
+-- stand; if it acts everywhere, its least ranking in the ground task is that in the task, state by state; and a solution of least rank
+-- in the ground task is one in the task
 pub record Agree (task : LiftedTask) (game : Task) : Type 0 where
   pub solution : (choose : ground.Policy) → ground_solutions.IsSolution game choose ↔ lifted.IsSolution task (lifted_policy task game choose)
   pub reached : (choose : ground.Policy) (state : State)
@@ -50,3 +52,4 @@ pub record Agree (task : LiftedTask) (game : Task) : Type 0 where
       → ShowsLasso (ground.game game) choose listed stem cycle → ShowsLasso (lifted.game task) (lifted_policy task game choose) (map (stands task) listed) stem cycle
   pub least : (choose : ground.Policy) (rank : List Bool → ℕ) → ActsEverywhere (ground.game game) choose
       → IsLeastRanking (ground.game game) choose rank → IsLeastRanking (lifted.game task) (lifted_policy task game choose) (λ state. rank (restrict task state))
+  pub best : (choose : ground.Policy) (rank : ℕ) → IsBest (ground.game game) choose rank → IsBest (lifted.game task) (lifted_policy task game choose) rank
