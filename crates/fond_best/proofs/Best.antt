@@ -8,7 +8,7 @@ use Rattle.fond_policy.specs.declared.best.BestCert.{BestCert}
 use Rattle.fond_policy.proofs.Covered.{covers_solve}
 use Rattle.fond_games.specs.Rankings.{IsRanking}
 use Rattle.fond_best.specs.Certificates.{IsRightBest}
-use Rattle.fond_games.specs.Ranks.{HasRank, IsBest}
+use Rattle.fond_games.specs.Ranks.{IsBest}
 use Rattle.fond_best.proofs.Beyond.{IsAmong, open_in, ranked_high}
 use Rattle.fond_best.proofs.Nearest.{rank_by, ranked_at_most, is_ranking}
 
@@ -55,16 +55,8 @@ module _ (task : Task) (cert : BestCert) (rank : ℕ) (right : IsRightBest task 
       given = λ open_. (rank_by cert.items cert.ranks, ranking, exact);
       least = λ other open_ is. at_least (selected cert.rules) solves other is;
     };
-    least = λ policy other finite solution has. by policy other solution has rank refl;
+    least = λ policy ranking finite solution open_ is. at_least policy solution ranking is;
   }
-    where
-      by : (policy : Policy) (other : ℕ) → IsSolution task policy → HasRank (game task) policy other → (n : ℕ) → n ≡ rank → rank ≤ other
-      by policy other solution has zero same = omega (arith, same)
-      by policy other solution has (suc n) same =
-          let open_ : ¬ IsGoal task task.init = λ goal. let none = at_goal goal in absurd (omega (arith, none, same)) in
-          let given = has.given open_ in
-          let high = at_least policy solution given.0 given.1 in
-          omega (arith, high, given.2)
 
 pub best_by : (task : Task) (cert : BestCert) (rank : ℕ) → IsRightBest task cert rank → IsBest (game task) (selected cert.rules) rank
 best_by = is_best

@@ -19,8 +19,8 @@ pub record IsNearer (items : List Item) (ranks : List ℕ) (bound number : ℕ) 
   pub numbered : slice_get items number ≡ Some item
   pub nearer : (item.way ≡ Goal) ⊎ ((rank : ℕ) × (slice_get ranks number ≡ Some rank) × (rank < bound))
 
--- an item that goes on by a rule to items has the rank: it is at least 1; if the rule's action is fair, some item that it names is
--- nearer; if it is unfair, each is
+-- this is a right rank for an item that goes on by this rule to the items of these numbers: it is at least 1; if the rule's action is
+-- fair, some of these items is nearer; if it is unfair, each is
 pub record IsRankedRule (task : Task) (rules : List Rule) (items : List Item) (ranks : List ℕ) (rank number : ℕ) (numbers : List ℕ) : Type 0 where
   pub some : 0 < rank
   pub rule : Rule
@@ -30,17 +30,17 @@ pub record IsRankedRule (task : Task) (rules : List Rule) (items : List Item) (r
   pub fair : act.unfair ≡ false → (other : ℕ) × Contains numbers other × IsNearer items ranks rank other
   pub unfair : act.unfair ≡ true → (other : ℕ) → Contains numbers other → IsNearer items ranks rank other
 
--- an item with this way has the rank; a goal item has any
+-- this is a right rank for an item with this way; nothing is asked of that of a goal item, which is 0 in a certificate of the task
 abbrev pub IsRankedWay : Task → List Rule → List Item → List ℕ → ℕ → Way → Type 0
 IsRankedWay task rules items ranks rank Goal = ⊤
 IsRankedWay task rules items ranks rank (ByRule number numbers) = IsRankedRule task rules items ranks rank number numbers
 
--- there is a rank for each item, and each item has its rank
+-- there is a rank for each item, and each is right
 pub record AreRanked (task : Task) (rules : List Rule) (items : List Item) (ranks : List ℕ) : Type 0 where
   pub counted : length ranks ≡ length items
   pub each : (number : ℕ) (item : Item) (rank : ℕ) → slice_get items number ≡ Some item → slice_get ranks number ≡ Some rank → IsRankedWay task rules items ranks rank item.way
 
--- a state lies in a cube of the last of these lists
+-- a state lies in a cube of the last list
 pub record IsInLast (state : List Bool) (lists : List (List CubeView)) : Type 0 where
   pub number : ℕ
   pub is_last : suc number ≡ length lists
@@ -56,8 +56,8 @@ pub record BoundsMeet (task : Task) (ranks : List ℕ) (start : ℕ) (far : List
   pub counted : length far ≡ rank
   pub reached : 0 < rank → IsInLast task.init far
 
--- a certificate is correct with a rank: its layers, rules and items are sure, without pairs; its start item exists and has the
--- initial state; its items are ranked, its far lists are far, and its bounds meet at the rank
+-- a certificate is correct with a rank: its layers, rules and items are sure, without pairs; its start item exists and the
+-- initial state lies in its cube; the ranks are right, its far lists are far, and its bounds meet at the rank
 pub record IsRightBest (task : Task) (cert : BestCert) (rank : ℕ) : Type 0 where
   pub cover : IsRightCover task cert.layers [] cert.rules cert.items cert.start
   pub ranked : AreRanked task cert.rules cert.items cert.ranks

@@ -1,5 +1,5 @@
--- The verdicts on certificates of a policy of least rank: the rank, or the first fault. Layers are looked at before rules, rules before
--- items, and these before the start item, the ranks, the far lists, and whether the bounds meet.
+-- The verdicts on certificates of a policy of least rank: the rank, or the first fault. Looked at in this order: layers, rules, items, the
+-- start item, the ranks, the far lists, and whether the bounds meet.
 use Rattle.std.specs.Prelude.{◌≡◌, ℕ, ◌<◌, List, [], Some, slice_get}
 use Rattle.fond_task.specs.declared.task.Task.{Task}
 use Rattle.fond_task.specs.declared.rule.Rule.{Rule}
@@ -17,7 +17,7 @@ use Rattle.fond_best.specs.Certificates.{IsRankedWay, AreRanked, BoundsMeet, IsR
 use Rattle.fond_best.specs.declared.rated.Rated.{Rated}
 use Rattle.fond_best.specs.declared.rated.Rated.TheVariants.{Least, LayerGoal, LayerAct, Rule as BadRule, Item as BadItem, Start as BadStart, Rank as BadRank, FarGoal, FarAct, Bound}
 
--- the item of this number is the first that has not its rank
+-- the item of this number is the first whose rank is not right
 pub record IsFirstBadRank (task : Task) (rules : List Rule) (items : List Item) (ranks : List ℕ) (number : ℕ) : Type 0 where
   pub item : Item
   pub has_item : slice_get items number ≡ Some item
@@ -38,7 +38,7 @@ pub record HasSureRules (task : Task) (cert : BestCert) : Type 0 where
   pub layers_sure : AreSureLayers task cert.layers
   pub rules_sure : AreSureRules task [] cert.rules
 
--- so is the cover, and each item has its rank
+-- layers, rules and items are sure, without pairs, the start item exists, the initial state lies in its cube, and each rank is right
 pub record IsRankedCover (task : Task) (cert : BestCert) : Type 0 where
   pub cover : IsRightCover task cert.layers [] cert.rules cert.items cert.start
   pub ranked : AreRanked task cert.rules cert.items cert.ranks

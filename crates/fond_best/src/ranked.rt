@@ -1,4 +1,4 @@
-//! Whether items have their ranks.
+//! Whether the ranks of items are right.
 
 ghost use Rattle.fond_best.specs.Certificates.{IsNearer, IsRankedRule, IsRankedWay, AreRanked};
 ghost use Rattle.fond_best.specs.Ratings.{IsFirstBadRank};
@@ -76,7 +76,7 @@ fn is_ranked_way(t: &Task, cert: &BestCert, rank: u64, way: &Way) -> bool
     }
 }
 
-/// The number of the first item that has not its rank. Takes time in the number of all outcomes of the items.
+/// The number of the first item whose rank is not right. Takes time in the number of all outcomes of the items.
 pub(crate) fn first_bad_rank(t: &Task, cert: &BestCert) -> Option<u32>
     requires { BelongsAsBest t.now cert.now }
     ensures { MatchOption result (AreRanked t.now cert.now.rules cert.now.items cert.now.ranks) (IsFirstBadRank t.now cert.now.rules cert.now.items cert.now.ranks) }

@@ -16,7 +16,7 @@ pub enum Rated {
     Item { at: u32 },
     /// There is no start item, or the initial state does not lie in its cube.
     Start,
-    /// The first item that has not its rank.
+    /// The first item whose rank is not right.
     Rank { at: u32 },
     /// The goal may be true in a cube of the list, the first cube that is not far of the first far list that is not.
     FarGoal { list: u32, cube: u32 },

@@ -1,4 +1,4 @@
--- Far lists: numbered lists of cubes from whose states no solution can be sure of a goal within that many lucky steps.
+-- Far lists: lists of cubes, numbered from 0. From the states of a list each solution needs, at worst, more lucky steps than its number.
 use Rattle.std.specs.Prelude.{◌≡◌, ℕ, zero, suc, List, Option, Some, None, slice_get, take, Contains}
 use Rattle.fond_task.specs.declared.form.Kleene.TheVariants.{No}
 use Rattle.fond_task.specs.declared.task.Task.{Task}
@@ -31,7 +31,7 @@ pub record IsFirstGoal (task : Task) (cubes : List CubeView) (number : ℕ) : Ty
   pub goal : ¬ value cube task.goal ≡ No
   pub first : (other : CubeView) → Contains (take number cubes) other → value other task.goal ≡ No
 
--- a spot is what is wrong with the first cube of a list that is not far
+-- a spot is what is wrong with a list that is not far: the first of its cubes that fails, and how
 abbrev pub IsFarSpot : Task → List (List CubeView) → Option (List CubeView) → List CubeView → Spot → Type 0
 IsFarSpot task layers None cubes (Goal number) = IsFirstGoal task cubes number
 IsFarSpot task layers None cubes (NotSure number act) = ⊥

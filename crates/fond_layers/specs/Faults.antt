@@ -10,19 +10,19 @@ use Rattle.fond_layers.specs.declared.fault.Spot.TheVariants.{Goal, NotSure}
 use Rattle.fond_layers.specs.declared.fault.LayerFault.{LayerFault}
 use Rattle.fond_layers.specs.declared.fault.LayerFault.TheVariants.{Goal as HasGoal, NotSure as IsNotSure, NoMemory}
 
--- an action escapes from a cube of a layer if its precondition is not No on the cube, and it does not lead into the
--- layer or an earlier one
+-- an action escapes from a cube if its precondition is not No on the cube, and it leads neither into the layer nor into an earlier
+-- one
 abbrev pub Escapes : List (List CubeView) → List CubeView → CubeView → Act → Type 0
 Escapes earlier layer cube act = (¬ value cube act.pre ≡ No) × (¬ Forces earlier layer cube act)
 
--- the action of this number is the first that escapes from a cube of a layer
+-- the action of this number is the first that escapes from a cube
 pub record IsFirstEscape (acts : List Act) (earlier : List (List CubeView)) (layer : List CubeView) (cube : CubeView) (number : ℕ) : Type 0 where
   pub act : Act
   pub has_act : slice_get acts number ≡ Some act
   pub escapes : Escapes earlier layer cube act
   pub first : (other : Act) → Contains (take number acts) other → ¬ Escapes earlier layer cube other
 
--- what is wrong with a cube of a layer: the goal is not No on it, or the goal is and an action escapes from it
+-- what is wrong with a cube: the goal is not No on it; or it is No, and the action of this number is the first that escapes
 abbrev pub IsWrong : Task → List (List CubeView) → List CubeView → CubeView → Spot → Type 0
 IsWrong task earlier layer cube (Goal number) = ¬ value cube task.goal ≡ No
 IsWrong task earlier layer cube (NotSure number act) = (value cube task.goal ≡ No) × IsFirstEscape task.acts earlier layer cube act
@@ -32,7 +32,7 @@ abbrev pub cube_number : Spot → ℕ
 cube_number (Goal number) = number
 cube_number (NotSure number act) = number
 
--- a spot is what is wrong with the first of some cubes that is not sure as one of a layer
+-- a spot is what is wrong with the first of these cubes that is not sure as a cube of the layer; they need not be those of the layer
 pub record IsSpotInto (task : Task) (earlier : List (List CubeView)) (layer cubes : List CubeView) (spot : Spot) : Type 0 where
   pub cube : CubeView
   pub has_cube : slice_get cubes (cube_number spot) ≡ Some cube

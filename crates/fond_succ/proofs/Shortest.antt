@@ -1,5 +1,5 @@
--- Two games, if each state of the one stands for a state of the other and both have the same moves: ranks of policies agree, and a
--- solution of least rank in the one is one in the other.
+-- Two games, if each state of the one stands for a state of the other and both have the same moves: a solution of least rank in the one
+-- is one in the other.
 use Rattle.std.proofs.Common.{◌≡◌, ◌≤◌, ℕ, ap, sym, ◌∙◌, subst}
 use Rattle.std.specs.Prelude.{IsTrue}
 use Rattle.fond_state.specs.Games.{Game, Policy}
@@ -31,24 +31,14 @@ module _ {S A V N : Type 0} (names : Naming S A V N) (lifted : Game S A) (ground
           subst (λ s. rank ≤ ranking s) bridge.first most;
     }
 
-    rank_up : HasRank lifted policy rank → HasRank ground choices rank
-    rank_up has = record {
-      at_goal = λ goal. has.at_goal (goal_down goal);
-      given = λ open_.
-          let got = has.given (λ goal. open_ (goal_up goal)) in
-          ((λ v. got.0 (names.stands v)), ranking_up names lifted ground bridge choices policy agrees acts got.0 got.1, ap got.0 bridge.first ∙ got.2);
-      least = λ ranking open_ is.
-          let most = has.least (λ s. ranking (names.back s)) (λ goal. open_ (goal_up goal)) (ranking_down names lifted ground bridge choices policy agrees acts ranking is) in
-          subst (λ v. rank ≤ ranking v) back_first most;
-    }
-
   pub best_down : (choices : Policy V N) (policy : Policy S A) (agrees : Correspond names choices policy) (rank : ℕ) → IsBest ground choices rank → IsBest lifted policy rank
   best_down choices policy agrees rank best = record {
     solves = solution_down names lifted ground bridge choices policy agrees best.solves;
     ranked = rank_down choices policy agrees best.solves.acts rank best.ranked;
-    least = λ map other finite solution has.
+    least = λ map ranking finite solution open_ is.
         let own = restricted names map in
         let alike = restricted_corresponds names lifted ground bridge map in
         let solves = solution_up names lifted ground bridge own map alike solution in
-        best.least own other (restricted_finite names lifted ground bridge map finite) solves (rank_up own map alike solves.acts other has);
+        let most = best.least own (λ v. ranking (names.stands v)) (restricted_finite names lifted ground bridge map finite) solves (λ goal. open_ (goal_down goal)) (ranking_up names lifted ground bridge own map alike solves.acts ranking is) in
+        subst (λ s. rank ≤ ranking s) bridge.first most;
   }
