@@ -1,3 +1,4 @@
 pub mod Certificates
 pub mod Ratings
+pub mod Texts
 pub mod Laws

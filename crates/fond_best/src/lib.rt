@@ -6,3 +6,4 @@ pub mod laws;
 mod ranked;
 pub mod rate;
 pub mod rated;
+pub mod text;

@@ -19,9 +19,13 @@ accepted_text policy false = codes "accepted policy plain\n"
 abbrev pub numbered_text : Task → ℕ → List ℕ
 numbered_text task number = option_map_or (λ act. action_text task.labels act.ground) (slice_get task.acts number) []
 
--- the line for a cube that is not sure, up to what is wrong with it
+-- the line for a cube of a list, up to what is wrong with it: these words, the number of the list and that of the cube
+abbrev pub place_text : List ℕ → ℕ → ℕ → List ℕ
+place_text words list cube = words ++ decimal list ++ codes " cube " ++ decimal cube ++ codes " "
+
+-- the line for a cube of a layer that is not sure, up to what is wrong with it
 abbrev pub cube_text : ℕ → ℕ → List ℕ
-cube_text layer cube = codes "rejected V3 layer " ++ decimal layer ++ codes " cube " ++ decimal cube ++ codes " "
+cube_text layer cube = place_text (codes "rejected V3 layer ") layer cube
 
 -- the text of a verdict on a certificate
 abbrev pub verdict_text : Task → Cert → Verdict → List ℕ

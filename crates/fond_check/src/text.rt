@@ -1,6 +1,6 @@
 //! Writing verdicts.
 
-ghost use Rattle.fond_check.specs.Texts.{accepted_text, numbered_text, cube_text, verdict_text as text_of};
+ghost use Rattle.fond_check.specs.Texts.{accepted_text, numbered_text, place_text, verdict_text as text_of};
 ghost use Rattle.fond_task.specs.Texts.{state_text};
 ghost use Rattle.fond_text.specs.Text.{Adds};
 ghost use Rattle.std.specs.Fmt.{decimal};
@@ -37,36 +37,36 @@ fn put_numbered(task: &Task, act: u32, text: &mut Text)
     }
 }
 
-/// Adds the line for a cube that is not sure, up to what is wrong with it.
-fn put_cube(layer: u32, cube: u32, text: &mut Text)
-    ensures { Adds text.old text.new (cube_text layer cube) }
+/// Adds the line for a cube of a list, up to what is wrong with it.
+fn put_cube(words: &[u8], list: u32, cube: u32, text: &mut Text)
+    ensures { Adds text.old text.new (place_text words.now list cube) }
 {
-    text.add(b"rejected V3 layer ");
-    text.add_number(layer as u64);
+    text.add(words);
+    text.add_number(list as u64);
     text.add(b" cube ");
     text.add_number(cube as u64);
     text.add(b" ");
 }
 
-/// Adds the line for a cube on which an action is wrong.
-fn put_act(task: &Task, layer: u32, cube: u32, act: u32, text: &mut Text)
-    ensures { Adds text.old text.new (cube_text layer cube ++ numbered_text task.now act ++ codes "\n") }
+/// Adds the line of these words for a cube on which an action is wrong.
+pub fn put_act(task: &Task, words: &[u8], list: u32, cube: u32, act: u32, text: &mut Text)
+    ensures { Adds text.old text.new (place_text words.now list cube ++ numbered_text task.now act ++ codes "\n") }
 {
-    put_cube(layer, cube, text);
+    put_cube(words, list, cube, text);
     put_numbered(task, act, text);
     text.add(b"\n");
 }
 
-/// Adds the line for a cube on which the goal may be true.
-fn put_goal(layer: u32, cube: u32, text: &mut Text)
-    ensures { Adds text.old text.new (cube_text layer cube ++ codes "goal\n") }
+/// Adds the line of these words for a cube on which the goal may be true.
+pub fn put_goal(words: &[u8], list: u32, cube: u32, text: &mut Text)
+    ensures { Adds text.old text.new (place_text words.now list cube ++ codes "goal\n") }
 {
-    put_cube(layer, cube, text);
+    put_cube(words, list, cube, text);
     text.add(b"goal\n");
 }
 
 /// Adds the line of these words and a number.
-fn put_line(words: &[u8], number: u64, text: &mut Text)
+pub fn put_line(words: &[u8], number: u64, text: &mut Text)
     ensures { Adds text.old text.new (words.now ++ decimal number ++ codes "\n") }
 {
     text.add(words);
@@ -88,8 +88,10 @@ fn put_verdict(task: &Task, cert: &Cert, verdict: &Verdict, text: &mut Text)
 {
     match verdict {
         Verdict::Accepted { lean } => text.add(accepted_line(cert, *lean)),
-        Verdict::LayerGoal { layer, cube } => put_goal(*layer, *cube, text),
-        Verdict::LayerAct { layer, cube, act } => put_act(task, *layer, *cube, *act, text),
+        Verdict::LayerGoal { layer, cube } => put_goal(b"rejected V3 layer ", *layer, *cube, text),
+        Verdict::LayerAct { layer, cube, act } => {
+            put_act(task, b"rejected V3 layer ", *layer, *cube, *act, text)
+        }
         Verdict::Pair { at } => put_line(b"rejected V2 pair ", *at, text),
         Verdict::Rule { at } => put_line(b"rejected V1 rule ", *at as u64, text),
         Verdict::Count { more: true } => text.add(b"rejected V5 more\n"),
