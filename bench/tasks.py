@@ -338,6 +338,25 @@ def islands(count):
     return domain, problem, ""
 
 
+def beam(places):
+    """A beam of so many places above the ground. Each step on it may end in a fall, and the only ladder is at its near end, so a policy
+    has two rules for each place, which differ in few literals."""
+    domain = """(define (domain beam) (:requirements :typing :negative-preconditions :non-deterministic)
+(:types place) (:constants ladder - place)
+(:predicates (up) (at ?p - place) (next ?p ?q - place))
+(:action climb :precondition (and (not (up)) (at ladder)) :effect (up))
+(:action step :parameters (?p ?q - place) :precondition (and (up) (at ?p) (next ?p ?q))
+ :effect (oneof (and (not (at ?p)) (at ?q)) (not (up))))
+(:action return :parameters (?p ?q - place) :precondition (and (not (up)) (at ?q) (next ?p ?q))
+ :effect (and (not (at ?q)) (at ?p))))
+"""
+    names = ["ladder", *numbered("p", places - 1)]
+    ways = " ".join(f"(next {near} {far})" for near, far in zip(names, names[1:]))
+    problem = f"(define (problem over) (:domain beam) (:objects {' '.join(names[1:])} - place)\n" \
+        f"(:init (at ladder) {ways})\n(:goal (and (up) (at {names[-1]}))))\n"
+    return domain, problem, ""
+
+
 def forest(side):
     """A square forest: each second column is a thicket with one gap, at its far end and at its near end by turns. Whoever pushes into
     a thicket comes through, or a tree falls there and bars that way for good, so each way but the detour may be lost."""
@@ -435,6 +454,7 @@ TASKS = [
     *sized("machines", machines, (3, 5, 7)),
     *sized("bridge", bridge, (4, 12, 40)),
     *sized("islands", islands, (3, 6, 9, 10)),
+    *sized("beam", beam, (255, 1023, 2047)),
 ]
 
 
