@@ -65,12 +65,6 @@ pub record IsLesser (one two lesser : ℕ) : Type 0 where
   pub low_second : 0 < two → (0 < lesser) × (lesser ≤ two)
   pub either : (lesser ≡ one) ⊎ (lesser ≡ two)
 
--- a node has got the lesser of its level and this one, and the others kept theirs
-pub record IsOffered (old new : List ℕ) (node level : ℕ) : Type 0 where
-  pub whole : length new ≡ length old
-  pub own : IsLesser (level_at old node) level (level_at new node)
-  pub other : (k : ℕ) → ¬ (k ≡ node) → level_at new k ≡ level_at old k
-
 -- the level of a node before any round: 1 if it is a goal
 abbrev pub first_level : Bool → ℕ
 first_level true = 1

@@ -2,7 +2,7 @@
 
 ghost use Rattle.fond_fixpoint.specs.Fates.{AreWithin, GoalsHold};
 ghost use Rattle.fond_fixpoint.specs.Moves.{move_at};
-ghost use Rattle.fond_least.specs.Best.{AreBest, AreLow, IsDrop, IsLesser, IsOffered, first_level};
+ghost use Rattle.fond_least.specs.Best.{AreBest, AreLow, IsDrop, IsLesser, first_level};
 ghost use Rattle.std.specs.Prelude.{◌≡◌, ◌+◌, ◌<◌, length, map, IfOk};
 
 use crate::targets::{first_fallen, highest, lowest};
@@ -42,14 +42,6 @@ fn drop_of(moves: &Moves, fates: &[Fate], levels: &[u32], number: u32) -> u32
     if bound == 0 { 0 } else { bound + 1 }
 }
 
-/// Gives a node the lesser of its level and this one.
-fn offer(best: &mut [u32], node: u32, level: u32)
-    requires { node < length best.old }
-    ensures { IsOffered best.old best.new node level }
-{
-    best[node as usize] = lesser(best[node as usize], level);
-}
-
 /// Lets a move count, too, for the best level of its source.
 fn improve(
     goals: &[bool],
@@ -72,7 +64,8 @@ fn improve(
     if !is_kept(fate_of(fates, source)) {
         return;
     }
-    offer(best, source, drop_of(moves, fates, levels, number));
+    let level = drop_of(moves, fates, levels, number);
+    best[source as usize] = lesser(best[source as usize], level);
 }
 
 /// The levels before any round: those of the goals alone.

@@ -2,6 +2,7 @@
 
 ghost use Rattle.std.specs.Prelude.{◌<◌, ◌^◌, length};
 
+use crate::best::first_levels;
 use crate::targets::{first_fallen, level_of};
 use fond_fixpoint::fate::Fate;
 use fond_fixpoint::moves::Moves;
@@ -34,29 +35,27 @@ fn needed(moves: &Moves, fates: &[Fate], number: u32) -> u32 {
     }
 }
 
-/// The search with all moves still to visit and no node visited.
-fn begun(alloc: Global, nodes: usize, moves: &Moves, fates: &[Fate]) -> Result<Search, NoMemory> {
+/// The search at the goals, with no node visited.
+fn begun(alloc: Global, goals: &[bool], moves: &Moves, fates: &[Fate]) -> Result<Search, NoMemory>
+    requires { length goals.now < 2 ^ 32 }
+{
+    let mut queue = Vec::with_capacity(alloc, goals.len())?;
+    for (node, is_goal) in goals.iter().enumerate() {
+        if *is_goal {
+            queue.push(node as u32)?;
+        }
+    }
+    let left = (0..moves.len())
+        .map(|number| needed(moves, fates, number))
+        .collect(alloc)?;
     Ok(Search {
-        levels: vec![in alloc; 0; nodes]?,
-        queue: Vec::new(alloc),
-        left: (0..moves.len())
-            .map(|number| needed(moves, fates, number))
-            .collect(alloc)?,
+        levels: first_levels(alloc, goals)?,
+        queue,
+        left,
     })
 }
 
 impl Search {
-    /// Gives a node this level and puts it into the queue, unless it has a level.
-    fn give(&mut self, node: u32, level: u32) -> Result<(), NoMemory> {
-        if let Some(own) = self.levels.get_mut(node as usize) {
-            if *own == 0 {
-                *own = level;
-                self.queue.push(node)?;
-            }
-        }
-        Ok(())
-    }
-
     /// Visits a target of a move. Whether it was the last for which the move waited.
     fn is_last(&mut self, number: u32) -> bool {
         match self.left.get_mut(number as usize) {
@@ -68,24 +67,21 @@ impl Search {
         }
     }
 
-    /// Visits a node for each move that leads to it.
+    /// Visits a node for each move that leads to it. The sources of moves for which it is the last one get a level, unless they have
+    /// one, and are put into the queue.
     fn visit(&mut self, moves: &Moves, preds: &Preds, node: u32) -> Result<(), NoMemory> {
         let level = level_of(&self.levels, node).saturating_add(1);
         for number in preds.get(node) {
-            if self.is_last(*number) && *number < moves.len() {
-                self.give(moves.source(*number), level)?;
+            if !self.is_last(*number) || *number >= moves.len() {
+                continue;
             }
-        }
-        Ok(())
-    }
-
-    /// Gives the goals their level.
-    fn mark(&mut self, goals: &[bool]) -> Result<(), NoMemory>
-        requires { length goals.now < 2 ^ 32 }
-    {
-        for (node, is_goal) in goals.iter().enumerate() {
-            if *is_goal {
-                self.give(node as u32, 1)?;
+            let source = moves.source(*number);
+            match self.levels.get_mut(source as usize) {
+                Some(own) if *own == 0 => {
+                    *own = level;
+                    self.queue.push(source)?;
+                }
+                _ => {}
             }
         }
         Ok(())
@@ -93,7 +89,8 @@ impl Search {
 }
 
 /// Proposes levels: a fair move gives its source one more than the first of its targets that is visited, and an unfair one one more
-/// than the last. Takes time and memory in the number of nodes and of the targets of all moves.
+/// than the last; an unfair move without targets gives none. Takes time and memory in the number of nodes and of the targets of all
+/// moves.
 pub(crate) fn proposed(
     alloc: Global,
     goals: &[bool],
@@ -103,8 +100,7 @@ pub(crate) fn proposed(
 ) -> Result<Vec<u32>, NoMemory>
     requires { length goals.now < 2 ^ 32 }
 {
-    let mut search = begun(alloc, goals.len(), moves, fates)?;
-    search.mark(goals)?;
+    let mut search = begun(alloc, goals, moves, fates)?;
     for at in 0..goals.len() {
         let Some(node) = search.queue.get(at) else {
             break;

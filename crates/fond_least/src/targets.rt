@@ -1,4 +1,4 @@
-//! Targets of a move: whether one has fallen, and the levels that count.
+//! The targets of a move: whether one has fallen, and their least and greatest level. Each call takes time in their number.
 
 ghost use Rattle.fond_fixpoint.specs.Fates.{fate_of, is_kept};
 ghost use Rattle.fond_least.specs.Best.{IsHighest, IsLowest};
