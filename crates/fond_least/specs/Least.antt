@@ -1,4 +1,5 @@
--- The least levels of a graph of moves: how many lucky steps a node needs, and one more; 0 for a node that is lost.
+-- The least levels of a graph of moves: one more than the least number of steps to a goal, where a fair move counts by its best outcome,
+-- an unfair one by its worst, and a move that may lead to a fallen node not at all; 0 for a node that has fallen.
 use Rattle.std.specs.Prelude.{◌≡◌, ℕ, ◌<◌, ◌≤◌, Bool, true, false, List, length, slice_index_or, Contains}
 use Rattle.fond_fixpoint.specs.declared.fate.Fate.{Fate}
 use Rattle.fond_fixpoint.specs.Moves.{Move, move_at}
@@ -12,7 +13,8 @@ level_at levels node = slice_index_or levels node 0
 abbrev pub IsSafe : List ℕ → Move → Type 0
 IsSafe levels move = (node : ℕ) → Contains move.targets node → 0 < level_at levels node
 
--- a safe move falls below a level: if it is fair, it leads to some node of a smaller level, and if it is unfair, to such nodes alone
+-- a move falls below a level: it is safe, and leads to some node of a smaller level if it is fair, and to such nodes alone if it is
+-- unfair
 pub record Falls (levels : List ℕ) (move : Move) (level : ℕ) : Type 0 where
   pub safe : IsSafe levels move
   pub fair : move.unfair ≡ false → (node : ℕ) × Contains move.targets node × (level_at levels node < level)
@@ -25,7 +27,7 @@ pub record HasFall (moves : List Move) (levels : List ℕ) (node level : ℕ) : 
   pub source : (move_at moves number).source ≡ node
   pub falls : Falls levels (move_at moves number) level
 
--- levels are the least: goals have level 1; another node that has a level has one of more than 1, some move of it falls below the level,
+-- levels are the least, for settled fates: there is one for each node; goals have level 1; another node that has a level has one of more than 1, some move of it falls below the level,
 -- and none below a smaller one of more than 1; a node has a level if and only if it has not fallen
 pub record AreLeast (goals : List Bool) (moves : List Move) (fates : List Fate) (levels : List ℕ) : Type 0 where
   pub whole : length levels ≡ length goals
