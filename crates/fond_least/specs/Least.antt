@@ -27,8 +27,9 @@ pub record HasFall (moves : List Move) (levels : List ℕ) (node level : ℕ) : 
   pub source : (move_at moves number).source ≡ node
   pub falls : Falls levels (move_at moves number) level
 
--- levels are the least, for settled fates: there is one for each node; goals have level 1; another node that has a level has one of more than 1, some move of it falls below the level,
--- and none below a smaller one of more than 1; a node has a level if and only if it has not fallen
+-- levels are the least, for settled fates: there is one for each node; goals have level 1; another node that has a level has one of more
+-- than 1, some move of it falls below the level, and none below a smaller one of more than 1; a node has a level if and only if it has
+-- not fallen
 pub record AreLeast (goals : List Bool) (moves : List Move) (fates : List Fate) (levels : List ℕ) : Type 0 where
   pub whole : length levels ≡ length goals
   pub kept : (node : ℕ) → node < length goals → is_kept (fate_of fates node) ≡ true → 0 < level_at levels node
