@@ -65,6 +65,7 @@ clear k.PolicyHeader = refl
 clear k.RefusalHeader = refl
 clear k.CoverHeader = refl
 clear k.TableHeader = refl
+clear k.BestHeader = refl
 clear k.Layer = refl
 clear k.Cube = refl
 clear k.Pair = refl
@@ -73,7 +74,9 @@ clear k.UnfairRule = refl
 clear k.Reach = refl
 clear k.GoalItem = refl
 clear k.RuleItem = refl
+clear k.RankedItem = refl
 clear k.Start = refl
+clear k.Far = refl
 clear k.Row = refl
 clear k.End = refl
 

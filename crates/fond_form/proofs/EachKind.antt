@@ -11,18 +11,21 @@ each_kind : (P : LineKind → Type 0) → All P kinds → (kind : LineKind) → 
 each_kind P h k.Cube = All-get_or P kinds 0 k.End (omega arith) h
 each_kind P h k.FairRule = All-get_or P kinds 1 k.End (omega arith) h
 each_kind P h k.RuleItem = All-get_or P kinds 2 k.End (omega arith) h
-each_kind P h k.UnfairRule = All-get_or P kinds 3 k.End (omega arith) h
-each_kind P h k.Row = All-get_or P kinds 4 k.End (omega arith) h
-each_kind P h k.Pair = All-get_or P kinds 5 k.End (omega arith) h
-each_kind P h k.GoalItem = All-get_or P kinds 6 k.End (omega arith) h
-each_kind P h k.Layer = All-get_or P kinds 7 k.End (omega arith) h
-each_kind P h k.Reach = All-get_or P kinds 8 k.End (omega arith) h
-each_kind P h k.Start = All-get_or P kinds 9 k.End (omega arith) h
-each_kind P h k.PolicyHeader = All-get_or P kinds 10 k.End (omega arith) h
-each_kind P h k.RefusalHeader = All-get_or P kinds 11 k.End (omega arith) h
-each_kind P h k.CoverHeader = All-get_or P kinds 12 k.End (omega arith) h
-each_kind P h k.TableHeader = All-get_or P kinds 13 k.End (omega arith) h
-each_kind P h k.End = All-get_or P kinds 14 k.End (omega arith) h
+each_kind P h k.RankedItem = All-get_or P kinds 3 k.End (omega arith) h
+each_kind P h k.UnfairRule = All-get_or P kinds 4 k.End (omega arith) h
+each_kind P h k.Row = All-get_or P kinds 5 k.End (omega arith) h
+each_kind P h k.Pair = All-get_or P kinds 6 k.End (omega arith) h
+each_kind P h k.GoalItem = All-get_or P kinds 7 k.End (omega arith) h
+each_kind P h k.Layer = All-get_or P kinds 8 k.End (omega arith) h
+each_kind P h k.Far = All-get_or P kinds 9 k.End (omega arith) h
+each_kind P h k.Reach = All-get_or P kinds 10 k.End (omega arith) h
+each_kind P h k.Start = All-get_or P kinds 11 k.End (omega arith) h
+each_kind P h k.PolicyHeader = All-get_or P kinds 12 k.End (omega arith) h
+each_kind P h k.RefusalHeader = All-get_or P kinds 13 k.End (omega arith) h
+each_kind P h k.CoverHeader = All-get_or P kinds 14 k.End (omega arith) h
+each_kind P h k.TableHeader = All-get_or P kinds 15 k.End (omega arith) h
+each_kind P h k.BestHeader = All-get_or P kinds 16 k.End (omega arith) h
+each_kind P h k.End = All-get_or P kinds 17 k.End (omega arith) h
 
 -- a text that has the form of no kind is no line
 pub no_line : (text : List ℕ) → All (λ (kind : LineKind). ¬ HasForm (form kind) text) kinds → (line : Line) → IsProper line → text ≢ line_text line

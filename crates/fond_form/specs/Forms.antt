@@ -14,6 +14,7 @@ text_of t.PolicyHeader = codes "dualfond 1 policy"
 text_of t.RefusalHeader = codes "dualfond 1 refusal"
 text_of t.CoverHeader = codes "dualfond 2 policy"
 text_of t.TableHeader = codes "table 1"
+text_of t.BestHeader = codes "dualfond 2 best"
 text_of t.Layer = codes "layer"
 text_of t.Cube = codes "cube"
 text_of t.Pair = codes "pair "
@@ -23,7 +24,9 @@ text_of t.Unfair = codes " unfair"
 text_of t.Reach = codes "reach "
 text_of t.GoalItem = codes "item goal :"
 text_of t.Item = codes "item "
+text_of t.Rank = codes " rank "
 text_of t.Start = codes "start "
+text_of t.Far = codes "far"
 text_of t.Do = codes "do "
 text_of t.End = codes "end"
 text_of t.Space = codes " "
@@ -40,6 +43,7 @@ form k.PolicyHeader = (t.PolicyHeader, Nothing) ∷ []
 form k.RefusalHeader = (t.RefusalHeader, Nothing) ∷ []
 form k.CoverHeader = (t.CoverHeader, Nothing) ∷ []
 form k.TableHeader = (t.TableHeader, Nothing) ∷ []
+form k.BestHeader = (t.BestHeader, Nothing) ∷ []
 form k.Layer = (t.Layer, Nothing) ∷ []
 form k.Cube = (t.Cube, Literals) ∷ []
 form k.Pair = (t.Pair, Action) ∷ (t.Space, Short) ∷ (t.Space, Short) ∷ (t.Space, Short) ∷ (t.Colon, Literals) ∷ []
@@ -48,13 +52,16 @@ form k.UnfairRule = (t.Rule, Action) ∷ (t.Unfair, Targets) ∷ (t.Colon, Liter
 form k.Reach = (t.Reach, Long) ∷ []
 form k.GoalItem = (t.GoalItem, Literals) ∷ []
 form k.RuleItem = (t.Item, Short) ∷ (t.Empty, Shorts) ∷ (t.Colon, Literals) ∷ []
+form k.RankedItem = (t.Item, Short) ∷ (t.Rank, Long) ∷ (t.Empty, Shorts) ∷ (t.Colon, Literals) ∷ []
 form k.Start = (t.Start, Short) ∷ []
+form k.Far = (t.Far, Nothing) ∷ []
 form k.Row = (t.Do, Action) ∷ (t.Colon, Literals) ∷ []
 form k.End = (t.End, Nothing) ∷ []
 
 -- all kinds of lines
 abbrev pub kinds : List LineKind
-kinds = k.Cube ∷ k.FairRule ∷ k.RuleItem ∷ k.UnfairRule ∷ k.Row ∷ k.Pair ∷ k.GoalItem ∷ k.Layer ∷ k.Reach ∷ k.Start ∷ k.PolicyHeader ∷ k.RefusalHeader ∷ k.CoverHeader ∷ k.TableHeader ∷ k.End ∷ []
+kinds =
+    k.Cube ∷ k.FairRule ∷ k.RuleItem ∷ k.RankedItem ∷ k.UnfairRule ∷ k.Row ∷ k.Pair ∷ k.GoalItem ∷ k.Layer ∷ k.Far ∷ k.Reach ∷ k.Start ∷ k.PolicyHeader ∷ k.RefusalHeader ∷ k.CoverHeader ∷ k.TableHeader ∷ k.BestHeader ∷ k.End ∷ []
 
 -- what is written for a sort: the leaves of an action, the bytes of a number or a target, or of each of several, or literals
 abbrev pub Value : Sort → Type 0
