@@ -13,10 +13,17 @@ use Rattle.fond_cert.specs.declared.values.LineValues.{LineValues}
 pub same_some : {A : Type 0} (x y : A) → Some x ≡ Some y → x ≡ y
 same_some x y e = cc
 
+-- a draft is one to which this was added, which the values of a line made
+pub grown_as : {T E X : Type 0} (taken : Group) (kind : LineKind) (made : Meanings (form kind) → X) (added : X → Draft) (before : Draft) → ((meanings : Meanings (form kind)) → added (made meanings) ≡ grown taken before kind meanings) →
+    (r : Result T E) (values : LineValues) (after : Draft) (entry : X) → OnOk r (after ≡ added entry) →
+    ((task : Task) (meanings : Meanings (form kind)) → AreOfTask task (form kind) meanings → Hold kind values meanings → entry ≡ made meanings) →
+    OnOk r ((task : Task) (meanings : Meanings (form kind)) → AreOfTask task (form kind) meanings → Hold kind values meanings → after ≡ grown taken before kind meanings)
+grown_as taken kind made added before same (Ok value) values after entry is each = λ task meanings of hold. is ∙ ap added (each task meanings of hold) ∙ same meanings
+grown_as taken kind made added before same (Err error) values after entry is each = tt
+
 -- a draft is one to which an entry was added, which the values of a line made
-pub grown_by : {T E : Type 0} (group : Group) (kind : LineKind) (made : Meanings (form kind) → Entry group) (before : Draft) → ((meanings : Meanings (form kind)) → with_entry group before (made meanings) ≡ grown before kind meanings) →
+pub grown_by : {T E : Type 0} (taken group : Group) (kind : LineKind) (made : Meanings (form kind) → Entry group) (before : Draft) → ((meanings : Meanings (form kind)) → with_entry group before (made meanings) ≡ grown taken before kind meanings) →
     (r : Result T E) (values : LineValues) (after : Draft) (entry : Entry group) → OnOk r (after ≡ with_entry group before entry) →
     ((task : Task) (meanings : Meanings (form kind)) → AreOfTask task (form kind) meanings → Hold kind values meanings → entry ≡ made meanings) →
-    OnOk r ((task : Task) (meanings : Meanings (form kind)) → AreOfTask task (form kind) meanings → Hold kind values meanings → after ≡ grown before kind meanings)
-grown_by group kind made before same (Ok value) values after entry is each = λ task meanings of hold. is ∙ ap (with_entry group before) (each task meanings of hold) ∙ same meanings
-grown_by group kind made before same (Err error) values after entry is each = tt
+    OnOk r ((task : Task) (meanings : Meanings (form kind)) → AreOfTask task (form kind) meanings → Hold kind values meanings → after ≡ grown taken before kind meanings)
+grown_by taken group kind made before same = grown_as taken kind made (with_entry group before) before same

@@ -18,3 +18,4 @@ pub mod Headers
 pub mod OneCert
 pub mod Adding
 pub mod Printed
+pub mod Zipped

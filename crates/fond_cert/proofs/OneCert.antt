@@ -1,8 +1,8 @@
--- Certificates of one text are the same, and so are tables.
-use Rattle.std.proofs.Common.{◌≡◌, ◌≢◌, ℕ, ◌+◌, ◌<◌, ◌≤◌, ◌∙◌, List, [], ◌∷◌, ◌++◌, All as Each, length, map, codes, refl, sym, ap, arith, append_assoc, length-append, get_or}
+-- Certificates of one text are the same, and so are tables and certificates of least rank.
+use Rattle.std.proofs.Common.{◌≡◌, ◌≢◌, ℕ, ◌+◌, ◌∙◌, true, List, [], ◌∷◌, ◌++◌, All as Each, length, map, codes, refl, sym, ap, arith, append_assoc, length-append, get_or}
 use Rattle.std.specs.Prelude.{⊤}
-use Rattle.std.specs.List.{flat_map}
 use Rattle.std.proofs.lemmas.List.Elements.{All-head, All-tail, All-cons, All-nil, All-map, All-append}
+use Rattle.std.proofs.lemmas.Slice.Zip.{firsts-zip, seconds-zip}
 use Rattle.fond_task.specs.declared.task.Task.{Task}
 use Rattle.fond_task.specs.Layers.{CubeView}
 use Rattle.fond_task.specs.declared.rule.Pair.{Pair}
@@ -13,9 +13,11 @@ use Rattle.fond_layers.specs.Over.{IsOver, AreOver}
 use Rattle.fond_policy.specs.declared.item.Item.{Item}
 use Rattle.fond_policy.specs.declared.item.Way.{Way}
 use Rattle.fond_policy.specs.declared.item.Way.TheVariants.{Goal as ToGoal, Rule as ByRule}
+use Rattle.fond_policy.specs.declared.best.BestCert.{BestCert}
 use Rattle.fond_policy.specs.declared.cert.Cert.{Cert}
 use Rattle.fond_policy.specs.declared.cert.Cert.TheVariants.{Policy, Refusal, Covered}
-use Rattle.fond_policy.specs.Belongs.{Belongs}
+use Rattle.fond_policy.specs.Belongs.{Belongs, BelongsAsBest}
+use Rattle.fond_cert.specs.Smalls.{HasSmallBest}
 use Rattle.fond_policy.specs.Sizes.{HasSmallNumbers}
 use Rattle.fond_form.specs.declared.table.LineKind.TheVariants as k
 use Rattle.fond_form.specs.Forms.{Line, line_text, IsProper}
@@ -25,23 +27,23 @@ use Rattle.fond_rules.specs.declared.table.TableRow.{TableRow}
 use Rattle.fond_rules.specs.Tables.{BelongAsRows}
 use Rattle.fond_cert.specs.declared.due.Due.{Due}
 use Rattle.fond_cert.specs.declared.due.Due.TheVariants.{Header as HeaderDue, Nothing as NothingDue}
-use Rattle.fond_cert.specs.declared.due.Document.TheVariants.{Certificate}
+use Rattle.fond_cert.specs.declared.due.Document.TheVariants.{Certificate, Best}
 use Rattle.fond_cert.specs.declared.due.Evidence.TheVariants.{Reach as ByReach, Cover as ByCover}
-use Rattle.fond_cert.specs.declared.due.Kind.TheVariants.{Policy as OfPolicy, Refusal as OfRefusal, Table as OfTable}
+use Rattle.fond_cert.specs.declared.due.Kind.TheVariants.{Policy as OfPolicy, Refusal as OfRefusal, Table as OfTable, Best as OfBest}
 use Rattle.fond_cert.specs.declared.due.Group.{Group}
 use Rattle.fond_cert.specs.declared.due.Group.TheVariants as g
 use Rattle.fond_cert.specs.declared.due.Section.{Section}
 use Rattle.fond_cert.specs.declared.due.Section.TheVariants.{One as OneOf, Any, Few, Blocks}
 use Rattle.fond_cert.specs.declared.draft.Draft.{Draft}
-use Rattle.fond_cert.specs.Drafts.{order, IsEntryOf, IsDraftOf}
-use Rattle.fond_cert.specs.Items.{IsReadPair, IsReadRule, IsReadItem, IsRowOf}
+use Rattle.fond_cert.specs.Drafts.{is_plain, order, IsEntryOf, IsDraftOf}
+use Rattle.fond_cert.specs.Items.{IsReadPair, IsReadRule, IsReadItem, IsReadRanked, IsRowOf}
 use Rattle.fond_cert.specs.Sections.{sections}
 use Rattle.fond_cert.specs.Faults.{Lead}
-use Rattle.fond_cert.specs.Filled.{pair_of, fair_of, unfair_of, goal_item_of, rule_item_of, row_of}
-use Rattle.fond_cert.specs.Spellings.{cube_line, layer_lines, pair_line, targets_line, rule_line, way_line, item_line, row_line, end_line, Entry, entry_line, all_layers, entries, lines_then, header, Content, parts_of, cert_lines, table_lines, lines_text, spelling, table_spelling}
+use Rattle.fond_cert.specs.Filled.{pair_of, fair_of, unfair_of, goal_item_of, rule_item_of, ranked_item_of, row_of}
+use Rattle.fond_cert.specs.Spellings.{spelled_line, cube_line, pair_line, targets_line, rule_line, way_line, item_line, ranked_way_line, ranked_line, row_line, end_line, Entry, entry_line, all_layers, all_far, entries, lines_then, header, Content, parts_of, cert_lines, table_lines, best_lines, lines_text, spelling, table_spelling, best_spelling}
 use Rattle.fond_cert.proofs.Befores.{rank, AreKnown, all_known}
 use Rattle.fond_cert.proofs.Meanings.{line_good, line_same}
-use Rattle.fond_cert.proofs.OwnLines.{first_rank, low_order, pair_means, fair_means, unfair_means, goal_means, way_means, row_means, of_rows, entry_rank, sections_above, parts_belong, cert_leads}
+use Rattle.fond_cert.proofs.OwnLines.{first_rank, rank_in, rank_within, low_order, pair_means, fair_means, unfair_means, goal_means, way_means, ranked_means, row_means, of_rows, entry_rank, blocks_lines, sections_above, parts_belong, cert_leads, best_belongs, best_leads}
 
 -- lines that are proper have one text only if they are the same
 
@@ -118,43 +120,66 @@ module _ (task : Task) where
   same_item : (item other : Item) → IsReadItem task item → IsReadItem task other → item_line task item ≡ item_line task other → item ≡ other
   same_item item other h other_h e = same_way item.way other.way item.cube other.cube h other_h e
 
-  abbrev layers_lines : List (List CubeView) → List Line
-  layers_lines layers = flat_map (layer_lines task) layers
+  abbrev ranked_with : Way → CubeView → ℕ → Item × ℕ
+  ranked_with way cube number = (item_with way cube, number)
 
-  no_cube_first : (layers : List (List CubeView)) (s : List Line) → 1 < first_rank s → first_rank (layers_lines layers ++ s) ≢ 1
-  no_cube_first [] s after e = omega (arith, after, e)
-  no_cube_first (layer ∷ layers) s after e = omega (arith, e)
+  -- an item of goals has rank 0
+  same_ranked_way : (way other : Way) (cube other_cube : CubeView) (m n : ℕ) → IsReadRanked task (ranked_with way cube m) → IsReadRanked task (ranked_with other other_cube n) → ranked_way_line task way cube m ≡ ranked_way_line task other other_cube n →
+      ranked_with way cube m ≡ ranked_with other other_cube n
+  same_ranked_way ToGoal ToGoal c d m n h other_h e =
+      let cubes = ap goal_item_of (line_same task k.GoalItem (c, tt) (d, tt) (goal_means task c h.0) (goal_means task d other_h.0) e) in
+      let ranks = h.2 refl ∙ sym (other_h.2 refl) in
+      λ i. (cubes i, ranks i)
+  same_ranked_way (ByRule rule numbers) (ByRule next others) c d m n h other_h e =
+      ap ranked_item_of (line_same task k.RankedItem (rule, (m, (numbers, (c, tt)))) (next, (n, (others, (d, tt)))) (ranked_means task rule m numbers c h) (ranked_means task next n others d other_h) e)
+  same_ranked_way way other c d m n h other_h e = let kinds = ap (λ (line : Line). line.kind) e in absurd (cc)
 
-  layer_apart : (layer : List CubeView) (layers : List (List CubeView)) (s : List Line) → rest_of (layers_lines (layer ∷ layers) ++ s) ≡ map (cube_line task) layer ++ (layers_lines layers ++ s)
-  layer_apart layer layers s = append_assoc (map (cube_line task) layer) (layers_lines layers) s
+  same_ranked : (entry other : Item × ℕ) → IsReadRanked task entry → IsReadRanked task other → ranked_line task entry ≡ ranked_line task other → entry ≡ other
+  same_ranked entry other h other_h e = same_ranked_way entry.0.way other.0.way entry.0.cube other.0.cube entry.1 other.1 h other_h e
 
-  same_layers : (layers others : List (List CubeView)) (s t : List Line) → AreOver (length task.atoms) layers → AreOver (length task.atoms) others → 1 < first_rank s → 1 < first_rank t →
-      layers_lines layers ++ s ≡ layers_lines others ++ t → (layers ≡ others) × (s ≡ t)
-  same_layers [] [] s t over other_over after other_after e = (refl, e)
-  same_layers [] (other ∷ others) s t over other_over after other_after e = let first : first_rank s ≡ 0 = ap first_rank e in absurd (omega (arith, after, first))
-  same_layers (layer ∷ layers) [] s t over other_over after other_after e = let first : first_rank t ≡ 0 = ap first_rank (sym e) in absurd (omega (arith, other_after, first))
-  same_layers (layer ∷ layers) (other ∷ others) s t over other_over after other_after e =
-      let Long = IsOver (length task.atoms) in
-      let first = same_items (cube_line task) 1 (λ (cube : CubeView). length cube ≡ length task.atoms) (λ cube. refl)
-      (λ cube other_cube long other_long line. ap (λ meanings. meanings.0) (line_same task k.Cube (cube, tt) (other_cube, tt) (long, tt) (other_long, tt) line))
-      layer other (layers_lines layers ++ s) (layers_lines others ++ t) (All-head Long layer layers over) (All-head Long other others other_over)
-      (no_cube_first layers s after) (no_cube_first others t other_after) (sym (layer_apart layer layers s) ∙ ap rest_of e ∙ layer_apart other others t) in
-      let more = same_layers layers others s t (All-tail Long layer layers over) (All-tail Long other others other_over) after other_after first.1 in
-      ((λ i. first.0 i ∷ more.0 i), more.1)
+  -- lists of cubes of the same lines, each of which begins with a line of this kind, are the same
+  module _ (head : Line) (no_cube : rank head.kind ≢ 1) where
+    no_cube_first : (lists : List (List CubeView)) (s : List Line) → first_rank s ≢ 1 → first_rank (blocks_lines task head lists ++ s) ≢ 1
+    no_cube_first [] s after e = after e
+    no_cube_first (list ∷ lists) s after e = no_cube e
+
+    block_apart : (list : List CubeView) (lists : List (List CubeView)) (s : List Line) → rest_of (blocks_lines task head (list ∷ lists) ++ s) ≡ map (cube_line task) list ++ (blocks_lines task head lists ++ s)
+    block_apart list lists s = append_assoc (map (cube_line task) list) (blocks_lines task head lists) s
+
+    -- lines that go on after lists of cubes begin with a line of another rank
+    abbrev GoesOn : List Line → Type 0
+    GoesOn s = (first_rank s ≢ 1) × (first_rank s ≢ rank head.kind)
+
+    same_blocks : (lists others : List (List CubeView)) (s t : List Line) → AreOver (length task.atoms) lists → AreOver (length task.atoms) others → GoesOn s → GoesOn t →
+        blocks_lines task head lists ++ s ≡ blocks_lines task head others ++ t → (lists ≡ others) × (s ≡ t)
+    same_blocks [] [] s t over other_over after other_after e = (refl, e)
+    same_blocks [] (other ∷ others) s t over other_over after other_after e = absurd (after.1 (ap first_rank e))
+    same_blocks (list ∷ lists) [] s t over other_over after other_after e = absurd (other_after.1 (ap first_rank (sym e)))
+    same_blocks (list ∷ lists) (other ∷ others) s t over other_over after other_after e =
+        let Long = IsOver (length task.atoms) in
+        let first = same_items (cube_line task) 1 (λ (cube : CubeView). length cube ≡ length task.atoms) (λ cube. refl)
+        (λ cube other_cube long other_long line. ap (λ meanings. meanings.0) (line_same task k.Cube (cube, tt) (other_cube, tt) (long, tt) (other_long, tt) line))
+        list other (blocks_lines task head lists ++ s) (blocks_lines task head others ++ t) (All-head Long list lists over) (All-head Long other others other_over)
+        (no_cube_first lists s after.0) (no_cube_first others t other_after.0) (sym (block_apart list lists s) ∙ ap rest_of e ∙ block_apart other others t) in
+        let more = same_blocks lists others s t (All-tail Long list lists over) (All-tail Long other others other_over) after other_after first.1 in
+        ((λ i. first.0 i ∷ more.0 i), more.1)
 
   same_row : (row other : TableRow) → IsRowOf task row → IsRowOf task other → row_line task row ≡ row_line task other → row ≡ other
   same_row row other h other_h e = ap row_of (line_same task k.Row (row.act, (row.cond, tt)) (other.act, (other.cond, tt)) (row_means task row h) (row_means task other other_h) e)
 
   -- entries of one line are the same
-  same_entry : (group : Group) (entry other : Entry group) → 0 < order group → IsEntryOf task group entry → IsEntryOf task group other → entry_line task group entry ≡ entry_line task group other → entry ≡ other
-  same_entry g.Layer entry other after h other_h e = absurd (omega (arith, after))
-  same_entry g.Cube entry other after h other_h e = absurd (omega (arith, after))
+  same_entry : (group : Group) (entry other : Entry group) → is_plain group ≡ true → IsEntryOf task group entry → IsEntryOf task group other → entry_line task group entry ≡ entry_line task group other → entry ≡ other
+  same_entry g.Layer entry other after h other_h e = absurd (cc)
+  same_entry g.Cube entry other after h other_h e = absurd (cc)
+  same_entry g.Far entry other after h other_h e = absurd (cc)
+  same_entry g.FarCube entry other after h other_h e = absurd (cc)
   same_entry g.Pair entry other after h other_h e = same_pair entry other h other_h e
   same_entry g.Rule entry other after h other_h e = same_rule entry other h other_h e
   same_entry g.Item entry other after h other_h e = same_item entry other h other_h e
   same_entry g.Reach entry other after h other_h e = ap (λ meanings. meanings.0) (line_same task k.Reach (entry, tt) (other, tt) (h, tt) (other_h, tt) e)
   same_entry g.Start entry other after h other_h e = ap (λ meanings. meanings.0) (line_same task k.Start (entry, tt) (other, tt) (h, tt) (other_h, tt) e)
   same_entry g.Row entry other after h other_h e = same_row entry other h other_h e
+  same_entry g.Ranked entry other after h other_h e = same_ranked entry other h other_h e
 
   module _ (draft other : Draft) (own : IsDraftOf task draft) (other_own : IsDraftOf task other) where
     -- two drafts have the same entries in a section, or in all of some
@@ -162,6 +187,7 @@ module _ (task : Task) where
     HasSame (OneOf group) = entries group draft ≡ entries group other
     HasSame (Any group) = entries group draft ≡ entries group other
     HasSame (Few group) = entries group draft ≡ entries group other
+    HasSame (Blocks g.Far second) = all_far draft ≡ all_far other
     HasSame (Blocks first second) = all_layers draft ≡ all_layers other
 
     abbrev HaveSame : List Section → Type 0
@@ -171,22 +197,33 @@ module _ (task : Task) where
     abbrev lines_from : Draft → List Section → List Line
     lines_from draft sections = lines_then task draft sections (end_line task ∷ [])
 
-    same_entries : (group : Group) (least : ℕ) (later : List Section) → 0 < order group → least ≡ order group + 1 → AreKnown least later → map (entry_line task group) (entries group draft) ++ lines_from draft later ≡ map (entry_line task group) (entries group other) ++ lines_from other later →
+    same_entries : (group : Group) (later : List Section) → is_plain group ≡ true → AreKnown (order group + 2) later → map (entry_line task group) (entries group draft) ++ lines_from draft later ≡ map (entry_line task group) (entries group other) ++ lines_from other later →
         (entries group draft ≡ entries group other) × (lines_from draft later ≡ lines_from other later)
-    same_entries group least later after is known e =
-        let low : least ≤ 100 = omega (arith, is, low_order group) in
-        same_items (entry_line task group) (order group + 1) (IsEntryOf task group) (entry_rank task group after) (λ x y. same_entry group x y after) (entries group draft) (entries group other) (lines_from draft later) (lines_from other later)
-        (own.parts group after).0 (other_own.parts group after).0 (λ same. omega (arith, is, same, sections_above task draft least later known (omega (arith, is)) low)) (λ same. omega (arith, is, same, sections_above task other least later known (omega (arith, is)) low)) e
+    same_entries group later plain known e =
+        let low = low_order group in
+        let within = (rank_within group).1 in
+        let above = sections_above task draft (order group + 2) later known (omega arith) (omega (arith, low)) in
+        let other_above = sections_above task other (order group + 2) later known (omega arith) (omega (arith, low)) in
+        same_items (entry_line task group) (rank_in group) (IsEntryOf task group) (entry_rank task group plain) (λ x y. same_entry group x y plain) (entries group draft) (entries group other) (lines_from draft later) (lines_from other later)
+        (own.parts group plain).0 (other_own.parts group plain).0 (λ same. omega (arith, within, same, above)) (λ same. omega (arith, within, same, other_above)) e
 
     same_sections : (least : ℕ) (sections : List Section) → AreKnown least sections → lines_from draft sections ≡ lines_from other sections → HaveSame sections
     same_sections least [] known e = tt
-    same_sections least (OneOf group ∷ later) known e = let one = same_entries group (order group + 1) later known.0.0 refl known.2 e in (one.0, same_sections (order group + 1) later known.2 one.1)
-    same_sections least (Any group ∷ later) known e = let one = same_entries group (order group + 1) later known.0.0 refl known.2 e in (one.0, same_sections (order group + 1) later known.2 one.1)
-    same_sections least (Few group ∷ later) known e = let one = same_entries group (order group + 1) later known.0.0 refl known.2 e in (one.0, same_sections (order group + 1) later known.2 one.1)
+    same_sections least (OneOf group ∷ later) known e = let one = same_entries group later known.0.0 known.2 e in (one.0, same_sections (order group + 2) later known.2 one.1)
+    same_sections least (Any group ∷ later) known e = let one = same_entries group later known.0.0 known.2 e in (one.0, same_sections (order group + 2) later known.2 one.1)
+    same_sections least (Few group ∷ later) known e = let one = same_entries group later known.0.0 known.2 e in (one.0, same_sections (order group + 2) later known.2 one.1)
     same_sections least (Blocks g.Layer g.Cube ∷ later) known e =
-        let one = same_layers (all_layers draft) (all_layers other) (lines_from draft later) (lines_from other later) own.layers.over other_own.layers.over
-        (sections_above task draft 1 later known.2 (omega arith) (omega arith)) (sections_above task other 1 later known.2 (omega arith) (omega arith)) e in
-        (one.0, same_sections 1 later known.2 one.1)
+        let above = sections_above task draft 2 later known.2 (omega arith) (omega arith) in
+        let other_above = sections_above task other 2 later known.2 (omega arith) (omega arith) in
+        let one = same_blocks (spelled_line task k.Layer (tt, tt)) (λ clash. omega (arith, clash)) (all_layers draft) (all_layers other) (lines_from draft later) (lines_from other later) own.layers.over other_own.layers.over
+        ((λ first. omega (arith, above, first)), (λ first. omega (arith, above, first))) ((λ first. omega (arith, other_above, first)), (λ first. omega (arith, other_above, first))) e in
+        (one.0, same_sections 2 later known.2 one.1)
+    same_sections least (Blocks g.Far g.FarCube ∷ later) known e =
+        let above = sections_above task draft 72 later known.2 (omega arith) (omega arith) in
+        let other_above = sections_above task other 72 later known.2 (omega arith) (omega arith) in
+        let one = same_blocks (spelled_line task k.Far (tt, tt)) (λ clash. omega (arith, clash)) (all_far draft) (all_far other) (lines_from draft later) (lines_from other later) own.far.over other_own.far.over
+        ((λ first. omega (arith, above, first)), (λ first. omega (arith, above, first))) ((λ first. omega (arith, other_above, first)), (λ first. omega (arith, other_above, first))) e in
+        (one.0, same_sections 72 later known.2 one.1)
     same_sections least (Blocks first second ∷ later) known e = absurd known.0
 
   abbrev number_of : List ℕ → ℕ
@@ -229,3 +266,16 @@ one_table task rows others h other_h e =
         let own_lines : Each IsProper (map (row_line task) rows) = All-map IsProper (row_line task) rows (λ n d lt. right (get_or rows n d) (own n d lt)) in
         All-cons IsProper (header task OfTable) _ (line_good task k.TableHeader (tt, tt) (tt, tt)).0
         (All-append IsProper (map (row_line task) rows) (end_line task ∷ []) own_lines (All-cons IsProper (end_line task) [] (line_good task k.End (tt, tt) (tt, tt)).0 (All-nil IsProper)))
+
+-- certificates of least rank of a task with one spelling are the same
+pub one_best : (task : Task) (cert other : BestCert) → BelongsAsBest task cert → BelongsAsBest task other → HasSmallBest cert → HasSmallBest other → best_spelling task cert ≡ best_spelling task other → cert ≡ other
+one_best task cert other h other_h small other_small e =
+    let lines = same_lines (best_lines task cert) (best_lines task other) (best_proper cert h small) (best_proper other other_h other_small) e in
+    let same = same_sections task _ _ (best_belongs task cert h small) (best_belongs task other other_h other_small) 0 (sections OfBest) (all_known OfBest) (ap rest_of lines) in
+    let entries = same.1.1.0 in
+    let items = sym (firsts-zip cert.items cert.ranks h.counted) ∙ ap (map (λ (entry : Item × ℕ). entry.0)) entries ∙ firsts-zip other.items other.ranks other_h.counted in
+    let ranks = sym (seconds-zip cert.items cert.ranks h.counted) ∙ ap (map (λ (entry : Item × ℕ). entry.1)) entries ∙ seconds-zip other.items other.ranks other_h.counted in
+    λ i. record { layers = same.0 i; rules = same.1.0 i; items = items i; ranks = ranks i; start = number_of task (same.1.1.1.0 i); far = same.1.1.1.1.0 i }
+  where
+    best_proper : (cert : BestCert) → BelongsAsBest task cert → HasSmallBest cert → Each IsProper (best_lines task cert)
+    best_proper cert h small = all_proper task (HeaderDue Best) NothingDue (best_lines task cert) (best_leads task cert h small)

@@ -19,17 +19,19 @@ use Rattle.fond_task.specs.declared.rule.Targets.TheVariants.{One, All}
 use Rattle.fond_policy.specs.declared.item.Item.{Item}
 use Rattle.fond_policy.specs.declared.item.Way.{Way}
 use Rattle.fond_policy.specs.declared.item.Way.TheVariants.{Goal as ToGoal, Rule as ByRule}
+use Rattle.fond_policy.specs.declared.best.BestCert.{BestCert}
 use Rattle.fond_policy.specs.declared.cert.Cert.{Cert}
 use Rattle.fond_cert.specs.declared.draft.Draft.{Draft}
 use Rattle.fond_cert.specs.declared.due.Group.{Group}
 use Rattle.fond_cert.specs.declared.due.Group.TheVariants as g
+use Rattle.fond_cert.specs.declared.due.Kind.TheVariants.{Best as OfBest}
 use Rattle.fond_cert.specs.declared.due.Section.{Section}
 use Rattle.fond_cert.specs.declared.due.Section.TheVariants.{One as OneOf, Any, Few, Blocks}
 use Rattle.fond_cert.specs.Sections.{sections}
 use Rattle.fond_form.specs.Lines.{group_text, spaced, WrittenLiteral, sign_text, literals_text}
 use Rattle.fond_form.specs.Forms.{Field, text_of, form, value_text, Values, fields_text, Line}
-use Rattle.fond_cert.specs.Printed.{atom_literal_text, cube_text, fed, chosen_text, cond_text, pair_text, rule_text, way_text, item_text, layer_text, entry_text}
-use Rattle.fond_cert.specs.Spellings.{action_leaves, act_leaves, written_literal, written_cube, target_word, targets_line, layer_lines, pair_line, rule_line, way_line, item_line, reach_line, start_line, end_line, Entry, entry_line, all_layers, entries, lines_then, header, Content, parts_of, kind_of, lines_text, spelling}
+use Rattle.fond_cert.specs.Printed.{atom_literal_text, cube_text, fed, chosen_text, cond_text, pair_text, rule_text, way_text, item_text, ranked_way_text, ranked_text, layer_text, far_text, entry_text}
+use Rattle.fond_cert.specs.Spellings.{action_leaves, act_leaves, written_literal, written_cube, target_word, targets_line, layer_lines, far_lines, pair_line, rule_line, way_line, item_line, ranked_way_line, ranked_line, reach_line, start_line, end_line, Entry, entry_line, all_layers, all_far, entries, lines_then, header, Content, parts_of, kind_of, lines_text, spelling, best_spelling}
 use Rattle.fond_cert.proofs.Acts.{leaves_text as action_leaves_text}
 use Rattle.fond_cert.proofs.CubeTexts.{leaves_text}
 use Rattle.fond_cert.proofs.Leads.{lines_append}
@@ -108,6 +110,18 @@ way_by task (ByRule rule numbers) cube =
 item_is : (task : Task) (item : Item) → item_text task item ≡ fed (item_line task item)
 item_is task item = way_by task item.way item.cube
 
+ranked_by : (task : Task) (way : Way) (cube : CubeView) (rank : ℕ) → codes "item " ++ (ranked_way_text way rank ++ cond_text task cube) ≡ fed (ranked_way_line task way cube rank)
+ranked_by task ToGoal cube rank = line_is (ranked_way_line task ToGoal cube rank)
+ranked_by task (ByRule rule numbers) cube rank =
+    let last = spaced (map decimal numbers) in
+    let end = cond_text task cube in
+    ap (λ t. codes "item " ++ t)
+    (append_assoc (decimal rule) (codes " rank " ++ (decimal rank ++ last)) end ∙ ap (λ t. decimal rule ++ (codes " rank " ++ t)) (append_assoc (decimal rank) last end))
+    ∙ line_is (ranked_way_line task (ByRule rule numbers) cube rank)
+
+ranked_is : (task : Task) (entry : Item × ℕ) → ranked_text task entry ≡ fed (ranked_line task entry)
+ranked_is task entry = ranked_by task entry.0.way entry.0.cube entry.1
+
 pub mapped : {X : Type 0} (f : X → Line) (g : X → List ℕ) → ((x : X) → g x ≡ fed (f x)) → (xs : List X) → flat_map g xs ≡ lines_text (map f xs)
 mapped f g h [] = refl
 mapped f g h (x ∷ xs) = ap (λ t. t ++ flat_map g xs) (h x) ∙ ap (λ t. fed (f x) ++ t) (mapped f g h xs)
@@ -119,6 +133,7 @@ entry_is task g.Rule rule = rule_is task rule
 entry_is task g.Item item = item_is task item
 entry_is task g.Reach reach = line_is (reach_line task reach)
 entry_is task g.Start start = line_is (start_line task start)
+entry_is task g.Ranked entry = ranked_is task entry
 entry_is task group entry = refl
 
 -- the texts of items, one by one, and a further text
@@ -140,6 +155,7 @@ sections_text task draft [] = codes "end\n"
 sections_text task draft (OneOf group ∷ later) = texts_then (entry_text task group) (entries group draft) (sections_text task draft later)
 sections_text task draft (Any group ∷ later) = flat_map (entry_text task group) (entries group draft) ++ sections_text task draft later
 sections_text task draft (Few group ∷ later) = flat_map (entry_text task group) (entries group draft) ++ sections_text task draft later
+sections_text task draft (Blocks g.Far second ∷ later) = flat_map (far_text task) (all_far draft) ++ sections_text task draft later
 sections_text task draft (Blocks first second ∷ later) = flat_map (layer_text task) (all_layers draft) ++ sections_text task draft later
 
 sections_are : (task : Task) (draft : Draft) (sections : List Section) → sections_text task draft sections ≡ lines_text (lines_then task draft sections (end_line task ∷ []))
@@ -147,6 +163,9 @@ sections_are task draft [] = refl
 sections_are task draft (OneOf group ∷ later) = entries_are task group (entries group draft) _ _ (sections_are task draft later)
 sections_are task draft (Any group ∷ later) = flat_then (entry_text task group) (entries group draft) _ ∙ entries_are task group (entries group draft) _ _ (sections_are task draft later)
 sections_are task draft (Few group ∷ later) = flat_then (entry_text task group) (entries group draft) _ ∙ entries_are task group (entries group draft) _ _ (sections_are task draft later)
+sections_are task draft (Blocks g.Far second ∷ later) =
+    let lists = sym (several_lines (far_lines task) (all_far draft)) in
+    (λ i. lists i ++ sections_are task draft later i) ∙ sym (lines_append (flat_map (far_lines task) (all_far draft)) (lines_then task draft later (end_line task ∷ [])))
 sections_are task draft (Blocks first second ∷ later) =
     let layers = sym (several_lines (layer_lines task) (all_layers draft)) in
     (λ i. layers i ++ sections_are task draft later i) ∙ sym (lines_append (flat_map (layer_lines task) (all_layers draft)) (lines_then task draft later (end_line task ∷ [])))
@@ -157,3 +176,7 @@ pub spelling_is : (task : Task) (cert same : Cert) → cert ≡ same →
 spelling_is task cert same is =
     let kind = kind_of (Content.certificate same) in
     ap (λ t. fed (header task kind) ++ t) (sections_are task (parts_of (Content.certificate same)) (sections kind)) ∙ ap (spelling task) (sym is)
+
+-- what is printed of a certificate of least rank is its text
+pub best_spelling_is : (task : Task) (cert : BestCert) → fed (header task OfBest) ++ sections_text task (parts_of (Content.best cert)) (sections OfBest) ≡ best_spelling task cert
+best_spelling_is task cert = ap (λ t. fed (header task OfBest) ++ t) (sections_are task (parts_of (Content.best cert)) (sections OfBest))

@@ -1,8 +1,9 @@
 -- Texts that were read line by line.
-use Rattle.std.proofs.Common.{◌≡◌, ◌≢◌, inl, inr, ℕ, ◌+◌, ◌-◌, ◌≤◌, ◌<◌, ◌^◌, List, [], ◌∷◌, ◌++◌, All, Some, None, length, codes, refl, sym, ap, ◌∙◌, subst, arith, length-append}
+use Rattle.std.proofs.Common.{◌≡◌, ◌≢◌, inl, inr, ℕ, ◌+◌, ◌-◌, ◌≤◌, ◌<◌, ◌^◌, true, List, [], ◌∷◌, ◌++◌, All, Some, None, length, map, codes, refl, sym, ap, ◌∙◌, subst, arith, length-append}
 use Rattle.std.specs.Prelude.{slice_get}
-use Rattle.std.proofs.lemmas.List.{append-nil}
-use Rattle.std.proofs.lemmas.List.Elements.{All-head, All-nil}
+use Rattle.std.specs.List.{zip}
+use Rattle.std.proofs.lemmas.List.{append-nil, length-map}
+use Rattle.std.proofs.lemmas.List.Elements.{All-head, All-nil, All-map}
 use Rattle.std.proofs.lemmas.Option.{get_or_from_slice_get, slice_get_within}
 use Rattle.fond_task.specs.declared.task.Task.{Task}
 use Rattle.fond_task.specs.Layers.{CubeView}
@@ -12,34 +13,39 @@ use Rattle.fond_policy.specs.declared.item.Item.{Item}
 use Rattle.fond_cert.specs.declared.draft.Draft.{Draft}
 use Rattle.fond_cert.specs.declared.code.TheConstants.{OUT_OF_FORM}
 use Rattle.fond_cert.specs.declared.due.Document.{Document}
-use Rattle.fond_cert.specs.declared.due.Document.TheVariants.{Certificate, Table}
+use Rattle.fond_cert.specs.declared.due.Document.TheVariants.{Certificate, Table, Best}
 use Rattle.fond_cert.specs.declared.due.Due.{Due}
 use Rattle.fond_cert.specs.declared.error.CertError.{CertError}
 use Rattle.fond_cert.specs.declared.error.LineError.{LineError}
 use Rattle.fond_cert.specs.declared.error.LineError.TheVariants.{Refused as RefusedLine, NoMemory}
 use Rattle.fond_form.specs.declared.table.LineKind.{LineKind}
 use Rattle.fond_form.specs.Forms.{form, HasForm, Line, line_text}
+use Rattle.fond_policy.specs.declared.best.BestCert.{BestCert}
 use Rattle.fond_policy.specs.declared.cert.Cert.{Cert}
 use Rattle.fond_policy.specs.declared.cert.Cert.TheVariants.{Policy, Refusal, Covered}
 use Rattle.fond_rules.specs.declared.table.TableRow.{TableRow}
 use Rattle.fond_rules.specs.Tables.{BelongAsRows}
-use Rattle.fond_policy.specs.Belongs.{Belongs, BelongAsLayers, BelongAsPairs, BelongAsRules, BelongAsItems}
+use Rattle.fond_policy.specs.Belongs.{Belongs, BelongAsLayers, BelongAsPairs, BelongAsRules, BelongAsItems, BelongsAsBest}
 use Rattle.fond_cert.specs.Made.{IsRefusedBy}
-use Rattle.fond_cert.specs.Drafts.{order, IsEntryOf, AreEntriesOf, IsDraftOf, FitsDue}
+use Rattle.fond_cert.specs.Drafts.{is_plain, IsEntryOf, AreEntriesOf, IsDraftOf, FitsDue}
 use Rattle.fond_cert.specs.declared.due.Group.{Group}
 use Rattle.fond_cert.specs.declared.due.Group.TheVariants as g
 use Rattle.fond_cert.specs.declared.due.Due.TheVariants.{Header as HeaderDue, Nothing as NothingDue}
-use Rattle.fond_cert.specs.Sections.{due_after}
+use Rattle.fond_cert.specs.Sections.{sections, due_after}
 use Rattle.fond_cert.specs.Faults.{HasNoForm, Lead, IsRefusedLine, IsRefusedAt, IsFaultAs}
 use Rattle.fond_form.specs.Feeds.{HasNoFeed}
-use Rattle.fond_cert.specs.Items.{IsReadPair, IsReadItem}
-use Rattle.fond_cert.specs.Progress.{IsReady, IsTaken, IsWhole, cert_of, IsPlaced}
+use Rattle.fond_cert.specs.Items.{IsReadPair, IsReadItem, IsReadRanked}
+use Rattle.fond_cert.specs.Progress.{IsReady, IsTaken, IsWhole, cert_of, best_of, IsPlaced}
 use Rattle.fond_cert.specs.Refusals.{LineRefuses, CertRefuses}
-use Rattle.fond_cert.specs.Spellings.{spelled_line, all_layers, entries, no_parts, Content, parts_of, lines_text, spelling, table_spelling}
+use Rattle.fond_cert.specs.Spellings.{spelled_line, end_line, all_layers, entries, lines_then, header, no_parts, Content, parts_of, lines_text, spelling, table_spelling, best_spelling}
 use Rattle.fond_policy.specs.Sizes.{HasSmallNumbers}
 use Rattle.fond_cert.specs.Words.{Refused}
 use Rattle.fond_cert.proofs.Leads.{lead_more, lines_append, text_more, nothing_allowed}
 use Rattle.fond_cert.proofs.Refusals.{refusal_within}
+use Rattle.fond_cert.specs.Smalls.{HasSmallBest}
+use Rattle.fond_cert.specs.declared.due.Kind.TheVariants.{Best as OfBest}
+use Rattle.fond_cert.proofs.Befores.{both_parts}
+use Rattle.fond_cert.proofs.Zipped.{all_paired}
 use Rattle.fond_cert.proofs.Steps.{step}
 use Rattle.fond_form.proofs.Apart.{same_kind}
 
@@ -53,8 +59,9 @@ pub record IsReadTo (document : Document) (task : Task) (text rest : List ℕ) (
   pub fits : FitsDue document task due draft own
   pub belongs : IsDraftOf task draft
 
-pub nothing_of : (task : Task) (group : Group) → 0 < order group → AreEntriesOf task group (entries group no_parts)
-nothing_of task g.Layer after = absurd (omega (arith, after))
+pub nothing_of : (task : Task) (group : Group) → is_plain group ≡ true → AreEntriesOf task group (entries group no_parts)
+nothing_of task g.Layer after = absurd (cc)
+nothing_of task g.Far after = absurd (cc)
 nothing_of task group after = (All-nil (IsEntryOf task group), λ is. omega arith)
 
 pub no_layers_of : (task : Task) → BelongAsLayers task (all_layers no_parts)
@@ -72,7 +79,7 @@ nothing_read document task text draft e = record {
   split = refl;
   same = refl;
   fits = (e, refl, refl);
-  belongs = rw e (record { layers = no_layers_of task; parts = nothing_of task });
+  belongs = rw e (record { layers = no_layers_of task; far = no_layers_of task; parts = nothing_of task });
 }
 
 pub is_ready : (document : Document) (task : Task) (text rest : List ℕ) (due : Due) (draft : Draft) → IsReadTo document task text rest due draft → IsReady task due draft
@@ -181,16 +188,16 @@ module _ (task : Task) where
 
   belongs : (cert : Cert) → IsDraftOf task (parts_of (Content.certificate cert)) → Belongs task cert × HasSmallNumbers cert
   belongs (Policy layers pairs rules reach) own =
-      let of_pairs = own.parts g.Pair (omega arith) in
-      let of_rules = own.parts g.Rule (omega arith) in
-      let of_reach = own.parts g.Reach (omega arith) in
+      let of_pairs = own.parts g.Pair refl in
+      let of_rules = own.parts g.Rule refl in
+      let of_reach = own.parts g.Reach refl in
       ((own.layers, as_pairs pairs of_pairs.0, as_rules rules of_rules), ((λ k d lt. (of_pairs.0 k d lt).2), (λ k d lt. (of_rules.0 k d lt).3), All-head (λ n. n < 2 ^ 64) reach [] of_reach.0))
   belongs (Refusal layers) own = (own.layers, tt)
   belongs (Covered layers pairs rules items start) own =
-      let of_pairs = own.parts g.Pair (omega arith) in
-      let of_rules = own.parts g.Rule (omega arith) in
-      let of_items = own.parts g.Item (omega arith) in
-      let of_start = own.parts g.Start (omega arith) in (
+      let of_pairs = own.parts g.Pair refl in
+      let of_rules = own.parts g.Rule refl in
+      let of_items = own.parts g.Item refl in
+      let of_start = own.parts g.Start refl in (
         (own.layers, as_pairs pairs of_pairs.0, as_rules rules of_rules, as_items items of_items),
         ((λ k d lt. (of_pairs.0 k d lt).2), (λ k d lt. (of_rules.0 k d lt).3), (λ k d lt. (of_items.0 k d lt).2), All-head (λ n. n < 2 ^ 32) start [] of_start.0),
       )
@@ -207,6 +214,7 @@ module _ (task : Task) where
       let of = belongs cert (subst (IsDraftOf task) parts own) in
       subst (λ (cert : Cert). Belongs task cert × (text ≡ spelling task cert) × HasSmallNumbers cert) (sym same) (of.0, spelled, of.1)
   cert_read text draft own (Content.table rows, parts, spelled, document) = absurd (cc)
+  cert_read text draft own (Content.best cert, parts, spelled, document) = absurd (cc)
 
   as_table : (rows : List TableRow) → AreEntriesOf task g.Row rows → BelongAsRows task rows
   as_table rows h = record { over = λ k d lt. (h.0 k d lt).0; there = λ k d lt. (h.0 k d lt).1 }
@@ -214,9 +222,47 @@ module _ (task : Task) where
   -- the rows of a whole draft are read
   pub table_read : (text : List ℕ) (draft : Draft) → IsDraftOf task draft → IsWhole Table task text draft → BelongAsRows task draft.rows × (text ≡ table_spelling task draft.rows)
   table_read text draft own (Content.certificate cert, parts, spelled, document) = absurd (cc)
+  table_read text draft own (Content.best cert, parts, spelled, document) = absurd (cc)
   table_read text draft own (Content.table rows, parts, spelled, document) =
       let same : draft.rows ≡ rows = ap (λ (d : Draft). d.rows) parts in
-      (as_table draft.rows (own.parts g.Row (omega arith)), spelled ∙ ap (table_spelling task) (sym same))
+      (as_table draft.rows (own.parts g.Row refl), spelled ∙ ap (table_spelling task) (sym same))
+
+  abbrev best_parts : BestCert → Draft
+  best_parts cert = parts_of (Content.best cert)
+
+  -- the certificate of least rank of the parts of one, which belong to a task, belongs to it, and its numbers are small
+  best_right : (cert : BestCert) → IsDraftOf task (best_parts cert) → BelongsAsBest task (best_of (best_parts cert)) × HasSmallBest (best_of (best_parts cert))
+  best_right cert own =
+      let entries = zip cert.items cert.ranks in
+      let item = λ (entry : Item × ℕ). entry.0 in
+      let rank = λ (entry : Item × ℕ). entry.1 in
+      let ranked = own.parts g.Ranked refl in
+      let of_rules = own.parts g.Rule refl in
+      let of_start = own.parts g.Start refl in
+      let items : All (IsReadItem task) (map item entries) = All-map (IsReadItem task) item entries (λ k d lt. (ranked.0 k d lt).0) in
+      let long = length-map entries item in (
+        record {
+          as_layers = own.layers;
+          as_rules = as_rules cert.rules of_rules;
+          as_items = as_items (map item entries) (items, λ is. omega (arith, long, ranked.1 refl));
+          counted = omega (arith, long, length-map entries rank);
+          goals = λ number goal_item goal_rank there goal rank_there. (all_paired (IsReadRanked task) entries ranked.0 number goal_item goal_rank there rank_there).2 goal;
+          as_lists = own.far;
+        },
+        ((λ k d lt. (of_rules.0 k d lt).3), (λ k d lt. (items k d lt).2), All-map (λ n. n < 2 ^ 64) rank entries (λ k d lt. (ranked.0 k d lt).1), All-head (λ n. n < 2 ^ 32) cert.start [] of_start.0),
+      )
+
+  best_parts_same : (cert : BestCert) → best_parts cert ≡ best_parts (best_of (best_parts cert))
+  best_parts_same cert = λ i. record (best_parts cert) { ranked = both_parts (zip cert.items cert.ranks) i }
+
+  -- the certificate of least rank of a whole draft is read, and its numbers are small
+  pub best_read : (text : List ℕ) (draft : Draft) → IsDraftOf task draft → IsWhole Best task text draft → BelongsAsBest task (best_of draft) × (text ≡ best_spelling task (best_of draft)) × HasSmallBest (best_of draft)
+  best_read text draft own (Content.certificate cert, parts, spelled, document) = absurd (cc)
+  best_read text draft own (Content.table rows, parts, spelled, document) = absurd (cc)
+  best_read text draft own (Content.best cert, parts, spelled, document) =
+      let of = best_right cert (subst (IsDraftOf task) parts own) in
+      let lines = λ (d : Draft). lines_text (header task OfBest ∷ lines_then task d (sections OfBest) (end_line task ∷ [])) in
+      subst (λ (d : Draft). BelongsAsBest task (best_of d) × (text ≡ best_spelling task (best_of d)) × HasSmallBest (best_of d)) (sym parts) (of.0, spelled ∙ ap lines (best_parts_same cert), of.1)
 
 -- a text of a kind that is not allowed has no form
 pub not_allowed : (due : Due) (piece : List ℕ) (kind : LineKind) → HasForm (form kind) piece → due_after due kind ≡ None → HasNoForm due piece

@@ -1,11 +1,11 @@
--- The fault of a text that is no certificate, or no table: its code and its byte.
+-- The fault of a text that is no certificate, no table, or no certificate of least rank: its code and its byte.
 use Rattle.std.specs.Prelude.{◌≡◌, ◌≢◌, ◌⊎◌, ℕ, ◌+◌, List, [], ◌∷◌, ◌++◌, Some, None, length, codes}
 use Rattle.fond_cert.specs.declared.code.TheConstants.{OUT_OF_FORM}
 use Rattle.fond_task.specs.declared.task.Task.{Task}
 use Rattle.fond_form.specs.Forms.{Line, line_text, IsProper}
 use Rattle.fond_form.specs.Feeds.{HasNoFeed}
 use Rattle.fond_cert.specs.declared.due.Document.{Document}
-use Rattle.fond_cert.specs.declared.due.Document.TheVariants.{Certificate, Table}
+use Rattle.fond_cert.specs.declared.due.Document.TheVariants.{Certificate, Table, Best}
 use Rattle.fond_cert.specs.declared.due.Due.{Due}
 use Rattle.fond_cert.specs.declared.due.Due.TheVariants.{Header as HeaderDue, Nothing as NothingDue}
 use Rattle.fond_cert.specs.Sections.{due_after}
@@ -61,3 +61,7 @@ IsCertFault = IsFaultAs Certificate
 -- a text that is no table has a fault at a byte
 abbrev pub IsTableFault : Task → List ℕ → ℕ → ℕ → Type 0
 IsTableFault = IsFaultAs Table
+
+-- a text that is no certificate of least rank has a fault at a byte
+abbrev pub IsBestFault : Task → List ℕ → ℕ → ℕ → Type 0
+IsBestFault = IsFaultAs Best

@@ -1,5 +1,5 @@
 -- The values of a line, as they are read one after the other, and what a line makes of them.
-use Rattle.std.specs.Prelude.{◌≡◌, List, [], ◌∷◌, ◌++◌, Some, None}
+use Rattle.std.specs.Prelude.{◌≡◌, ℕ, List, [], ◌∷◌, ◌++◌, Some, None}
 use Rattle.fond_task.specs.declared.rule.Pair.{Pair}
 use Rattle.fond_task.specs.declared.rule.Rule.{Rule}
 use Rattle.fond_task.specs.declared.rule.Targets.TheVariants.{One, All}
@@ -57,6 +57,10 @@ goal_item_of (cube, end) = record { cube = cube; way = ToGoal }
 -- the item with a rule that these meanings give
 abbrev pub rule_item_of : Meanings (form k.RuleItem) → Item
 rule_item_of (rule, (numbers, (cube, end))) = record { cube = cube; way = ByRule rule numbers }
+
+-- the item with its rank that these meanings give
+abbrev pub ranked_item_of : Meanings (form k.RankedItem) → Item × ℕ
+ranked_item_of (rule, (rank, (numbers, (cube, end)))) = (record { cube = cube; way = ByRule rule numbers }, rank)
 
 -- the row that these meanings give
 abbrev pub row_of : Meanings (form k.Row) → TableRow

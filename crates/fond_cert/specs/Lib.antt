@@ -11,4 +11,5 @@ pub mod Counts
 pub mod Drafts
 pub mod Progress
 pub mod Printed
+pub mod Smalls
 pub mod Laws

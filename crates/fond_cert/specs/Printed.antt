@@ -19,7 +19,7 @@ use Rattle.fond_form.specs.Lines.{group_text, spaced, sign_text, literals_text}
 use Rattle.fond_form.specs.Forms.{Line, line_text}
 use Rattle.fond_cert.specs.declared.due.Group.{Group}
 use Rattle.fond_cert.specs.declared.due.Group.TheVariants as g
-use Rattle.fond_cert.specs.Spellings.{act_leaves, target_word, written_cube, cube_line, layer_lines, row_line, Entry, entry_line, lines_text}
+use Rattle.fond_cert.specs.Spellings.{act_leaves, target_word, written_cube, cube_line, layer_lines, far_lines, row_line, Entry, entry_line, lines_text}
 
 -- the text of an atom's literal, if there is one
 abbrev pub atom_literal_text : Labels → Atom → Option Bool → List ℕ
@@ -59,6 +59,10 @@ rule_text task rule = codes "rule " ++ (group_text (act_leaves task rule.act) ++
 abbrev pub layer_text : Task → List CubeView → List ℕ
 layer_text task layer = lines_text (layer_lines task layer)
 
+-- the text of the lines of a far list
+abbrev pub far_text : Task → List CubeView → List ℕ
+far_text task list = lines_text (far_lines task list)
+
 -- the text of a way, after the word of its line
 abbrev pub way_text : Way → List ℕ
 way_text ToGoal = codes "goal"
@@ -67,6 +71,15 @@ way_text (ByRule rule numbers) = decimal rule ++ spaced (map decimal numbers)
 -- the text of an item's line, part by part
 abbrev pub item_text : Task → Item → List ℕ
 item_text task item = codes "item " ++ (way_text item.way ++ cond_text task item.cube)
+
+-- the text of a way and a rank, which is not written for an item of goals, after the word of their line
+abbrev pub ranked_way_text : Way → ℕ → List ℕ
+ranked_way_text ToGoal rank = codes "goal"
+ranked_way_text (ByRule rule numbers) rank = decimal rule ++ (codes " rank " ++ (decimal rank ++ spaced (map decimal numbers)))
+
+-- the text of the line of an item with its rank, part by part
+abbrev pub ranked_text : Task → Item × ℕ → List ℕ
+ranked_text task entry = codes "item " ++ (ranked_way_text entry.0.way entry.1 ++ cond_text task entry.0.cube)
 
 -- the text of the reach line
 abbrev pub reach_text : ℕ → List ℕ
@@ -86,3 +99,6 @@ entry_text task g.Item = item_text task
 entry_text task g.Reach = reach_text
 entry_text task g.Start = start_text
 entry_text task g.Row = λ row. fed (row_line task row)
+entry_text task g.Ranked = ranked_text task
+entry_text task g.Far = λ list. fed (entry_line task g.Far list)
+entry_text task g.FarCube = λ cube. fed (cube_line task cube)

@@ -1,7 +1,7 @@
--- How certificates and tables are written: the one spelling of each.
+-- How certificates, tables and certificates of least rank are written: the one spelling of each.
 use Rattle.std.specs.Prelude.{ℕ, ◌<◌, ◌≡◌, ◌^◌, List, [], ◌∷◌, ◌++◌, Bool, Option, Some, None, All as Each, codes, length, map, slice_get, ⊤}
 use Rattle.std.specs.Fmt.{decimal}
-use Rattle.std.specs.List.{enumerate_from, filter_map, flat_map}
+use Rattle.std.specs.List.{enumerate_from, filter_map, flat_map, zip}
 use Rattle.std.specs.Option.{option_map, option_map_or}
 use Rattle.fond_text.specs.declared.atom.Atom.{Atom}
 use Rattle.fond_text.specs.declared.atom.GroundAction.{GroundAction}
@@ -19,18 +19,19 @@ use Rattle.fond_task.specs.Layers.{CubeView}
 use Rattle.fond_policy.specs.declared.item.Item.{Item}
 use Rattle.fond_policy.specs.declared.item.Way.{Way}
 use Rattle.fond_policy.specs.declared.item.Way.TheVariants.{Goal as ToGoal, Rule as ByRule}
+use Rattle.fond_policy.specs.declared.best.BestCert.{BestCert}
 use Rattle.fond_policy.specs.declared.cert.Cert.{Cert}
 use Rattle.fond_policy.specs.declared.cert.Cert.TheVariants.{Policy, Refusal, Covered}
 use Rattle.fond_policy.specs.Sizes.{IsSmallTarget}
 use Rattle.fond_rules.specs.declared.table.TableRow.{TableRow}
 use Rattle.fond_cert.specs.declared.draft.Draft.{Draft}
 use Rattle.fond_cert.specs.declared.due.Document.{Document}
-use Rattle.fond_cert.specs.declared.due.Document.TheVariants.{Certificate, Table}
+use Rattle.fond_cert.specs.declared.due.Document.TheVariants.{Certificate, Table, Best}
 use Rattle.fond_cert.specs.declared.due.Evidence.TheVariants.{Reach as ByReach, Cover as ByCover}
 use Rattle.fond_cert.specs.declared.due.Group.{Group}
 use Rattle.fond_cert.specs.declared.due.Group.TheVariants as g
 use Rattle.fond_cert.specs.declared.due.Kind.{Kind}
-use Rattle.fond_cert.specs.declared.due.Kind.TheVariants.{Policy as OfPolicy, Refusal as OfRefusal, Table as OfTable}
+use Rattle.fond_cert.specs.declared.due.Kind.TheVariants.{Policy as OfPolicy, Refusal as OfRefusal, Table as OfTable, Best as OfBest}
 use Rattle.fond_cert.specs.declared.due.Section.{Section}
 use Rattle.fond_cert.specs.declared.due.Section.TheVariants.{One as OneOf, Any, Few, Blocks}
 use Rattle.fond_cert.specs.Sections.{sections}
@@ -127,6 +128,10 @@ cube_line task cube = spelled_line task k.Cube (cube, tt)
 abbrev pub layer_lines : Task → List CubeView → List Line
 layer_lines task layer = spelled_line task k.Layer (tt, tt) ∷ map (cube_line task) layer
 
+-- the lines of a far list
+abbrev pub far_lines : Task → List CubeView → List Line
+far_lines task list = spelled_line task k.Far (tt, tt) ∷ map (cube_line task) list
+
 -- the line of a pair
 abbrev pub pair_line : Task → Pair → Line
 pair_line task pair = spelled_line task k.Pair (pair.act, (pair.outcome, (pair.layer, (pair.cube, (pair.cond, tt)))))
@@ -149,6 +154,15 @@ way_line task (ByRule rule numbers) cube = spelled_line task k.RuleItem (rule, (
 abbrev pub item_line : Task → Item → Line
 item_line task item = way_line task item.way item.cube
 
+-- the line of an item with this way, this cube and this rank, which is not written for an item of goals
+abbrev pub ranked_way_line : Task → Way → CubeView → ℕ → Line
+ranked_way_line task ToGoal cube rank = spelled_line task k.GoalItem (cube, tt)
+ranked_way_line task (ByRule rule numbers) cube rank = spelled_line task k.RankedItem (rule, (rank, (numbers, (cube, tt))))
+
+-- the line of an item with its rank
+abbrev pub ranked_line : Task → Item × ℕ → Line
+ranked_line task entry = ranked_way_line task entry.0.way entry.0.cube entry.1
+
 -- the line of a reach number
 abbrev pub reach_line : Task → ℕ → Line
 reach_line task reach = spelled_line task k.Reach (reach, tt)
@@ -165,7 +179,8 @@ row_line task row = spelled_line task k.Row (row.act, (row.cond, tt))
 abbrev pub end_line : Task → Line
 end_line task = spelled_line task k.End (tt, tt)
 
--- what one line of a group stands for, or the lines of a layer: a layer, a cube, a pair, a rule, an item, a number, or a row
+-- what one line of a group stands for, or the lines of a layer or a far list: a list of cubes, a cube, a pair, a rule, an item, a
+-- number, a row, or an item with its rank
 abbrev pub Entry : Group → Type 0
 Entry g.Layer = List CubeView
 Entry g.Cube = CubeView
@@ -175,8 +190,11 @@ Entry g.Item = Item
 Entry g.Reach = ℕ
 Entry g.Start = ℕ
 Entry g.Row = TableRow
+Entry g.Ranked = Item × ℕ
+Entry g.Far = List CubeView
+Entry g.FarCube = CubeView
 
--- the line of an entry; of a layer, its first line
+-- the line of an entry; of a layer or a far list, its first line
 abbrev pub entry_line : Task → (group : Group) → Entry group → Line
 entry_line task g.Layer = λ layer. spelled_line task k.Layer (tt, tt)
 entry_line task g.Cube = cube_line task
@@ -186,8 +204,11 @@ entry_line task g.Item = item_line task
 entry_line task g.Reach = reach_line task
 entry_line task g.Start = start_line task
 entry_line task g.Row = row_line task
+entry_line task g.Ranked = ranked_line task
+entry_line task g.Far = λ list. spelled_line task k.Far (tt, tt)
+entry_line task g.FarCube = cube_line task
 
--- layers, and after them the one that is being read, if there is one
+-- layers or far lists, and after them the one that is being read, if there is one
 abbrev pub with_current : List (List CubeView) → Option (List CubeView) → List (List CubeView)
 with_current layers None = layers
 with_current layers (Some layer) = layers ++ (layer ∷ [])
@@ -196,12 +217,16 @@ with_current layers (Some layer) = layers ++ (layer ∷ [])
 abbrev pub all_layers : Draft → List (List CubeView)
 all_layers draft = with_current draft.layers draft.current
 
+-- all far lists of a draft
+abbrev pub all_far : Draft → List (List CubeView)
+all_far draft = with_current draft.far draft.current_far
+
 -- an optional value as a list
 abbrev pub listed : {X : Type 0} → Option X → List X
 listed None = []
 listed (Some value) = value ∷ []
 
--- the entries of a group in a draft, in the order of their lines; the cubes are those of the layer that is being read
+-- the entries of a group in a draft, in the order of their lines; the cubes are those of the layer or the far list that is being read
 abbrev pub entries : (group : Group) → Draft → List (Entry group)
 entries g.Layer draft = all_layers draft
 entries g.Cube draft = option_map_or (λ (layer : List CubeView). layer) draft.current []
@@ -211,12 +236,16 @@ entries g.Item draft = draft.items
 entries g.Reach draft = listed draft.reach
 entries g.Start draft = listed draft.start
 entries g.Row draft = draft.rows
+entries g.Ranked draft = draft.ranked
+entries g.Far draft = all_far draft
+entries g.FarCube draft = option_map_or (λ (list : List CubeView). list) draft.current_far []
 
--- the lines of a section of a draft, entry by entry; blocks are always the layers with their cubes
+-- the lines of a section of a draft, entry by entry; blocks are the far lists or the layers, with their cubes
 abbrev pub section_lines : Task → Draft → Section → List Line
 section_lines task draft (OneOf group) = map (entry_line task group) (entries group draft)
 section_lines task draft (Any group) = map (entry_line task group) (entries group draft)
 section_lines task draft (Few group) = map (entry_line task group) (entries group draft)
+section_lines task draft (Blocks g.Far _) = flat_map (far_lines task) (all_far draft)
 section_lines task draft (Blocks _ _) = flat_map (layer_lines task) (all_layers draft)
 
 -- the lines of sections of a draft, section by section, and further lines after them
@@ -230,34 +259,39 @@ header task (OfPolicy ByReach) = spelled_line task k.PolicyHeader (tt, tt)
 header task (OfPolicy ByCover) = spelled_line task k.CoverHeader (tt, tt)
 header task OfRefusal = spelled_line task k.RefusalHeader (tt, tt)
 header task OfTable = spelled_line task k.TableHeader (tt, tt)
+header task OfBest = spelled_line task k.BestHeader (tt, tt)
 
 -- a draft without parts
 abbrev pub no_parts : Draft
-no_parts = record { layers = []; current = None; pairs = []; rules = []; items = []; reach = None; start = None; rows = [] }
+no_parts = record { layers = []; current = None; pairs = []; rules = []; items = []; reach = None; start = None; rows = []; ranked = []; far = []; current_far = None }
 
--- what a text spells: a certificate or a table
+-- what a text spells: a certificate, a table or a certificate of least rank
 pub data Content : Type 0 where
   certificate : Cert → Content
   table : List TableRow → Content
+  best : BestCert → Content
 
 -- the document of a content
 abbrev pub document_of : Content → Document
 document_of (Content.certificate cert) = Certificate
 document_of (Content.table rows) = Table
+document_of (Content.best cert) = Best
 
--- the parts of a certificate or a table, as a draft that has all of them
+-- the parts of what a text spells, as a draft that has all of them
 abbrev pub parts_of : Content → Draft
 parts_of (Content.certificate (Policy layers pairs rules reach)) = record no_parts { layers = layers; pairs = pairs; rules = rules; reach = Some reach }
 parts_of (Content.certificate (Refusal layers)) = record no_parts { layers = layers }
 parts_of (Content.certificate (Covered layers pairs rules items start)) = record no_parts { layers = layers; pairs = pairs; rules = rules; items = items; start = Some start }
 parts_of (Content.table rows) = record no_parts { rows = rows }
+parts_of (Content.best cert) = record no_parts { layers = cert.layers; rules = cert.rules; ranked = zip cert.items cert.ranks; start = Some cert.start; far = cert.far }
 
--- the kind of a content: a policy with its sort of evidence, a refusal, or a table
+-- the kind of a content: a policy with its sort of evidence, a refusal, a table, or a certificate of least rank
 abbrev pub kind_of : Content → Kind
 kind_of (Content.certificate (Policy layers pairs rules reach)) = OfPolicy ByReach
 kind_of (Content.certificate (Refusal layers)) = OfRefusal
 kind_of (Content.certificate (Covered layers pairs rules items start)) = OfPolicy ByCover
 kind_of (Content.table rows) = OfTable
+kind_of (Content.best cert) = OfBest
 
 -- the lines of a content: its header, those of its sections, and the last line
 abbrev pub content_lines : Task → Content → List Line
@@ -271,6 +305,10 @@ cert_lines task cert = content_lines task (Content.certificate cert)
 abbrev pub table_lines : Task → List TableRow → List Line
 table_lines task rows = content_lines task (Content.table rows)
 
+-- the lines of a certificate of least rank
+abbrev pub best_lines : Task → BestCert → List Line
+best_lines task cert = content_lines task (Content.best cert)
+
 -- the text of lines, each with a line feed after it
 abbrev pub lines_text : List Line → List ℕ
 lines_text lines = flat_map (λ line. line_text line ++ codes "\n") lines
@@ -282,3 +320,7 @@ spelling task cert = lines_text (cert_lines task cert)
 -- the text of a table
 abbrev pub table_spelling : Task → List TableRow → List ℕ
 table_spelling task rows = lines_text (table_lines task rows)
+
+-- the text of a certificate of least rank
+abbrev pub best_spelling : Task → BestCert → List ℕ
+best_spelling task cert = lines_text (best_lines task cert)

@@ -1,4 +1,4 @@
-//! The codes of the faults of certificates and tables, as docs/CERTIFICATES.md lists them.
+//! The codes of the faults of certificates, tables and certificates of least rank, as docs/CERTIFICATES.md lists them.
 
 /// A line has no form that is due there, its atoms are out of order, or the text ends too early or too late.
 pub const OUT_OF_FORM: u8 = 1;

@@ -15,17 +15,20 @@ pub enum Evidence {
 pub enum Document {
     Certificate,
     Table,
+    Best,
 }
 
-/// Whether a text is that of a policy, a refusal or a table.
+/// Whether a text is that of a policy, a refusal, a table or a certificate of least rank.
 #[derive(Clone, Copy)]
 pub enum Kind {
     Policy { evidence: Evidence },
     Refusal,
     Table,
+    Best,
 }
 
-/// Kinds of lines that may take each other's places.
+/// Kinds of lines that may take each other's places. A goal item is an item of a certificate, or a ranked item; a cube belongs to a
+/// layer, or to a list of far cubes.
 #[derive(Clone, Copy)]
 pub enum Group {
     Layer,
@@ -36,6 +39,9 @@ pub enum Group {
     Reach,
     Start,
     Row,
+    Ranked,
+    Far,
+    FarCube,
 }
 
 /// Lines that belong together: one of a group; any number of them, or fewer than 2^32; or fewer than 2^32 blocks, each of which is a
@@ -89,5 +95,12 @@ pub(crate) fn sections(kind: Kind) -> &'static [Section]
         ],
         Kind::Refusal => &[Section::Blocks(Group::Layer, Group::Cube)],
         Kind::Table => &[Section::Few(Group::Row)],
+        Kind::Best => &[
+            Section::Blocks(Group::Layer, Group::Cube),
+            Section::Few(Group::Rule),
+            Section::Few(Group::Ranked),
+            Section::One(Group::Start),
+            Section::Blocks(Group::Far, Group::FarCube),
+        ],
     }
 }

@@ -1,4 +1,4 @@
-//! Why a text is no certificate or no table of a task.
+//! Why a text is no certificate, no table or no certificate of least rank of a task.
 
 ghost use Rattle.fond_cert.specs.declared.error.CertError.TheVariants.{NoMemory as OutOfMemory};
 ghost use Rattle.fond_cert.specs.declared.error.LineError.TheVariants.{NoMemory as WithoutMemory};
@@ -7,7 +7,7 @@ ghost use Rattle.std.specs.Prelude.{◌≡◌};
 use fond_text::fault::NoMemory;
 use thiserror::Error;
 
-/// Why a text is no certificate, or no table, of a task. docs/CERTIFICATES.md lists the codes.
+/// Why a text is no certificate, no table, or no certificate of least rank, of a task. docs/CERTIFICATES.md lists the codes.
 #[derive(Clone, Copy, Debug, PartialEq, Eq, Error)]
 pub enum CertError {
     /// The code, the number after the C, and the byte of the fault, counted from 0.

@@ -1,6 +1,6 @@
 //! What the values of a line make. No call takes memory.
 
-ghost use Rattle.fond_cert.specs.Filled.{Hold, pair_of as the_pair, fair_of as the_fair, unfair_of as the_unfair, goal_item_of as the_goal_item, rule_item_of as the_rule_item, row_of as the_row};
+ghost use Rattle.fond_cert.specs.Filled.{Hold, pair_of as the_pair, fair_of as the_fair, unfair_of as the_unfair, goal_item_of as the_goal_item, rule_item_of as the_rule_item, ranked_item_of as the_ranked_item, row_of as the_row};
 ghost use Rattle.fond_cert.specs.Spellings.{Meanings, AreOfTask};
 ghost use Rattle.fond_form.specs.Forms.{form};
 ghost use Rattle.fond_form.specs.declared.table.LineKind.TheVariants as k;
@@ -84,6 +84,22 @@ pub(crate) fn goal_item_of(values: &mut LineValues) -> Item
 pub(crate) fn rule_item_of(alloc: Global, values: &mut LineValues) -> Item
     requires { (meanings : Meanings (form k.RuleItem)) × Hold k.RuleItem values.old meanings }
     ensures { (task : Task) (meanings : Meanings (form k.RuleItem)) → AreOfTask task (form k.RuleItem) meanings → Hold k.RuleItem values.old meanings → result ≡ the_rule_item meanings }
+{
+    let cube = cube_of(values);
+    let rule = values.short(0);
+    Item {
+        cube,
+        way: Way::Rule {
+            rule,
+            items: values.take_items(alloc),
+        },
+    }
+}
+
+/// The item of the line, whose rank is apart.
+pub(crate) fn ranked_item_of(alloc: Global, values: &mut LineValues) -> Item
+    requires { (meanings : Meanings (form k.RankedItem)) × Hold k.RankedItem values.old meanings }
+    ensures { (task : Task) (meanings : Meanings (form k.RankedItem)) → AreOfTask task (form k.RankedItem) meanings → Hold k.RankedItem values.old meanings → result ≡ (the_ranked_item meanings).0 }
 {
     let cube = cube_of(values);
     let rule = values.short(0);

@@ -1,4 +1,4 @@
-//! The text of certificates and of tables. A text is read as the certificate or the table that it spells over the actions and atoms
+//! The text of certificates, of tables and of certificates of least rank. A text is read as what it spells over the actions and atoms
 //! of a task, or refused with the code and the byte of its first fault; a certificate is printed in its one spelling, as a whole or
 //! in pieces. Whether a certificate is correct is left to others.
 #![tactic(auto)]
@@ -17,6 +17,7 @@ mod names;
 mod place;
 pub mod print;
 mod put;
+mod ranked;
 pub mod read;
 mod reading;
 mod target;

@@ -1,4 +1,4 @@
-//! Reading a certificate or a table line by line.
+//! Reading a text line by line.
 
 ghost use Rattle.fond_cert.specs.Drafts.{IsDraftOf};
 ghost use Rattle.fond_cert.specs.Faults.{IsFaultAs, IsRefusedLine};
@@ -12,7 +12,7 @@ use crate::code::OUT_OF_FORM;
 use crate::draft::Draft;
 use crate::due::{Document, Due};
 use crate::error::{CertError, LineError};
-use crate::place::next_due;
+use crate::place::{next_due, taker};
 use crate::task_index::TaskIndex;
 use fond_form::feed::line_of;
 use fond_form::form::kind_of;
@@ -42,7 +42,7 @@ fn take(
     let Some(next) = next_due(due, kind) else {
         return Err(FORMLESS);
     };
-    draft.add(alloc, index, kind, piece)?;
+    draft.add(alloc, index, taker(next), kind, piece)?;
     Ok(next)
 }
 

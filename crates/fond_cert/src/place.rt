@@ -2,7 +2,7 @@
 
 ghost use Rattle.fond_cert.specs.declared.due.Due.TheVariants.{Header as HeaderDue};
 ghost use Rattle.fond_cert.specs.Counts.{IsOneMore};
-ghost use Rattle.fond_cert.specs.Sections.{sections, is_in, after_in, may_end, after_sections, due_after};
+ghost use Rattle.fond_cert.specs.Sections.{sections, is_in, after_in, may_end, after_sections, due_after, group_in, taker};
 ghost use Rattle.std.specs.Prelude.{◌≡◌, ◌+◌, ◌<◌, ◌^◌, nat_lt, false, length, drop, MatchOption};
 
 use crate::due::{Document, Due, Evidence, Group, Kind, Section, sections};
@@ -32,6 +32,9 @@ fn is_in(group: Group, line: LineKind) -> bool
         Group::Reach => matches!(line, LineKind::Reach),
         Group::Start => matches!(line, LineKind::Start),
         Group::Row => matches!(line, LineKind::Row),
+        Group::Ranked => matches!(line, LineKind::GoalItem | LineKind::RankedItem),
+        Group::Far => matches!(line, LineKind::Far),
+        Group::FarCube => matches!(line, LineKind::Cube),
     }
 }
 
@@ -113,6 +116,7 @@ fn after_header(document: Document, line: LineKind) -> Option<Due>
         },
         (Document::Certificate, LineKind::RefusalHeader) => Kind::Refusal,
         (Document::Table, LineKind::TableHeader) => Kind::Table,
+        (Document::Best, LineKind::BestHeader) => Kind::Best,
         _ => return None,
     };
     Some(Due::Section {
@@ -145,5 +149,34 @@ pub(crate) fn next_due(due: Due, line: LineKind) -> Option<Due>
             inner,
         } => after_sections(kind, at, lines, inner, sections_from(kind, at), line),
         Due::Nothing => None,
+    }
+}
+
+/// The group of the line of a section that was read last, by the number of inner lines.
+fn group_in(section: Section, inner: u32) -> Group
+    ensures { result ≡ group_in section inner }
+{
+    match section {
+        Section::One(group) | Section::Any(group) | Section::Few(group) => group,
+        Section::Blocks(first, second) => { if inner == 0 { first } else { second } }
+    }
+}
+
+/// The group of the line after which this is due, if it is a line of a section.
+pub(crate) fn taker(next: Due) -> Group
+    ensures { result ≡ taker next }
+{
+    let Due::Section {
+        kind,
+        at,
+        inner,
+        ..
+    } = next
+    else {
+        return Group::Layer;
+    };
+    match sections_from(kind, at).first() {
+        Some(section) => group_in(*section, inner),
+        None => Group::Layer,
     }
 }

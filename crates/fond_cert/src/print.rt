@@ -1,10 +1,10 @@
-//! Printing a certificate, into a sink or as a text. A failure of the sink is remembered by the pen, so that the functions for
-//! the parts answer nothing. Loops over parts end as soon as the pen has failed.
+//! Printing a certificate or a certificate of least rank, into a sink or as a text. A failure of the sink is remembered by the pen, so
+//! that the functions for the parts answer nothing. Loops over parts end as soon as the pen has failed.
 
-ghost use Rattle.fond_policy.specs.Belongs.{Belongs};
+ghost use Rattle.fond_policy.specs.Belongs.{Belongs, BelongsAsBest};
 ghost use Rattle.fond_cert.specs.Items.{IsPairOf, IsRuleOf};
-ghost use Rattle.fond_cert.specs.Printed.{fed, reach_text, start_text, chosen_text, places_text, cond_text, pair_text, rule_text, layer_text, way_text, item_text};
-ghost use Rattle.fond_cert.specs.Spellings.{cube_line, lines_text, spelling};
+ghost use Rattle.fond_cert.specs.Printed.{fed, reach_text, start_text, chosen_text, places_text, cond_text, pair_text, rule_text, layer_text, far_text, way_text, item_text, ranked_way_text, ranked_text};
+ghost use Rattle.fond_cert.specs.Spellings.{best_spelling, cube_line, lines_text, spelling};
 ghost use Rattle.fond_edge.specs.Faults.{Rose};
 ghost use Rattle.fond_edge.specs.Pens.{flow, IsPut, IsLost, Adds};
 ghost use Rattle.fond_edge.specs.Written.{Appended, AppendedPart};
@@ -22,6 +22,7 @@ use fond_edge::pen::Pen;
 use fond_edge::send::WriteFault;
 use fond_edge::sink::Sink;
 use fond_layers::layers::{Layer, Layers};
+use fond_policy::best::{BestCert, Ranks};
 use fond_policy::cert::Cert;
 use fond_policy::item::{Item, Way};
 use fond_policy::items::Items;
@@ -277,6 +278,103 @@ impl Listing for Items {
     }
 }
 
+/// Adds a way and a rank, which is not written for an item of goals, after the word of their line.
+fn put_ranked_way<K: Sink>(way: &Way, rank: u64, pen: &mut Pen, sink: &mut K)
+    ensures { Adds (flow (K.written sink.old) (K.faults sink.old) pen.old)
+        (flow (K.written sink.new) (K.faults sink.new) pen.new) (ranked_way_text way.now rank) }
+{
+    match way {
+        Way::Goal => pen.add(sink, b"goal"),
+        Way::Rule { rule, items } => {
+            put_number(*rule as u64, pen, sink);
+            pen.add(sink, b" rank ");
+            put_number(rank, pen, sink);
+            put_item_numbers(items, pen, sink);
+        }
+    }
+}
+
+/// Adds the line of an item with its rank.
+fn put_ranked<K: Sink>(task: &Task, item: &Item, rank: u64, pen: &mut Pen, sink: &mut K)
+    ensures { Adds (flow (K.written sink.old) (K.faults sink.old) pen.old)
+        (flow (K.written sink.new) (K.faults sink.new) pen.new) (ranked_text task.now (item.now, rank)) }
+{
+    pen.add(sink, b"item ");
+    put_ranked_way(&item.way, rank, pen, sink);
+    put_cond(task, &item.cube, pen, sink);
+}
+
+/// Items with their ranks.
+#[derive(Drop)]
+struct Ranked<'a> {
+    items: &'a Items,
+    ranks: &'a Ranks,
+}
+
+impl<'a> Listing for Ranked<'a> {
+    ghost use Rattle.std.specs.List.{zip};
+    ghost use Rattle.std.specs.Prelude.{◌^◌, ⊤};
+    ghost use Rattle.fond_cert.specs.Printed.{ranked_text};
+
+    type Item = (Item, u64);
+
+    ghost items = { λ list. zip list.items.now list.ranks.now };
+
+    ghost limit = { 2 ^ 32 };
+
+    ghost fits = { λ task entry. ⊤ };
+
+    ghost text = { ranked_text };
+
+    fn count(&self) -> u64 {
+        let ranks = self.ranks.len() as u64;
+        ranks.min(self.items.len() as u64)
+    }
+
+    fn put_at<K: Sink>(&self, task: &Task, i: u64, pen: &mut Pen, sink: &mut K) {
+        let rank = *self.ranks.get(i as usize);
+        put_ranked(task, self.items.get(i as u32), rank, pen, sink);
+    }
+}
+
+/// Adds the lines of a far list.
+fn put_far<K: Sink>(task: &Task, list: &Layer, pen: &mut Pen, sink: &mut K)
+    ensures { Adds (flow (K.written sink.old) (K.faults sink.old) pen.old)
+        (flow (K.written sink.new) (K.faults sink.new) pen.new) (far_text task.now list.now) }
+{
+    pen.add(sink, b"far\n");
+    put_all(task, list, pen, sink);
+}
+
+/// Lists of far cubes.
+#[derive(Drop)]
+struct FarLists<'a> {
+    lists: &'a Layers,
+}
+
+impl<'a> Listing for FarLists<'a> {
+    ghost use Rattle.std.specs.Prelude.{◌^◌, ⊤};
+    ghost use Rattle.fond_cert.specs.Printed.{far_text};
+
+    type Item = Layer;
+
+    ghost items = { λ far. far.lists.now };
+
+    ghost limit = { 2 ^ 32 };
+
+    ghost fits = { λ task list. ⊤ };
+
+    ghost text = { far_text };
+
+    fn count(&self) -> u64 {
+        self.lists.len() as u64
+    }
+
+    fn put_at<K: Sink>(&self, task: &Task, i: u64, pen: &mut Pen, sink: &mut K) {
+        put_far(task, self.lists.get(i as u32), pen, sink);
+    }
+}
+
 /// Adds the last line.
 fn put_end<K: Sink>(pen: &mut Pen, sink: &mut K)
     ensures { Adds (flow (K.written sink.old) (K.faults sink.old) pen.old)
@@ -373,6 +471,77 @@ pub fn print_cert(alloc: Global, task: &Task, cert: &Cert) -> Result<Vec<u8>, No
         faults: 0,
     };
     match write_cert(task, cert, &mut sink) {
+        Ok(()) => Ok(sink.text),
+        Err(WriteFault) => Err(NoMemory),
+    }
+}
+
+/// Adds the lines of a certificate of least rank.
+fn put_best<K: Sink>(task: &Task, cert: &BestCert, pen: &mut Pen, sink: &mut K)
+    requires { BelongsAsBest task.now cert.now }
+    ensures { Adds (flow (K.written sink.old) (K.faults sink.old) pen.old)
+        (flow (K.written sink.new) (K.faults sink.new) pen.new) (best_spelling task.now cert.now) }
+{
+    let items = Ranked {
+        items: &cert.items,
+        ranks: &cert.ranks,
+    };
+    let far = FarLists { lists: &cert.far };
+    pen.add(sink, b"dualfond 2 best\n");
+    put_all(task, &cert.layers, pen, sink);
+    put_all(task, &cert.rules, pen, sink);
+    put_all(task, &items, pen, sink);
+    put_start(cert.start, pen, sink);
+    put_all(task, &far, pen, sink);
+    put_end(pen, sink);
+}
+
+/// Puts the text of a certificate of least rank into a pen, in pieces, or tells that the pen has failed. Takes time in the length of
+/// the text, and in the number of the task's atoms for each cube, rule and item; no memory.
+pub fn send_best<K: Sink>(
+    task: &Task,
+    cert: &BestCert,
+    pen: &mut Pen,
+    sink: &mut K,
+) -> Result<(), WriteFault>
+    requires { BelongsAsBest task.now cert.now }
+    ensures ok { OnOk result (IsPut (flow (K.written sink.old) (K.faults sink.old) pen.old)
+        (flow (K.written sink.new) (K.faults sink.new) pen.new) (best_spelling task.now cert.now)) }
+    ensures err { OnErr result (IsLost (flow (K.written sink.old) (K.faults sink.old) pen.old)
+        (flow (K.written sink.new) (K.faults sink.new) pen.new) (best_spelling task.now cert.now)) }
+{
+    put_best(task, cert, pen, sink);
+    if pen.has_failed() {
+        return Err(WriteFault);
+    }
+    Ok(())
+}
+
+/// Writes the text of a certificate of least rank, as `send_best` puts it into a pen, or fails after a proper prefix of it. It takes no
+/// memory.
+pub fn write_best<K: Sink>(task: &Task, cert: &BestCert, sink: &mut K) -> Result<(), WriteFault>
+    requires { BelongsAsBest task.now cert.now }
+    ensures ok { OnOk result (Appended (K.written sink.old) (K.written sink.new) (best_spelling task.now cert.now)) }
+    ensures part { OnErr result (AppendedPart (K.written sink.old) (K.written sink.new) (best_spelling task.now cert.now)) }
+    ensures counted { K.faults sink.old ≤ K.faults sink.new }
+    ensures rose { OnErr result (Rose (K.faults sink.old) (K.faults sink.new)) }
+{
+    let mut pen = Pen::new();
+    send_best(task, cert, &mut pen, sink)?;
+    pen.finish(sink)
+}
+
+/// The text of a certificate of least rank. Takes time in the length of the text, and in the number of the task's atoms for each cube,
+/// rule and item; no memory but for the text.
+pub fn print_best(alloc: Global, task: &Task, cert: &BestCert) -> Result<Vec<u8>, NoMemory>
+    requires { BelongsAsBest task.now cert.now }
+    ensures { IfOk result (λ text. text.items ≡ best_spelling task.now cert.now) }
+{
+    let mut sink = TextSink {
+        text: Vec::new(alloc),
+        faults: 0,
+    };
+    match write_best(task, cert, &mut sink) {
         Ok(()) => Ok(sink.text),
         Err(WriteFault) => Err(NoMemory),
     }

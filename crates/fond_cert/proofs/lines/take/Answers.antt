@@ -10,7 +10,8 @@ returns-in_default-next_due-clause-wrong c =
 
 pub add-requires-clause-room : goal.add-requires-clause-room
 add-requires-clause-room c =
-    has_room c.requires.1.0 c.args.index.now c.args.due c.in-Some-next_due.next c.args.draft.now c.requires.1.1 c.in-Some.kind c.requires.1.2 c.requires.0 (sym c.in-Some-next_due.ensures)
+    rw c.taker.ensures
+    (has_room c.requires.1.0 c.args.index.now c.args.due c.in-Some-next_due.next c.args.draft.now c.requires.1.1 c.in-Some.kind c.requires.1.2 c.requires.0 (sym c.in-Some-next_due.ensures))
 
 pub returns-in_err-add-clause-wrong : goal.returns-in_err-add-clause-wrong
 returns-in_err-add-clause-wrong c =
