@@ -7,3 +7,4 @@ pub mod Rejections
 pub mod Runs
 pub mod Explained
 pub mod Drawn
+pub mod Rated

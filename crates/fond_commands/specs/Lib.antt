@@ -16,3 +16,4 @@ pub mod Words
 pub mod Explanations
 pub mod Drawn
 pub mod Duels
+pub mod Ratings

@@ -11,6 +11,7 @@ pub mod explain;
 pub mod fetch;
 pub mod graph;
 pub mod migrate;
+pub mod rate;
 pub mod rejection;
 pub mod run;
 pub mod simulate;

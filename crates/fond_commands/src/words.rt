@@ -25,6 +25,7 @@ pub enum Command {
     Explain,
     Graph,
     Duel,
+    Rate,
 }
 
 /// The command of a word, and how many names of files follow the word.
@@ -42,6 +43,7 @@ fn row_of(word: &Word) -> Option<(Command, usize)>
         b"explain" => Some((Command::Explain, 4)),
         b"graph" => Some((Command::Graph, 4)),
         b"duel" => Some((Command::Duel, 4)),
+        b"rate" => Some((Command::Rate, 4)),
         _ => None,
     }
 }
@@ -66,6 +68,7 @@ pub enum Job {
     Graph { limit: u32 },
     /// A number of steps from 1 to 1,000,000.
     Duel { steps: u32 },
+    Rate,
 }
 
 /// A job, and the names of its files.
@@ -236,6 +239,7 @@ fn read_job(alloc: Global, command: Command, rest: &[Word]) -> Result<Option<Job
         Command::Explain => Ok(read_explain(rest)),
         Command::Graph => Ok(read_graph(rest)),
         Command::Duel => Ok(read_duel(rest)),
+        Command::Rate => Ok(read_bare(rest, Job::Rate)),
     }
 }
 

@@ -3,7 +3,7 @@ use Rattle.std.specs.Prelude.{ℕ, List, [], ◌∷◌}
 use Rattle.fond_front.specs.Texts.{Texts}
 use Rattle.fond_succ.specs.Actions.{names_of}
 use Rattle.fond_commands.specs.declared.words.Job.{Job}
-use Rattle.fond_commands.specs.declared.words.Job.TheVariants.{Succ, Run, Check, Plan, Migrate, Simulate, Demo, Explain, Graph, Duel}
+use Rattle.fond_commands.specs.declared.words.Job.TheVariants.{Succ, Run, Check, Plan, Migrate, Simulate, Demo, Explain, Graph, Duel, Rate}
 use Rattle.fond_commands.specs.Checks.{CheckReply}
 use Rattle.fond_commands.specs.Drawn.{GraphReply}
 use Rattle.fond_commands.specs.Duels.{DuelReply}
@@ -11,6 +11,7 @@ use Rattle.fond_commands.specs.Explanations.{ExplainReply}
 use Rattle.fond_tool.specs.Demos.{DemoReply}
 use Rattle.fond_commands.specs.Migrations.{MigrateReply}
 use Rattle.fond_tool.specs.Plans.{PlanReply}
+use Rattle.fond_commands.specs.Ratings.{RateReply}
 use Rattle.fond_commands.specs.Replies.{Reply}
 use Rattle.fond_commands.specs.Runs.{RunReply}
 use Rattle.fond_commands.specs.Simulations.{SimulateReply}
@@ -32,4 +33,5 @@ JobReply (Demo size) [] = DemoReply size
 JobReply (Explain limit) (domain ∷ problem ∷ side ∷ table ∷ []) = ExplainReply (texts domain problem side) table limit
 JobReply (Graph limit) (domain ∷ problem ∷ side ∷ cert ∷ []) = GraphReply (texts domain problem side) cert limit
 JobReply (Duel steps) (domain ∷ problem ∷ side ∷ cert ∷ []) = DuelReply (texts domain problem side) cert steps
+JobReply Rate (domain ∷ problem ∷ side ∷ cert ∷ []) = RateReply (texts domain problem side) cert
 JobReply job contents = λ reply. ⊥

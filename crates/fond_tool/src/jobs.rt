@@ -14,6 +14,7 @@ use fond_commands::explain::explain;
 use fond_commands::fetch::Content;
 use fond_commands::graph::draw;
 use fond_commands::migrate::migrate;
+use fond_commands::rate::rate_cert;
 use fond_commands::rejection::Rejection;
 use fond_commands::run::run;
 use fond_commands::simulate::simulate;
@@ -67,5 +68,6 @@ pub fn do_job(alloc: Global, job: Job, contents: &[Content]) -> Result<Answer, R
         Job::Explain { limit } => explain(alloc, &texts(contents), contents[3].bytes(), limit),
         Job::Graph { limit } => draw(alloc, &texts(contents), contents[3].bytes(), limit),
         Job::Duel { steps } => duel(alloc, &texts(contents), contents[3].bytes(), steps),
+        Job::Rate => rate_cert(alloc, &texts(contents), contents[3].bytes()),
     }
 }
