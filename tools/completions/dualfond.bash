@@ -9,7 +9,7 @@ _dualfond_positions() {
         succ) echo F F - ;;
         run) echo F F F F F ;;
         simulate) echo F F F F - - ;;
-        check | migrate) echo F F F F ;;
+        check | rate | migrate) echo F F F F ;;
         duel) echo F F F F - ;;
         explain) echo F F F F T ;;
         graph) echo F F F F N ;;
@@ -20,7 +20,7 @@ _dualfond_positions() {
 
 _dualfond() {
     local current=${COMP_WORDS[COMP_CWORD]}
-    local commands="plan succ run simulate duel check explain graph migrate demo"
+    local commands="plan succ run simulate duel check rate explain graph migrate demo"
     local first=1 position kind
     COMPREPLY=()
     [ "${COMP_WORDS[1]}" = --progress ] && first=2
