@@ -20,9 +20,9 @@ use Rattle.fond_commands.specs.Replies.{Reply, cert_reply}
 use Rattle.fond_commands.specs.declared.status.Ending.{Ending}
 use Rattle.fond_commands.specs.declared.status.Ending.TheVariants.{Done, Rejected}
 
--- a text is that of a certificate of least rank of a ground task, whose numbers fit their types
+-- a text spells a certificate of least rank that belongs to a ground task, and whose numbers fit their types
 abbrev pub IsBestText : Task → BestCert → List ℕ → Type 0
-IsBestText game cert text = BelongsAsBest game cert × HasSmallBest cert × (text ≡ best_spelling game cert)
+IsBestText ground cert text = BelongsAsBest ground cert × HasSmallBest cert × (text ≡ best_spelling ground cert)
 
 -- a verdict is a fault
 abbrev pub IsRatedFault : Rated → Type 0
@@ -36,16 +36,16 @@ rated_ending rated = Rejected
 
 -- the reply to a verdict
 abbrev pub rated_reply : Task → Rated → Reply
-rated_reply game rated = record { text = rated_text game rated; ending = rated_ending rated }
+rated_reply ground rated = record { text = rated_text ground rated; ending = rated_ending rated }
 
--- what `rate` answers to the text of a certificate, in a task with this ground task: a rejection with its first fault; the least rank, if
--- the certificate is correct, and then its rules are a solution of this rank, and none has a smaller one; or a rejection with the first
--- fault of the certificate
+-- what `rate` answers to a text, in a task with this ground task: if it spells no certificate, its first fault; if it spells a correct one,
+-- the least rank, and then the rules are a solution of this rank, and no solution that is a finite map has a smaller one; otherwise the
+-- first fault of the certificate that it spells
 pub data AnswersRate (text : List ℕ) (task : LiftedTask) (ground : Task) : Reply → Type 0 where
   no_cert : (code byte : ℕ) → IsBestFault ground text code byte → AnswersRate text task ground (cert_reply code byte)
   least : (read : BestCert) (rank : ℕ) → IsBestText ground read text → IsRating ground read (Least rank) → IsBest (game task) (rules_policy task ground read.rules) rank → AnswersRate text task ground (rated_reply ground (Least rank))
   rejected : (read : BestCert) (rated : Rated) → IsBestText ground read text → IsRating ground read rated → IsRatedFault rated → AnswersRate text task ground (rated_reply ground rated)
 
--- what `rate` replies: a refusal of its files, or the answer to the certificate in the task that they describe
+-- what `rate` replies: a refusal of the task's files, or the answer to the text of the certificate in the task that they describe
 abbrev pub RateReply : Texts → List ℕ → Reply → Type 0
 RateReply texts cert = TaskReply texts (AnswersRate cert)
