@@ -44,12 +44,7 @@ fn verdict_on(alloc: Global, game: &Task, cert: &BestCert) -> Result<Answer, NoM
 }
 
 /// The answer to the certificate that a text spells, or why there is none.
-fn rated(
-    alloc: Global,
-    task: &LiftedTask,
-    game: &Task,
-    text: &[u8],
-) -> Result<Answer, Rejection>
+fn rated(alloc: Global, task: &LiftedTask, game: &Task, text: &[u8]) -> Result<Answer, Rejection>
     requires { IsGroundOf task.now game.now }
     ensures replied { IfOk result (AnswersRate text.now task.now game.now) }
     ensures rejected { IfErr result (Rejects (AnswersRate text.now task.now game.now)) }
