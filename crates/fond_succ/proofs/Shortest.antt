@@ -1,7 +1,6 @@
 -- Two games, if each state of the one stands for a state of the other and both have the same moves: a solution of least rank in the one
 -- is one in the other.
 use Rattle.std.proofs.Common.{◌≡◌, ◌≤◌, ℕ, ap, sym, ◌∙◌, subst}
-use Rattle.std.specs.Prelude.{IsTrue}
 use Rattle.fond_state.specs.Games.{Game, Policy}
 use Rattle.fond_games.specs.Lassos.{ActsEverywhere}
 use Rattle.fond_games.specs.Ranks.{HasRank, IsBest}
