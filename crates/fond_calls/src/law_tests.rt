@@ -2,9 +2,10 @@ use fond_ast::laws::{
     outcomes_come_next, states_are_their_atoms, successors_are_outcomes, truth_is_local,
     truth_is_tested, tuples_lie_in_ranges,
 };
+use fond_best::laws::{certificates_are_best, right_are_rated};
 use fond_cert::laws::{
-    documents_differ, faults_are_one, spellings_are_clean, spellings_differ, tables_are_clean,
-    tables_differ,
+    bests_are_apart, bests_are_clean, bests_differ, documents_differ, faults_are_one,
+    spellings_are_clean, spellings_differ, tables_are_clean, tables_differ,
 };
 use fond_check::laws::right_are_accepted;
 use fond_games::laws::{
@@ -96,4 +97,13 @@ fn laws_of_lassos_can_be_called() {
     unfair_solutions_are_strong::<u32, u32>();
     tours_exist();
     kept_tours_are_lassos::<u32, u32>();
+}
+
+#[test]
+fn laws_of_least_ranks_can_be_called() {
+    bests_differ();
+    bests_are_clean();
+    bests_are_apart();
+    certificates_are_best();
+    right_are_rated();
 }

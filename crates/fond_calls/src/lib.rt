@@ -17,6 +17,8 @@ mod explicit_tests;
 #[cfg(test)]
 mod law_tests;
 #[cfg(test)]
+mod least_tests;
+#[cfg(test)]
 mod reader_tests;
 #[cfg(test)]
 mod regress_tests;
