@@ -5,7 +5,7 @@
 # to type.
 _dualfond_positions() {
     case $1 in
-        plan) echo F F F N ;;
+        plan | best) echo F F F N ;;
         succ) echo F F - ;;
         run) echo F F F F F ;;
         simulate) echo F F F F - - ;;
@@ -20,7 +20,7 @@ _dualfond_positions() {
 
 _dualfond() {
     local current=${COMP_WORDS[COMP_CWORD]}
-    local commands="plan succ run simulate duel check rate explain graph migrate demo"
+    local commands="plan succ run simulate duel check best rate explain graph migrate demo"
     local first=1 position kind
     COMPREPLY=()
     [ "${COMP_WORDS[1]}" = --progress ] && first=2

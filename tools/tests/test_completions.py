@@ -18,7 +18,7 @@ here = os.path.dirname(os.path.abspath(__file__))
 sys.dont_write_bytecode = True
 completions = os.path.join(os.path.dirname(here), "completions")
 
-COMMANDS = "plan succ run simulate duel check rate explain graph migrate demo".split()
+COMMANDS = "plan succ run simulate duel check best rate explain graph migrate demo".split()
 OPTIONS = "--help -h --version --prove --install --progress".split()
 SECONDS = 10
 # Keys: one prints the line as the shell has it now, and one inserts all that completes the word before the cursor.
@@ -121,7 +121,7 @@ class Cases:
             self.assertEqual(self.shell.completed("dualfond " + command[:3]).rstrip(), "dualfond " + command)
 
     def test_files(self):
-        for words in ("plan", "plan a", "plan a b", "check a b c", "rate a b c", "run a b c d", "simulate a b c", "migrate a b c", "explain a b c", "graph a b c", "duel a b c"):
+        for words in ("plan", "plan a", "plan a b", "best a b", "check a b c", "rate a b c", "run a b c d", "simulate a b c", "migrate a b c", "explain a b c", "graph a b c", "duel a b c"):
             self.assertEqual(self.shell.completed(f"dualfond {words} robot.u"), f"dualfond {words} robot.unfair ")
         self.assertEqual(self.shell.completed("dualfond succ with"), "dualfond succ with\\ blank.d ")
 

@@ -161,7 +161,7 @@ class Launcher(unittest.TestCase):
             self.assertLess(time.monotonic() - started, 0.1)
         listed = [line.split()[1] for line in ran.stdout.replace("usage:", "").splitlines() if line.split()[:1] == ["dualfond"]]
         commands = [it for it in listed if it.isalpha() and it != "help"]
-        self.assertEqual(len(commands), 11)
+        self.assertEqual(len(commands), 12)
         for command in commands:
             self.assertIn(f"usage: dualfond {command}", self.run_in(self.top, "./dualfond", "help", command).stdout)
         self.assertEqual(self.run_in(self.top, "./dualfond", "help", "fly").returncode, 4)

@@ -2,6 +2,7 @@
 //! fewer. A certificate has both, and is tested here; finding one is left to the crates above.
 #![tactic(auto)]
 
+pub mod belongs;
 pub mod laws;
 mod ranked;
 pub mod rate;

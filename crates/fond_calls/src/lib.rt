@@ -17,7 +17,6 @@ mod explicit_tests;
 #[cfg(test)]
 mod law_tests;
 #[cfg(test)]
-mod least_tests;
 #[cfg(test)]
 mod reader_tests;
 #[cfg(test)]

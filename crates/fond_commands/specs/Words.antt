@@ -3,7 +3,7 @@ use Rattle.std.specs.Prelude.{◌≡◌, ◌≢◌, ℕ, ⊤, List, [], ◌∷�
 use Rattle.fond_commands.specs.declared.words.Command.{Command}
 use Rattle.fond_commands.specs.declared.words.Command.TheVariants as c
 use Rattle.fond_commands.specs.declared.words.Job.{Job}
-use Rattle.fond_commands.specs.declared.words.Job.TheVariants.{Succ, Run, Check, Plan, Migrate, Simulate, Demo, Explain, Graph, Duel, Rate}
+use Rattle.fond_commands.specs.declared.words.Job.TheVariants.{Succ, Run, Check, Plan, Migrate, Simulate, Demo, Explain, Graph, Duel, Rate, Best}
 use Rattle.fond_tree.specs.Spelling.{IsReadAs}
 use Rattle.fond_succ.specs.Actions.{is_leaf_node}
 use Rattle.fond_commands.specs.Budgets.{IsBudget, IsLimit, IsSeed, IsSize}
@@ -21,6 +21,7 @@ word_of c.Explain = codes "explain"
 word_of c.Graph = codes "graph"
 word_of c.Duel = codes "duel"
 word_of c.Rate = codes "rate"
+word_of c.Best = codes "best"
 
 -- how many names of files follow the word of a command
 abbrev pub file_count : Command → ℕ
@@ -35,6 +36,7 @@ file_count c.Explain = 4
 file_count c.Graph = 4
 file_count c.Duel = 4
 file_count c.Rate = 4
+file_count c.Best = 3
 
 -- the command of a job
 abbrev pub command_of : Job → Command
@@ -49,6 +51,7 @@ command_of (Explain limit) = c.Explain
 command_of (Graph limit) = c.Graph
 command_of (Duel steps) = c.Duel
 command_of Rate = c.Rate
+command_of (Best budget) = c.Best
 
 -- the words after the names of files say what a job needs beside its files: an action, a budget, a number of states or of steps, a seed
 -- and a number of steps, a size, or nothing
@@ -64,6 +67,7 @@ Say (word ∷ []) (Explain limit) = IsLimit word limit
 Say (word ∷ []) (Graph limit) = IsBudget word limit
 Say (word ∷ []) (Duel steps) = IsBudget word steps
 Say [] Rate = ⊤
+Say (word ∷ []) (Best budget) = IsBudget word budget
 Say words job = ⊥
 
 -- a word is the name of a file: it is not empty

@@ -2,7 +2,7 @@
 
 ghost use Rattle.fond_commands.specs.Budgets.{IsBudget, IsLimit, IsSeed, IsSize, WritesUpTo};
 ghost use Rattle.fond_commands.specs.Words.{word_of, file_count, command_of, Say, SayNone, IsFileName, AskFor, AskForNone};
-ghost use Rattle.fond_commands.specs.declared.words.Command.TheVariants.{Succ as IsSucc, Plan as IsPlan, Simulate as IsSimulate, Demo as IsDemo, Explain as IsExplain, Graph as IsGraph, Duel as IsDuel};
+ghost use Rattle.fond_commands.specs.declared.words.Command.TheVariants.{Succ as IsSucc, Plan as IsPlan, Simulate as IsSimulate, Demo as IsDemo, Explain as IsExplain, Graph as IsGraph, Duel as IsDuel, Best as IsBest};
 ghost use Rattle.std.specs.Prelude.{◌≡◌, ◌≢◌, ◌<◌, [], ℕ, List, All, length, Decides, IfOk, MatchOption};
 
 use fond_succ::action::read_action;
@@ -26,6 +26,7 @@ pub enum Command {
     Graph,
     Duel,
     Rate,
+    Best,
 }
 
 /// The command of a word, and how many names of files follow the word.
@@ -44,6 +45,7 @@ fn row_of(word: &Word) -> Option<(Command, usize)>
         b"graph" => Some((Command::Graph, 4)),
         b"duel" => Some((Command::Duel, 4)),
         b"rate" => Some((Command::Rate, 4)),
+        b"best" => Some((Command::Best, 3)),
         _ => None,
     }
 }
@@ -69,6 +71,8 @@ pub enum Job {
     /// A number of steps from 1 to 1,000,000.
     Duel { steps: u32 },
     Rate,
+    /// A budget from 1 to 1,000,000.
+    Best { budget: u32 },
 }
 
 /// A job, and the names of its files.
@@ -215,6 +219,19 @@ fn read_duel(rest: &[Word]) -> Option<Job>
     }
 }
 
+/// The job of `best` for the words after the names of its files.
+fn read_best(rest: &[Word]) -> Option<Job>
+    ensures { MatchOption result (SayNone IsBest rest.now) (λ job. (command_of job ≡ IsBest) × Say rest.now job) }
+{
+    let [word] = rest else {
+        return None;
+    };
+    match read_budget(word) {
+        Some(budget) => Some(Job::Best { budget }),
+        None => None,
+    }
+}
+
 /// A job that needs nothing beside its files, if there are no words after their names.
 fn read_bare(rest: &[Word], job: Job) -> Option<Job>
     requires alone { (words : List (List ℕ)) → Say words job → words ≡ [] }
@@ -240,6 +257,7 @@ fn read_job(alloc: Global, command: Command, rest: &[Word]) -> Result<Option<Job
         Command::Graph => Ok(read_graph(rest)),
         Command::Duel => Ok(read_duel(rest)),
         Command::Rate => Ok(read_bare(rest, Job::Rate)),
+        Command::Best => Ok(read_best(rest)),
     }
 }
 

@@ -40,7 +40,7 @@ module _ (task : Task) (rules : List Rule) (items : List Item) (few : length ite
       omega (arith, some, sure.leads.counted)
 
   -- the numbers of a sure way are below 2^32
-  has_small : length rules < 2 ^ 32 → (item : Item) (way : Way) → IsSureWay task (firsts_of rules) items item.cube way → IsSmallWay way
+  pub has_small : length rules < 2 ^ 32 → (item : Item) (way : Way) → IsSureWay task (firsts_of rules) items item.cube way → IsSmallWay way
   has_small rules_few item Goal sure = tt
   has_small rules_few item (ByRule rule numbers) sure =
       let own = rule_of rules rule sure.on.first sure.on.numbered in

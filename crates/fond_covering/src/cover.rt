@@ -72,7 +72,7 @@ pub fn cover_by_states(
 }
 
 /// The cover of the items that are proposed for the rules, if they pass their test.
-fn find_cover(alloc: Global, t: &Task, rules: &Rules) -> Result<Option<Covering>, NoMemory>
+pub fn find_cover(alloc: Global, t: &Task, rules: &Rules) -> Result<Option<Covering>, NoMemory>
     requires { BelongAsRules t.now rules.now }
     ensures { IfOk result (λ found. IfSome found (λ covering. IsCovering t.now rules.now covering.items covering.start)) }
 {

@@ -17,6 +17,6 @@ mod full;
 mod nodes;
 mod opposed;
 mod propose;
-mod reason;
-mod regress;
+pub mod reason;
+pub mod regress;
 pub mod sketch;

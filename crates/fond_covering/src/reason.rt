@@ -54,7 +54,7 @@ pub(crate) fn is_decided(form: &Form, value: bool, state: &[u64], known: &[u64])
 
 /// Makes atoms of the state known that decide that the condition has this value, which it must have in the state. If one part
 /// is enough, the first one that has the value is taken, unless what is known decides already.
-pub(crate) fn explain(form: &Form, value: bool, state: &[u64], known: &mut [u64]) {
+pub fn explain(form: &Form, value: bool, state: &[u64], known: &mut [u64]) {
     if is_decided(form, value, state, known) {
         return;
     }

@@ -86,7 +86,7 @@ fn know_untouched(asked: &[u64], touched: &[u64], known: &mut [u64]) {
 /// Makes atoms of the state known such that the asked ones are known after the outcome, which leads to `next`. `touched` has
 /// no atom, before and afterwards. Takes time in the width of a state, and for each asked atom that an entry may change in the
 /// number of entries.
-pub(crate) fn regress(
+pub fn regress(
     outcome: &Outcome,
     state: &[u64],
     next: &[u64],

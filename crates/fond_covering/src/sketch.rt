@@ -81,7 +81,7 @@ pub struct Sketch {
 }
 
 /// Makes the words those of a state.
-fn read(words: &mut [u64], state: &State) {
+pub fn read(words: &mut [u64], state: &State) {
     for word in words.iter_mut() {
         *word = 0;
     }
@@ -93,13 +93,13 @@ fn read(words: &mut [u64], state: &State) {
 }
 
 /// The outcome of a step, if the task has it.
-fn outcome_of(t: &Task, step: PlanStep) -> Option<&Outcome> {
+pub fn outcome_of(t: &Task, step: PlanStep) -> Option<&Outcome> {
     let act = t.acts.as_slice().get(step.act as usize)?;
     act.outcomes.as_slice().get(step.outcome as usize)
 }
 
 /// The cube of the known atoms of a state.
-fn cube_of(alloc: Global, state: &[u64], known: &[u64], atoms: u32) -> Result<Cube, NoMemory> {
+pub fn cube_of(alloc: Global, state: &[u64], known: &[u64], atoms: u32) -> Result<Cube, NoMemory> {
     let mut cube = Cube::new(alloc, atoms)?;
     for atom in 0..atoms {
         if has(known, atom) && (atom as usize) < cube.len() {

@@ -9,7 +9,7 @@ mod below;
 pub mod draft;
 mod learn;
 pub mod make;
-mod order;
+pub mod order;
 pub mod plan;
 pub mod replay;
 pub mod source;

@@ -6,5 +6,6 @@ pub mod Grown
 pub mod Opened
 pub mod Choosing
 pub mod Runs
+pub mod Wholes
 pub mod Filed
 mod Worked

@@ -75,12 +75,12 @@ goals_more task states opened hopeful nodes goals after one long before here mor
     ap (λ gs. get_or gs node false) more ∙ ap (λ n. get_or (goals ++ one ∷ []) n false) (sym same) ∙ get_or-append_seam goals one [] false ∙ here state (ap (slice_get states) same_node ∙ is) ∙ ap (λ n. is_true state task.goal || (hopeful && nat_le opened n)) same_node)
     (cases_lt node nodes)
 
-hopeful_goals : (task : Task) (states : List (List Bool)) (opened : ℕ) (goals : List Bool) → AreGoals task states opened true goals → AreHopeful task states opened goals
+pub hopeful_goals : (task : Task) (states : List (List Bool)) (opened : ℕ) (goals : List Bool) → AreGoals task states opened true goals → AreHopeful task states opened goals
 hopeful_goals task states opened goals are node state is none =
     let both = or_parts (is_true state task.goal) (nat_le opened node) (sym (are node state is) ∙ none) in
     (leb-false opened node both.1, λ goal. false≢true (sym both.0 ∙ goal))
 
-sound_goals : (task : Task) (states : List (List Bool)) (opened : ℕ) (goals : List Bool) → AreGoals task states opened false goals → AreSound task states goals
+pub sound_goals : (task : Task) (states : List (List Bool)) (opened : ℕ) (goals : List Bool) → AreGoals task states opened false goals → AreSound task states goals
 sound_goals task states opened goals are node state is some = ⊎_elim (λ goal. goal) (λ wrong. absurd (false≢true wrong)) (or_cases (is_true state task.goal) false (sym (are node state is) ∙ some))
 
 -- if all states are opened, the two kinds of runs are one
@@ -92,7 +92,7 @@ run_opened task space fates all run = record {
   settled = run.settled;
 }
 
-fallen_of : (fate : Fate) → is_kept fate ≡ false → (round : ℕ) × (fate ≡ Fallen round)
+pub fallen_of : (fate : Fate) → is_kept fate ≡ false → (round : ℕ) × (fate ≡ Fallen round)
 fallen_of Open is = absurd (true≢false is)
 fallen_of Goal is = absurd (true≢false is)
 fallen_of (Ranked rank by) is = absurd (true≢false is)

@@ -35,7 +35,7 @@ module _ (task : Task) (from : List Bool) (states : List (List Bool)) (moves : L
         false≢true (sym (settled.settled node (omega (arith, whole, inside))) ∙ ap is_open is)
 
     -- the state of a node that has not fallen is a goal or has a choice
-    held : is_kept (fate_of fates node) ≡ true → IsHeld task choices state
+    pub held : is_kept (fate_of fates node) ≡ true → IsHeld task choices state
     held keeps = by (fate_of fates node) refl keeps
       where
         by : (fate : Fate) → fate_of fates node ≡ fate → is_kept fate ≡ true → IsHeld task choices state
@@ -110,7 +110,7 @@ module _ (task : Task) (from : List Bool) (states : List (List Bool)) (moves : L
         }
 
   -- each choice wins
-  wins : (choice : ChoiceView) → Contains choices choice → IsWinning task from choices choice
+  pub wins : (choice : ChoiceView) → Contains choices choice → IsWinning task from choices choice
   wins choice has =
       let ranked = ranks.sound choice has in
       let earned = settled.ranks_hold ranked.node choice.rank ranked.by ranked.ranked in

@@ -4,3 +4,4 @@ pub mod Openings
 pub mod Strata
 pub mod Runs
 pub mod Filings
+pub mod Wholes

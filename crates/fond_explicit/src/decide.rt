@@ -48,7 +48,7 @@ fn goals(alloc: Global, t: &Task, space: &Space, hopeful: bool) -> Result<Vec<bo
 }
 
 /// The fates of the states, if those that are not opened are won or if they are lost.
-fn run(
+pub(crate) fn run(
     alloc: Global,
     t: &Task,
     space: &Space,

@@ -17,3 +17,4 @@ mod recent;
 pub mod solve;
 mod space;
 mod strata;
+pub mod whole;

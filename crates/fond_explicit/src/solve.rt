@@ -10,7 +10,6 @@ use crate::answer::Solved;
 use crate::decide::decide;
 use crate::filing::index_of;
 use crate::opening::open_batch;
-use crate::recent::Recent;
 use crate::space::{Scratch, Space};
 use fond_fixpoint::moves::Moves;
 use fond_state::state::State;
@@ -20,7 +19,7 @@ use fond_text::fault::NoMemory;
 use std::alloc::Global;
 
 /// The space of one state, which is not opened.
-fn begin(alloc: Global, t: &Task, from: &State) -> Result<Space, NoMemory>
+pub(crate) fn begin(alloc: Global, t: &Task, from: &State) -> Result<Space, NoMemory>
     requires { length from.now ≡ length t.now.atoms }
     ensures space { IfOk result (IsSpaceFrom t.now from.now) }
     ensures one { IfOk result (λ space. length space.states ≡ 1) }
@@ -79,11 +78,7 @@ pub fn solve_by(
     if budget == 0 {
         return Ok(Solved::Spent);
     }
-    let mut scratch = Scratch {
-        next: from.copy(alloc)?,
-        targets: Vec::new(alloc),
-        recent: Recent::new(alloc)?,
-    };
+    let mut scratch = Scratch::new(alloc, from)?;
     let mut space = begin(alloc, t, from)?;
     open_all(alloc, t, index, &mut space, budget, &mut scratch)
 }

@@ -39,3 +39,4 @@ pub mod Known
 pub mod Reaching
 mod GroundMaps
 mod LiftedMaps
+mod Shortest

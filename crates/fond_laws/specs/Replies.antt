@@ -15,6 +15,9 @@ use Rattle.fond_succ.specs.Traces.{Trace}
 use Rattle.fond_state.specs.Traces.{Pick}
 use Rattle.fond_commands.specs.Certified.{DescribeGround, IsCertText, rules_of}
 use Rattle.fond_demo.specs.Demos.{demo_domain, demo_problem, demo_side}
+use Rattle.fond_best.specs.declared.rated.Rated.TheVariants.{Least}
+use Rattle.fond_commands.specs.Ratings.{AnswersRate, rated_reply}
+use Rattle.fond_tool.specs.Bests.{AnswersBest}
 use Rattle.fond_tool.specs.Demos.{demo_text, demo_texts}
 use Rattle.fond_tool.specs.Jobs.{JobReply, texts}
 use Rattle.fond_laws.specs.Stuck.{EndsStuck}
@@ -45,6 +48,11 @@ CorrectAreAccepted = (domain problem side : List ℕ) (task : LiftedTask) (game 
 abbrev pub PlannedAreAccepted : Type 0
 PlannedAreAccepted = (budget : ℕ) (domain problem side : List ℕ) (planned reply : Reply) → JobReply (Plan budget) (domain ∷ problem ∷ side ∷ []) planned → IsCertEnding planned.ending
     → JobReply Check (domain ∷ problem ∷ side ∷ planned.text ∷ []) reply → reply ≡ accepted_reply planned.ending
+
+-- in a ground task, the reply of `rate` to a certificate that `best` prints is its rank, and it shows that the rank is the least
+abbrev pub ShortestAreRated : Type 0
+ShortestAreRated = (task : LiftedTask) (game : Task) (budget : ℕ) (printed reply : Reply) → AnswersBest task game budget printed → printed.ending ≡ Done → AnswersRate printed.text task game reply
+    → (rank : ℕ) × (reply ≡ rated_reply game (Least rank))
 
 -- if three texts describe a task of which no more states than the budget are reachable, each reply of `plan` is a certificate: of
 -- a policy if the task is solvable, and a refusal if it is not

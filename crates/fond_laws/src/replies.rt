@@ -1,6 +1,6 @@
 //! The laws of replies, each the contract of a function with an empty body.
 
-ghost use Rattle.fond_laws.specs.Replies.{CorrectAreAccepted, CorrectPoliciesNeverStick, DemosAreAccepted, DuelsReachGoals, HopelessTasksAreRefused, MigratedAreAccepted, PlannedAreAccepted, SmallTasksAreDecided, SolutionsNeverStick};
+ghost use Rattle.fond_laws.specs.Replies.{CorrectAreAccepted, CorrectPoliciesNeverStick, DemosAreAccepted, DuelsReachGoals, HopelessTasksAreRefused, MigratedAreAccepted, PlannedAreAccepted, ShortestAreRated, SmallTasksAreDecided, SolutionsNeverStick};
 
 /// `check` accepts the text of each correct certificate of the task that its files describe.
 pub fn correct_are_accepted()
@@ -10,6 +10,11 @@ pub fn correct_are_accepted()
 /// `check` accepts each certificate that `plan` prints for the same files, and each such policy as lean.
 pub fn planned_are_accepted()
     ensures { PlannedAreAccepted }
+{}
+
+/// `rate` accepts each certificate of least rank that `best` prints, in the ground task for which it was printed.
+pub fn shortest_are_rated()
+    ensures { ShortestAreRated }
 {}
 
 /// `plan` decides each task of which no more states than its budget are reachable: it prints a policy if and only if the task is

@@ -42,7 +42,7 @@ module _ (task : Task) (rules : List Rule) (few : length rules < 2 ^ 32) where
   small_target number Goal within earlier = tt
   small_target number (ToRule other) within earlier = omega (arith, within, earlier, few)
 
-  small_targets : (number : ℕ) (cond : CubeView) (act : Act) (act_number : ℕ) (targets : Targets) → slice_get task.acts act_number ≡ Some act → number < length rules → AreMet task rules number cond act targets → AreSmallTargets targets
+  pub small_targets : (number : ℕ) (cond : CubeView) (act : Act) (act_number : ℕ) (targets : Targets) → slice_get task.acts act_number ≡ Some act → number < length rules → AreMet task rules number cond act targets → AreSmallTargets targets
   small_targets number cond act act_number (One outcome target) at within met =
       let outcomes = few_outcomes task act_number act at in
       let there : outcome < length act.outcomes = slice_get_within act.outcomes outcome met.2.0 met.2.1 in

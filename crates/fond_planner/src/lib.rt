@@ -11,7 +11,7 @@
 
 pub mod decide;
 mod find;
-mod lost;
+pub mod lost;
 mod planner;
 mod seek;
 mod sketched;

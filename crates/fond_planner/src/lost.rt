@@ -1,8 +1,10 @@
 //! Layers that the source proposes. Each is kept only if it is sure.
 
+ghost use Rattle.fond_explicit.specs.Answers.{AreStuck};
 ghost use Rattle.fond_planner.specs.Planners.{IsPlanner};
 ghost use Rattle.fond_task.specs.Certificates.{LiesInLayers};
-ghost use Rattle.std.specs.Prelude.{◌≡◌, true, length, IfOk, OnOk};
+ghost use Rattle.fond_task.specs.Layers.{AreSureLayers};
+ghost use Rattle.std.specs.Prelude.{◌≡◌, List, Bool, true, length, IfOk, OnOk};
 
 use crate::planner::Planner;
 use fond_draft::source::{Effort, Source};
@@ -32,6 +34,19 @@ fn count_cubes(layers: &Layers) -> usize {
         count = count.saturating_add(layers.get(number).len());
     }
     count
+}
+
+/// Sure layers in which each state lies that lies in these, whose states are lost: of few cubes where the source finds some. Takes the
+/// time of `Planner::learn_lost`.
+pub fn small_layers<S: Source>(alloc: Global, t: &Task, layers: Layers) -> Result<Layers, NoMemory>
+    requires { (from : List Bool) × (length from ≡ length t.now.atoms) × AreStuck t.now from layers }
+    ensures sure { IfOk result (AreSureLayers t.now) }
+    ensures has { IfOk result (λ small. (state : List Bool) → LiesInLayers state layers → LiesInLayers state small) }
+{
+    let mut planner = Planner::<S>::new(alloc, t, 0)?;
+    planner.learn_lost(alloc, t, &layers)?;
+    planner.draft.learn(alloc, t, layers)?;
+    Ok(planner.draft.layers)
 }
 
 impl<S: Source> Planner<S> {

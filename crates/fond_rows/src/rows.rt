@@ -25,14 +25,22 @@ fn list_of<'a>(table: &'a Table, key: &'static str) -> Result<&'a [Value], RowEr
     }
 }
 
-/// What `check` says of a certificate over the files of a row.
+/// What `check` says of a certificate over the files of a row, or the command that the row has as its judge.
 fn checked(alloc: Global, row: Row<'_>, cert: &[u8]) -> Result<Told, RowError> {
     let mut files = row.files(alloc)?;
     put_file(alloc, "cert", cert, &mut files)?;
-    Ok(ask_line(alloc, &CHECK, files, Outside::CALM)?)
+    let [check, domain, problem, side, last] = CHECK;
+    let words = [
+        row.text("judge").unwrap_or(check),
+        domain,
+        problem,
+        side,
+        last,
+    ];
+    Ok(ask_line(alloc, &words, files, Outside::CALM)?)
 }
 
-/// Whether `check` answers this verdict to a certificate over the files of a row.
+/// Whether the judge of the row answers this verdict to a certificate over the files of a row.
 fn is_checked(alloc: Global, row: Row<'_>, cert: &[u8], verdict: &str) -> Result<bool, RowError> {
     Ok(checked(alloc, row, cert)?.is(0, verdict.as_bytes()))
 }

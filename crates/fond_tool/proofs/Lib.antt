@@ -1,4 +1,5 @@
 mod Ends
 mod Planned
+mod Bested
 mod Shown
 mod Solvable

@@ -3,11 +3,12 @@ use Rattle.std.specs.Prelude.{ℕ, List, [], ◌∷◌}
 use Rattle.fond_front.specs.Texts.{Texts}
 use Rattle.fond_succ.specs.Actions.{names_of}
 use Rattle.fond_commands.specs.declared.words.Job.{Job}
-use Rattle.fond_commands.specs.declared.words.Job.TheVariants.{Succ, Run, Check, Plan, Migrate, Simulate, Demo, Explain, Graph, Duel, Rate}
+use Rattle.fond_commands.specs.declared.words.Job.TheVariants.{Succ, Run, Check, Plan, Migrate, Simulate, Demo, Explain, Graph, Duel, Rate, Best}
 use Rattle.fond_commands.specs.Checks.{CheckReply}
 use Rattle.fond_commands.specs.Drawn.{GraphReply}
 use Rattle.fond_commands.specs.Duels.{DuelReply}
 use Rattle.fond_commands.specs.Explanations.{ExplainReply}
+use Rattle.fond_tool.specs.Bests.{BestReply}
 use Rattle.fond_tool.specs.Demos.{DemoReply}
 use Rattle.fond_commands.specs.Migrations.{MigrateReply}
 use Rattle.fond_tool.specs.Plans.{PlanReply}
@@ -34,4 +35,5 @@ JobReply (Explain limit) (domain ∷ problem ∷ side ∷ table ∷ []) = Explai
 JobReply (Graph limit) (domain ∷ problem ∷ side ∷ cert ∷ []) = GraphReply (texts domain problem side) cert limit
 JobReply (Duel steps) (domain ∷ problem ∷ side ∷ cert ∷ []) = DuelReply (texts domain problem side) cert steps
 JobReply Rate (domain ∷ problem ∷ side ∷ cert ∷ []) = RateReply (texts domain problem side) cert
+JobReply (Best budget) (domain ∷ problem ∷ side ∷ []) = BestReply (texts domain problem side) budget
 JobReply job contents = λ reply. ⊥

@@ -1,3 +1,4 @@
+pub mod Bests
 pub mod Decided
 pub mod Demos
 pub mod Ends

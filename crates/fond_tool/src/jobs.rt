@@ -5,6 +5,7 @@ ghost use Rattle.fond_commands.specs.Rejections.{Rejects};
 ghost use Rattle.fond_commands.specs.Words.{command_of, file_count, Say};
 ghost use Rattle.std.specs.Prelude.{◌≡◌, ◌≤◌, [], ℕ, List, get_or, length, IfOk, IfErr};
 
+use crate::best::find_best;
 use crate::demo::demo;
 use crate::plan::plan;
 use fond_commands::answer::Answer;
@@ -69,5 +70,6 @@ pub fn do_job(alloc: Global, job: Job, contents: &[Content]) -> Result<Answer, R
         Job::Graph { limit } => draw(alloc, &texts(contents), contents[3].bytes(), limit),
         Job::Duel { steps } => duel(alloc, &texts(contents), contents[3].bytes(), steps),
         Job::Rate => rate_cert(alloc, &texts(contents), contents[3].bytes()),
+        Job::Best { budget } => find_best(alloc, &texts(contents), budget),
     }
 }

@@ -3,6 +3,7 @@
 //! replies mean is left to the layers below.
 #![tactic(auto)]
 
+mod best;
 mod demo;
 mod jobs;
 mod plan;

@@ -1,3 +1,0 @@
-pub mod Added
-pub mod Rounds
-pub mod Ends
