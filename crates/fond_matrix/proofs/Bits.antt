@@ -5,7 +5,7 @@ use Rattle.std.specs.Int.{bit_at, trailing_ones, trailing_zeros, w64}
 use Rattle.std.specs.Int.RustNames.{bit_or}
 use Rattle.std.proofs.lemmas.Nat.Bits.{bit_at_and, bit_at_or, bit_at_not, bit_at_ones, bit_at-lt, bit_at-zero, bit_at-trailing_ones, bit_at-trailing_zeros}
 use Rattle.std.proofs.lemmas.Nat.{and_le_l}
-use lib.Bits.{bit_and}
+use lib.Bits.{bit_and, or_comm, and_zero_r}
 use Rattle.std.proofs.lemmas.Bool.{cases_lt, cases_eq}
 use Rattle.std.proofs.lemmas.List.{get_or_append_left, get_or_past, get_or_push, length_push}
 use Rattle.fond_state.specs.Words.{is_set, truth_in}
@@ -70,6 +70,13 @@ and_false : (b : Bool) → (b && false) ≡ false
 and_false true = refl
 and_false false = refl
 
+-- a word that is 0 has no bit to add
+pub or_none : (a b : ℕ) → b ≡ 0 → a ≡ bit_or a b
+or_none a b none = sym (ap (bit_or a) none ∙ or_comm a 0)
+
+pub or_and_none : (a b c : ℕ) → c ≡ 0 → a ≡ bit_or a (bit_and b c)
+or_and_none a b c none = or_none a (bit_and b c) (ap (bit_and b) none ∙ and_zero_r b)
+
 -- the bit of a place from a word on
 word_there : (row : List ℕ) (start k : ℕ) → truth_in row (64 * start + k) ≡ is_set (slice_index_or row (start + k / 64) 0) (k % 64)
 word_there row start k =
@@ -77,21 +84,25 @@ word_there row start k =
     let place : (64 * start + k) % 64 ≡ k % 64 = omega arith in
     ap (λ i. is_set (slice_index_or row i 0) ((64 * start + k) % 64)) word ∙ ap (λ p. is_set (slice_index_or row (start + k / 64) 0) p) place
 
+-- words that are 0 have no bits
+pub no_bits_before : (row : List ℕ) (start skip : ℕ) → ((i : ℕ) → i < skip → slice_index_or row i 0 ≡ 0) → (k : ℕ) → k < 64 * (skip - start) → truth_in row (64 * start + k) ≡ false
+no_bits_before row start skip none k lt = word_there row start k ∙ ap (λ w. is_set w (k % 64)) (none (start + k / 64) (omega (arith, lt))) ∙ clear (k % 64)
+
 -- words to which those of others from a word on were added have the bits of both
-module _ (out old row : List ℕ) (start count end : ℕ) (is : end ≡ min count (length row - start))
+module _ (out old row : List ℕ) (start count end : ℕ) (le : min count (length row - start) ≤ end)
     (done : (k : ℕ) → k < end → slice_index_or out k 0 ≡ bit_or (slice_index_or old k 0) (slice_index_or row (start + k) 0))
     (rest : (k : ℕ) → end ≤ k → slice_index_or out k 0 ≡ slice_index_or old k 0) where
   pub bits_added : (k : ℕ) → k < 64 * count → truth_in out k ≡ (truth_in old k || truth_in row (64 * start + k))
   bits_added k lt = ⊎_elim
       (λ small. ap (λ w. is_set w (k % 64)) (done (k / 64) small) ∙ set_or (slice_index_or old (k / 64) 0) (slice_index_or row (start + k / 64) 0) (k % 64) ∙ ap (λ b. truth_in old k || b) (sym (word_there row start k)))
       (λ past.
-      let none : slice_index_or row (start + k / 64) 0 ≡ 0 = get_or_past row (start + k / 64) 0 (omega (arith, past, is, lt)) in
+      let none : slice_index_or row (start + k / 64) 0 ≡ 0 = get_or_past row (start + k / 64) 0 (omega (arith, past, le, lt)) in
       let absent : truth_in row (64 * start + k) ≡ false = word_there row start k ∙ ap (λ w. is_set w (k % 64)) none ∙ clear (k % 64) in
       ap (λ w. is_set w (k % 64)) (rest (k / 64) past) ∙ or_false (truth_in old k) ∙ ap (λ b. truth_in old k || b) (sym absent))
       (cases_lt (k / 64) end)
 
 -- words to which the bits that two others share from a word on were added have the bits of both
-module _ (out old once row : List ℕ) (start count end : ℕ) (is : end ≡ min count (length row - start))
+module _ (out old once row : List ℕ) (start count end : ℕ) (le : min count (length row - start) ≤ end)
     (done : (k : ℕ) → k < end → slice_index_or out k 0 ≡ bit_or (slice_index_or old k 0) (bit_and (slice_index_or once k 0) (slice_index_or row (start + k) 0)))
     (rest : (k : ℕ) → end ≤ k → slice_index_or out k 0 ≡ slice_index_or old k 0) where
   pub shared_added : (k : ℕ) → k < 64 * count → truth_in out k ≡ (truth_in old k || (truth_in once k && truth_in row (64 * start + k)))
@@ -100,7 +111,7 @@ module _ (out old once row : List ℕ) (start count end : ℕ) (is : end ≡ min
       ∙ set_or (slice_index_or old (k / 64) 0) (bit_and (slice_index_or once (k / 64) 0) (slice_index_or row (start + k / 64) 0)) (k % 64)
       ∙ ap (λ b. truth_in old k || b) (set_and (slice_index_or once (k / 64) 0) (slice_index_or row (start + k / 64) 0) (k % 64) ∙ ap (λ b. truth_in once k && b) (sym (word_there row start k))))
       (λ past.
-      let none : slice_index_or row (start + k / 64) 0 ≡ 0 = get_or_past row (start + k / 64) 0 (omega (arith, past, is, lt)) in
+      let none : slice_index_or row (start + k / 64) 0 ≡ 0 = get_or_past row (start + k / 64) 0 (omega (arith, past, le, lt)) in
       let absent : truth_in row (64 * start + k) ≡ false = word_there row start k ∙ ap (λ w. is_set w (k % 64)) none ∙ clear (k % 64) in
       ap (λ w. is_set w (k % 64)) (rest (k / 64) past) ∙ or_false (truth_in old k) ∙ ap (λ b. truth_in old k || b) (sym (ap (λ b. truth_in once k && b) absent ∙ and_false (truth_in once k))))
       (cases_lt (k / 64) end)

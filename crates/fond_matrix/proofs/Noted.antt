@@ -16,6 +16,7 @@ module _ (rows : List (List ℕ)) (cube : List (Option Bool)) (atom : ℕ) where
   noted_absent bound end rival none noted = (
     λ lt. absurd (false≢true (sym (no_clash rows cube rival atom none) ∙ (noted.0 lt).1.0)),
     λ _ k _ sole. false≢true (sym (no_clash rows cube k atom none) ∙ sole.0),
+    noted.2,
   )
 
   module _ (start count place : ℕ) (twice : List ℕ) (within : place ≤ 64 * count)
@@ -36,6 +37,7 @@ module _ (rows : List (List ℕ)) (cube : List (Option Bool)) (atom : ℕ) where
           let same : 64 * start + (k - 64 * start) ≡ k = omega (arith, from) in
           subst (λ n. ¬ IsSole rows cube atom n) same (not_sole (k - 64 * start) (omega (arith, lt, le, from))))
           (cases_lt k (64 * start)),
+      noted.2,
     )
 
     -- the first rival of the words
@@ -47,4 +49,5 @@ module _ (rows : List (List ℕ)) (cube : List (Option Bool)) (atom : ℕ) where
           let sole : IsSole rows cube atom (64 * start + place) = (parts.0, λ pair. false≢true (sym none ∙ (two place inside).1 pair)) in
           (lt, subst (λ n. IsSole rows cube atom n) (sym is) sole),
       λ large. absurd (omega (arith, large, lt, small)),
+      omega (arith, lt, small),
     )

@@ -1,5 +1,5 @@
 -- Cubes that a cube contradicts by one literal alone.
-use Rattle.std.specs.Prelude.{◌≡◌, ◌<◌, ◌-◌, ◌^◌, ℕ, List, Bool, true, Option, length, slice_index_or}
+use Rattle.std.specs.Prelude.{◌≡◌, ◌<◌, ◌≤◌, ◌-◌, ◌^◌, ℕ, List, Bool, true, Option, length, slice_index_or}
 use Rattle.fond_state.specs.Cubes.{Contradicts, without_literal}
 use Rattle.fond_matrix.specs.Rows.{clashes}
 use Rattle.fond_matrix.specs.Below.{TwoBelow}
@@ -12,9 +12,10 @@ IsRival cube atom other = Contradicts cube other × (¬ Contradicts (without_lit
 abbrev pub IsSole : List (List ℕ) → List (Option Bool) → ℕ → ℕ → Type 0
 IsSole rows cube atom number = (clashes rows cube number atom ≡ true) × (¬ TwoBelow (clashes rows cube number) (length cube))
 
--- a number below a bound is that of a cube that a cube contradicts by its literal of an atom alone; it is 2^32 - 1 if there is none
+-- a number below a bound is that of a cube that a cube contradicts by its literal of an atom alone; it is 2^32 - 1 if there is none, and
+-- never larger
 abbrev pub IsNoted : List (List ℕ) → List (Option Bool) → ℕ → ℕ → ℕ → Type 0
-IsNoted rows cube bound atom rival = (rival < 2 ^ 32 - 1 → (rival < bound) × IsSole rows cube atom rival) × (rival ≡ 2 ^ 32 - 1 → (k : ℕ) → k < bound → ¬ IsSole rows cube atom k)
+IsNoted rows cube bound atom rival = (rival < 2 ^ 32 - 1 → (rival < bound) × IsSole rows cube atom rival) × (rival ≡ 2 ^ 32 - 1 → (k : ℕ) → k < bound → ¬ IsSole rows cube atom k) × (rival ≤ 2 ^ 32 - 1)
 
 -- the number that is noted for an atom
 abbrev pub rival_at : List ℕ → ℕ → ℕ

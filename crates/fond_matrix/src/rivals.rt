@@ -44,7 +44,8 @@ impl Rows {
         if rivals[atom as usize] != NONE {
             return;
         }
-        let number = 64 * start + first_not_in(self.row(atom, !sign), start, twice, count);
+        let (skip, row) = self.row(atom, !sign);
+        let number = 64 * start + first_not_in(skip, row, start, twice, count);
         if number >= end {
             return;
         }

@@ -1,6 +1,6 @@
 //! Sets of numbers as bits.
 
-ghost use Rattle.std.specs.Prelude.{◌≡◌, ◌<◌, ◌≤◌, ◌/◌, ℕ, [], true, length, OnOk};
+ghost use Rattle.std.specs.Prelude.{◌≡◌, ◌<◌, ◌≤◌, ◌/◌, ℕ, [], true, length, slice_index_or, OnOk};
 ghost use Rattle.fond_state.specs.Words.{is_set, truth_in};
 
 use fond_text::fault::NoMemory;
@@ -11,6 +11,8 @@ use std::marker::Model;
 #[derive(Drop)]
 pub(crate) struct Row {
     words: Vec<u64>,
+    /// The words before this one are 0, so a search need not look at them. It is the largest number as long as the set is empty.
+    first: usize,
 }
 
 impl Model for Row {
@@ -18,7 +20,11 @@ impl Model for Row {
 
     ghost Value = { List ℕ };
 
+    ghost use Rattle.std.specs.Prelude.{◌≡◌, ◌<◌, slice_index_or};
+
     ghost view = { λ r. r.words.items };
+
+    ghost invariant = { λ r. (i : ℕ) → i < r.first → slice_index_or r.words.items i 0 ≡ 0 };
 }
 
 /// The word with this bit set.
@@ -37,14 +43,16 @@ impl Row {
     {
         Row {
             words: Vec::new(alloc),
+            first: usize::MAX,
         }
     }
 
-    /// The words.
-    pub(crate) fn words(&self) -> &[u64]
-        ensures { result.now ≡ self.now }
+    /// How many words at the beginning are 0, or more if all are; and the words.
+    pub(crate) fn words(&self) -> (usize, &[u64])
+        ensures skip { (i : ℕ) → i < result.0 → slice_index_or self.now i 0 ≡ 0 }
+        ensures words { result.1.now ≡ self.now }
     {
-        self.words.as_slice()
+        (self.first, self.words.as_slice())
     }
 
     /// Makes the words at least this many. The set stays the same, also if memory runs out.
@@ -69,5 +77,6 @@ impl Row {
         let i = (number / 64) as usize;
         let word = self.words[i];
         self.words[i] = with_bit(word, number % 64);
+        self.first = self.first.min(i);
     }
 }

@@ -1,6 +1,6 @@
 //! For each literal a set of numbers.
 
-ghost use Rattle.std.specs.Prelude.{◌≡◌, ◌<◌, ◌≤◌, ◌/◌, ℕ, Bool, true, false, length, OnOk};
+ghost use Rattle.std.specs.Prelude.{◌≡◌, ◌<◌, ◌≤◌, ◌/◌, ℕ, Bool, true, false, length, slice_index_or, OnOk};
 ghost use Rattle.fond_matrix.specs.Rows.{row_number, row_at, has};
 
 use crate::row::Row;
@@ -44,13 +44,14 @@ impl Rows {
         }
     }
 
-    /// The words of a literal's set.
-    pub(crate) fn row(&self, atom: u32, sign: bool) -> &[u64]
-        ensures { result.now ≡ row_at self.now sign atom }
+    /// How many words of a literal's set at the beginning are 0, or more if all are; and the words.
+    pub(crate) fn row(&self, atom: u32, sign: bool) -> (usize, &[u64])
+        ensures skip { (i : ℕ) → i < result.0 → slice_index_or (row_at self.now sign atom) i 0 ≡ 0 }
+        ensures words { result.1.now ≡ row_at self.now sign atom }
     {
         match self.rows.get(place(atom, sign)) {
             Some(row) => row.words(),
-            None => &[],
+            None => (0, &[]),
         }
     }
 

@@ -15,8 +15,8 @@ pub(crate) const BLOCK: usize = 64;
 
 impl Rows {
     /// Finds, of some words of 64 cubes each, those that a cube contradicts, and those that it contradicts by two literals. The words
-    /// are clear before. Takes time in the number of the words times that of the cube's literals, and in the number of the cube's own
-    /// words.
+    /// are clear before. Takes time in the number of the words between the first and the last cube that has the opposite of a literal,
+    /// for each of the cube's literals, and in the number of the cube's own words.
     pub(crate) fn gather(
         &self,
         nothing: &Cube,
@@ -36,7 +36,8 @@ impl Rows {
     {
         let mut from = 0;
         while let Some((atom, sign)) = next_literal(cube, nothing, from) {
-            add_twice(once, twice, count, self.row(atom, !sign), start);
+            let (skip, row) = self.row(atom, !sign);
+            add_twice(once, twice, count, skip, row, start);
             from = atom + 1;
         }
     }

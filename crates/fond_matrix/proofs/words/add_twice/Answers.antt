@@ -1,6 +1,16 @@
-use Rattle.std.proofs.Common.{arith}
-use Rattle.fond_matrix.proofs.Bits.{bits_added, shared_added}
+use Rattle.std.proofs.Common.{◌+◌, refl, arith}
+use Rattle.std.specs.Prelude.{slice_index_or}
+use Rattle.fond_matrix.proofs.Bits.{or_none, or_and_none, bits_added, shared_added}
 use Rattle.fond_matrix.proofs.words.add_twice.Goals as goal
+
+pub loop-i-init : goal.loop-i-init
+loop-i-init c = record {
+  long = (refl, refl);
+  done = λ k lt. or_none (slice_index_or c.args.once.now k 0) (slice_index_or c.args.row.now (c.args.start + k) 0) (c.requires.skip (c.args.start + k) (omega (arith, lt, c.saturating_sub-i.ensures)));
+  also = λ k lt. or_and_none (slice_index_or c.args.twice.now k 0) (slice_index_or c.args.once.now k 0) (slice_index_or c.args.row.now (c.args.start + k) 0) (c.requires.skip (c.args.start + k) (omega (arith, lt, c.saturating_sub-i.ensures)));
+  rest = λ k _. refl;
+  left = λ k _. refl;
+}
 
 pub returns-clause-once : goal.returns-clause-once
 returns-clause-once c = bits_added c.loop-i.once c.args.once.now c.args.row.now c.args.start c.args.count c.loop-i.i

@@ -7,7 +7,7 @@ use Rattle.fond_matrix.proofs.rows.Rows.gather.Goals as goal
 pub loop-atom-preserved : goal.loop-atom-preserved
 loop-atom-preserved c =
     let next = c.in-Some.ensures.some in
-    let clash = λ (k : ℕ). clash_row c.args.self.now c.args.cube.now (64 * c.args.start + k) c.row.result.now c.in-Some.atom c.in-Some.sign next.is c.row.ensures in
+    let clash = λ (k : ℕ). clash_row c.args.self.now c.args.cube.now (64 * c.args.start + k) c.row-skip.result.1.now c.in-Some.atom c.in-Some.sign next.is c.row-skip.ensures.words in
     record {
       within = omega (arith, next.within);
       long = (c.add_twice.ensures.long.0 ∙ c.loop-atom.invariant.long.0, c.add_twice.ensures.long.1 ∙ c.loop-atom.invariant.long.1);

@@ -11,7 +11,7 @@ use Rattle.fond_matrix.proofs.rows.Rows.note.Goals as goal
 pub returns-then-number-end-clause-noted : goal.returns-then-number-end-clause-noted
 returns-then-number-end-clause-noted c =
     let rows = c.args.self.now in
-    let clash = λ (k : ℕ). clash_row rows c.args.cube.now (64 * c.args.start + k) c.row.result.now c.args.atom c.in-Some.sign (sym c.literal.ensures ∙ c.in-Some.is) c.row.ensures in
+    let clash = λ (k : ℕ). clash_row rows c.args.cube.now (64 * c.args.start + k) c.row-skip.result.1.now c.args.atom c.in-Some.sign (sym c.literal.ensures ∙ c.in-Some.is) c.row-skip.ensures.words in
     let before : (k : ℕ) → k < c.first_not_in.result → (clashes rows c.args.cube.now (64 * c.args.start + k) c.args.atom && not (truth_in c.args.twice.now k)) ≡ false
     = λ k lt. sym (ap (λ b. b && not (truth_in c.args.twice.now k)) (clash k)) ∙ c.first_not_in.ensures.before k lt in
     noted_none rows c.args.cube.now c.args.atom c.args.start c.args.count c.first_not_in.result c.args.twice.now c.first_not_in.ensures.within c.requires.twice before
@@ -22,7 +22,7 @@ returns-clause-noted c =
     let rows = c.args.self.now in
     let place = c.first_not_in.result in
     let number = 64 * c.args.start + place in
-    let clash = λ (k : ℕ). clash_row rows c.args.cube.now (64 * c.args.start + k) c.row.result.now c.args.atom c.in-Some.sign (sym c.literal.ensures ∙ c.in-Some.is) c.row.ensures in
+    let clash = λ (k : ℕ). clash_row rows c.args.cube.now (64 * c.args.start + k) c.row-skip.result.1.now c.args.atom c.in-Some.sign (sym c.literal.ensures ∙ c.in-Some.is) c.row-skip.ensures.words in
     let before : (k : ℕ) → k < place → (clashes rows c.args.cube.now (64 * c.args.start + k) c.args.atom && not (truth_in c.args.twice.now k)) ≡ false
     = λ k lt. sym (ap (λ b. b && not (truth_in c.args.twice.now k)) (clash k)) ∙ c.first_not_in.ensures.before k lt in
     let inside : place < 64 * c.args.count = omega (arith, c.if-number-end.false, c.requires.end.1) in
