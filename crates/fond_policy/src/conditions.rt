@@ -13,17 +13,26 @@ use fond_text::fault::NoMemory;
 use std::alloc::Global;
 use std::marker::Model;
 
-/// The matrix has the conditions of so many first rules at most. It answers in time that depends on the number of rules and literals alone.
-/// The index, which answers for the later rules, is faster if the cube has the literals of its branches, and otherwise far slower.
+/// The matrix has the conditions of so many first rules at most.
 const MANY: u32 = 1 << 16;
 
-/// The conditions of the first rules.
+/// The matrix has the conditions of so many first rules at most for each atom. It looks at a word for each literal of a cube and each 64
+/// conditions, whatever these are, so with this bound at no more words than the square of the number of atoms. The index answers for the
+/// later rules. It is far slower if the cube lacks the literals of its branches; but where there are so many rules for each atom, their
+/// conditions have literals of the same few atoms, and so has a cube that contradicts them.
+const MANY_EACH: u32 = 64;
+
+/// The conditions of the first rules, as many as the matrix may have.
 fn matrix_of(alloc: Global, rules: &Rules) -> Result<Matrix, NoMemory>
     ensures { IfOk result (λ matrix. AreFirstConditions matrix (firsts_of rules.now)) }
 {
     let mut matrix = Matrix::new(alloc)?;
     for number in 0..rules.len().min(MANY) {
-        matrix.push(&rules.get(number).cond)?;
+        let cond = &rules.get(number).cond;
+        if (number / MANY_EACH) as usize >= cond.len() {
+            return Ok(matrix);
+        }
+        matrix.push(cond)?;
     }
     Ok(matrix)
 }
