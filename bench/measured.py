@@ -164,14 +164,19 @@ def figures(ran):
     return {"seconds": f"{ran.seconds:.3f}", "megabytes": f"{ran.megabytes:.1f}"}
 
 
-def decide(program, files, folder, limits, budget=BUDGET):
-    """Plans a task, and checks the certificate that comes of it, which is the file `cert` of the folder. Returns a row without its
-    name."""
+def judge_of(command, status):
+    """The command that tests the certificate of another one that ended with this status."""
+    return "rate" if command == "best" and status == 0 else "check"
+
+
+def decide(program, files, folder, limits, budget=BUDGET, command="plan"):
+    """Plans a task by a command, and tests the certificate that comes of it, which is the file `cert` of the folder. Returns a row
+    without its name."""
     cert, said = os.path.join(folder, "cert"), os.path.join(folder, "verdict")
-    planned = run([program, "plan", *files, str(budget)], folder, cert, limits)
+    planned = run([program, command, *files, str(budget)], folder, cert, limits)
     status = "" if planned.status is None else str(planned.status)
     row = dict.fromkeys(COLUMNS, "") | {"status": status, "answer": answer(planned, cert), **figures(planned)}
     if planned.status in (0, 1):
-        checked = run([program, "check", *files, "cert"], folder, said, limits)
+        checked = run([program, judge_of(command, planned.status), *files, "cert"], folder, said, limits)
         row |= parts(cert) | {"check": verdict(checked, said)} | {f"check_{key}": value for key, value in figures(checked).items()}
     return row

@@ -14,7 +14,7 @@ use crate::rows::Rows;
 use fond_laws::policies::policies_are_characterized;
 use fond_laws::replies::{
     correct_are_accepted, correct_policies_never_stick, demos_are_accepted, duels_reach_goals,
-    hopeless_tasks_are_refused, migrated_are_accepted, planned_are_accepted,
+    hopeless_tasks_are_refused, migrated_are_accepted, planned_are_accepted, shortest_are_rated,
     small_tasks_are_decided, solutions_never_stick,
 };
 use std::{env, fs};
@@ -24,6 +24,7 @@ use toml::Table;
 fn call_laws() {
     correct_are_accepted();
     planned_are_accepted();
+    shortest_are_rated();
     small_tasks_are_decided();
     hopeless_tasks_are_refused();
     migrated_are_accepted();

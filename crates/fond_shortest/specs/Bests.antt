@@ -20,7 +20,7 @@ pub record IsGoodBest (task : Task) (cert : BestCert) : Type 0 where
   pub rank : ℕ
   pub right : IsRightBest task cert rank
 
--- a certificate that was tried is one of the task, correct with some rank
+-- a certificate that was tried and found right belongs to the task and is correct; nothing is said of one that was not
 abbrev pub IsRightTry : Task → Tried → Type 0
 IsRightTry task (Right cert) = IsGoodBest task cert
 IsRightTry task (Wrong bounds) = ⊤

@@ -2,9 +2,11 @@
 
 ghost use Rattle.fond_explicit.specs.Answers.{AreStuck};
 ghost use Rattle.fond_explicit.specs.Wholes.{IsSplit};
+ghost use Rattle.fond_layers.specs.Over.{AreOver};
 ghost use Rattle.fond_planner.specs.Decisions.{IsGoodCert};
 ghost use Rattle.fond_shortest.specs.Bests.{IsBestAnswer, IsGoodBest, IsRefusal, IsRightTry};
 ghost use Rattle.fond_task.specs.Certificates.{LiesInLayers};
+ghost use Rattle.fond_task.specs.Layers.{AreSureLayers};
 ghost use Rattle.std.specs.Prelude.{◌≡◌, ◌≤◌, length, Decides, IfOk, IsTrue};
 
 use crate::answer::BestAnswer;
@@ -32,7 +34,8 @@ enum Tried {
 
 /// Whether the initial state lies in a layer.
 fn is_lost(t: &Task, layers: &Layers) -> bool
-    ensures { IsTrue result → LiesInLayers t.now.init layers.now }
+    ensures over { IsTrue result → AreOver (length t.now.atoms) layers.now }
+    ensures lies { IsTrue result → LiesInLayers t.now.init layers.now }
 {
     layers.are_over(t.atoms.len()) && layers.dead(&t.init).is_some()
 }
@@ -44,6 +47,18 @@ fn is_refusal(cert: &Cert) -> bool
     matches!(cert, Cert::Refusal { .. })
 }
 
+/// The refusal of sure layers, in one of which the initial state lies.
+fn refusal_by(t: &Task, layers: Layers) -> Cert
+    requires sure { AreSureLayers t.now layers }
+    requires over { AreOver (length t.now.atoms) layers }
+    requires lies { LiesInLayers t.now.init layers }
+    ensures good { IsGoodCert t.now result }
+    ensures refusal { IsRefusal result }
+{
+    layers.read_sizes();
+    Cert::Refusal { layers }
+}
+
 /// A refusal: of few cubes if the planner finds one, or else these layers.
 fn refusal<S: Source>(
     alloc: Global,
@@ -53,6 +68,7 @@ fn refusal<S: Source>(
 ) -> Result<Cert, NoMemory>
     requires few { budget ≤ 1000000 }
     requires stuck { AreStuck t.now t.now.init layers }
+    requires over { AreOver (length t.now.atoms) layers }
     requires lies { LiesInLayers t.now.init layers }
     ensures good { IfOk result (IsGoodCert t.now) }
     ensures refusal { IfOk result IsRefusal }
@@ -62,8 +78,7 @@ fn refusal<S: Source>(
             return Ok(cert);
         }
     }
-    layers.read_sizes();
-    Ok(Cert::Refusal { layers })
+    Ok(refusal_by(t, layers))
 }
 
 /// A proposal with these bounds, if the checker accepts it.

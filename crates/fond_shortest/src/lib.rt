@@ -1,7 +1,7 @@
 //! Finding policies of least rank. All reachable states are opened; then a certificate is proposed, without a promise, and is taken only
 //! if the checker of such certificates accepts it. What is promised of an answer is in specs/Bests.antt.
 //!
-//! `board` has the states from which a policy wins, with their least ranks. `far` proposes far lists, and `making` rules in the order of
+//! `board` has the states from which a policy wins, with their least ranks. `far` proposes far lists, by cubes in a `pile` for each, and `making` rules in the order of
 //! these ranks; `ranks` ranks the items that cover what the rules reach. `best` is what others call.
 #![tactic(auto)]
 
@@ -10,6 +10,7 @@ pub mod best;
 mod board;
 mod far;
 mod making;
+mod pad;
 mod pile;
 mod propose;
 mod ranks;

@@ -6,7 +6,7 @@
 //! is of no greater rank than the state needs; so the policy has the least rank, if it reaches no lost state.
 
 ghost use Rattle.fond_rules.specs.Select.{AreOver};
-ghost use Rattle.std.specs.Prelude.{◌≤◌, length, IfOk, IfSome, OnOk};
+ghost use Rattle.std.specs.Prelude.{◌≤◌, length, OnOk};
 
 use crate::board::{Board, Side};
 use fond_deadends::cubes::{CubeSet, Masks, masks_of};
@@ -184,7 +184,7 @@ impl<'a> Making<'a> {
         requires { AreOver (length t.now.atoms) rules.now }
     {
         let act = self.board.act(state);
-        if act as usize >= t.acts.len() || state as usize >= self.choices.len() {
+        if act as usize >= t.acts.len() {
             return Ok(None);
         }
         let found = if t.acts.get(act as usize).unfair {
@@ -195,7 +195,11 @@ impl<'a> Making<'a> {
         let Some((targets, rank)) = found else {
             return Ok(None);
         };
-        let here = &self.choices.get(state as usize).state;
+        let choices = self.choices;
+        if state as usize >= choices.len() {
+            return Ok(None);
+        }
+        let here = &choices.get(state as usize).state;
         let Some(rule) = sure_rule_in(alloc, t, rules, here, act, targets, self.shortens)? else {
             return Ok(None);
         };
@@ -359,9 +363,7 @@ pub(crate) fn rules_from(
     choices: &Choices,
     start: u32,
     shortens: bool,
-) -> Result<Option<Rules>, NoMemory>
-    ensures { IfOk result (λ found. IfSome found (λ rules. AreOver (length t.now.atoms) rules)) }
-{
+) -> Result<Option<Rules>, NoMemory> {
     let mut making = Making::new(alloc, board, choices, shortens)?;
     let mut rules = Rules::new(alloc);
     for _ in 0..u32::MAX {

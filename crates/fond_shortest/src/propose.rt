@@ -84,11 +84,13 @@ fn cube_by(alloc: Global, board: &Board, masks: &[Mask]) -> Result<Cube, NoMemor
     cube_of(alloc, &part.value, &part.care, board.moves.atoms)
 }
 
-/// The cubes of a pile.
+/// The cubes of a pile that are needed.
 fn layer_of(alloc: Global, board: &Board, pile: &Pile) -> Result<Layer, NoMemory> {
     let mut layer = Layer::new(alloc);
     for number in 0..pile.len() {
-        layer.push(cube_by(alloc, board, pile.masks(number))?)?;
+        if pile.needed.get(number as usize) == Some(&true) {
+            layer.push(cube_by(alloc, board, pile.masks(number))?)?;
+        }
     }
     Ok(layer)
 }
@@ -156,10 +158,10 @@ fn cover_of(alloc: Global, t: &Task, rules: &Rules) -> Result<Option<Covering>, 
     }
     let pairs = Pairs::new(alloc);
     let mut pad = Pad::new(alloc, t.atoms.len() as u32)?;
-    if first_bad_rule(t, &pairs, rules, &mut pad).is_some() {
-        return Ok(None);
+    match first_bad_rule(t, &pairs, rules, &mut pad) {
+        Some(_) => Ok(None),
+        None => cover_by_states(alloc, t, &pairs, rules),
     }
-    cover_by_states(alloc, t, &pairs, rules)
 }
 
 /// Proposes a certificate with these bounds, with short conditions of rules if so wanted.

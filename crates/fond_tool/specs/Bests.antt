@@ -26,8 +26,8 @@ best_reply ground budget (Refused cert) = record { text = spelling ground cert; 
 best_reply ground budget Undecided = undecided_reply budget
 
 -- what `best` replies in a task with this ground task: the text of a correct certificate of least rank, whose rules are a solution of
--- this rank, and then no solution that is a finite map has a smaller one; the text of a correct refusal, and the task has no solution;
--- or `undecided`, and more states are reachable than the budget
+-- this rank, and then no solution that is a finite map has a smaller one, and the task is solvable; the text of a correct refusal, and
+-- no finite map is a solution; or `undecided`, and more states are reachable than the budget
 pub data AnswersBest (task : LiftedTask) (ground : Task) (budget : ℕ) : Reply → Type 0 where
   least : (cert : BestCert) (rank : ℕ) (text : List ℕ) → IsBestText ground cert text → IsRightBest ground cert rank → IsBest (game task) (rules_policy task ground cert.rules) rank → IsSolvable task
       → AnswersBest task ground budget (record { text = text; ending = Done })

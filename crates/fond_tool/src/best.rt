@@ -43,8 +43,9 @@ fn shortest(alloc: Global, files: TaskFiles, budget: u32) -> Result<Answer, NoMe
     requires ground { IsGroundOf files.task.value files.game.value }
     ensures { IfOk result (AnswersBest files.task.value files.game.value budget) }
 {
-    let found = best::<Guide>(alloc, &files.game, budget)?;
-    answer_of(alloc, &files.game, budget, found)
+    let game: &Task = &files.game;
+    let found = best::<Guide>(alloc, game, budget)?;
+    answer_of(alloc, game, budget, found)
 }
 
 /// The answer to `best`: a policy of least rank with the proof that none has a smaller one, that there is no policy, or that more states
