@@ -66,7 +66,7 @@ class Rows(unittest.TestCase):
                 self.assertEqual(text, row.get("text", "").encode())
                 return
             write(folder, "cert", text)
-            status, verdict = program.run("check", "domain", "problem", "side", "cert", cwd=folder)
+            status, verdict = program.run(row.get("judge", "check"), "domain", "problem", "side", "cert", cwd=folder)
             self.assertEqual((status, verdict), (0, row.get("checked").encode()))
 
     def run_file(self, name):
