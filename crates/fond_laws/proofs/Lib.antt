@@ -23,6 +23,7 @@ pub mod SameParts
 pub mod SameStates
 pub mod SameTexts
 pub mod SameTask
+pub mod SameBest
 pub mod SameGroundConditions
 pub mod SameGroundAtoms
 pub mod SameGroundEffects

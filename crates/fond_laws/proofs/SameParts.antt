@@ -44,7 +44,7 @@ module _ (act twin : Act) (same : IsSameAct act twin) (cube : CubeView) where
 
 module _ (game other : Task) (same : IsSameTask game other) where
   -- a cube of a layer is sure in the same task
-  same_cube : (earlier : List (List CubeView)) (layer : List CubeView) (cube : CubeView) → IsSureCube game earlier layer cube → IsSureCube other earlier layer cube
+  pub same_cube : (earlier : List (List CubeView)) (layer : List CubeView) (cube : CubeView) → IsSureCube game earlier layer cube → IsSureCube other earlier layer cube
   same_cube earlier layer cube sure = record {
     no_goal = sym (same.goal cube) ∙ sure.no_goal;
     forced = λ twin has open_.

@@ -78,7 +78,7 @@ same_ground task game other one two = record {
 
 module _ (game other : Task) (same : IsSameTask game other) where
   -- layers belong to the same task
-  same_as_layers : (layers : List (List CubeView)) → BelongAsLayers game layers → BelongAsLayers other layers
+  pub same_as_layers : (layers : List (List CubeView)) → BelongAsLayers game layers → BelongAsLayers other layers
   same_as_layers layers belong = record {
     few = belong.few;
     few_cubes = belong.few_cubes;
@@ -93,7 +93,7 @@ module _ (game other : Task) (same : IsSameTask game other) where
   }
 
   -- rules belong to the same task
-  same_as_rules : (rules : List Rule) → BelongAsRules game rules → BelongAsRules other rules
+  pub same_as_rules : (rules : List Rule) → BelongAsRules game rules → BelongAsRules other rules
   same_as_rules rules belong = record {
     few = belong.few;
     belong = record {
@@ -104,7 +104,7 @@ module _ (game other : Task) (same : IsSameTask game other) where
   }
 
   -- items belong to the same task
-  same_as_items : (items : List Item) → BelongAsItems game items → BelongAsItems other items
+  pub same_as_items : (items : List Item) → BelongAsItems game items → BelongAsItems other items
   same_as_items items belong = record {
     few = belong.few;
     over = subst (λ (n : ℕ). AreItemsOver n items) (ap length same.atoms) belong.over;

@@ -1,5 +1,5 @@
 -- Certificates are spelled alike in tasks that are the same.
-use Rattle.std.proofs.Common.{◌≡◌, ℕ, zero, suc, List, [], ◌∷◌, ◌++◌, Option, map, slice_get, flat_map, refl, ap, ◌∙◌}
+use Rattle.std.proofs.Common.{◌≡◌, ℕ, zero, suc, List, [], ◌∷◌, ◌++◌, Option, map, slice_get, flat_map, zip, refl, ap, ◌∙◌}
 use Rattle.std.specs.List.{AllZip, enumerate_from, filter_map}
 use Rattle.std.specs.Option.{option_map, option_map_or}
 use Rattle.fond_state.specs.Cubes.{literal_at}
@@ -12,6 +12,7 @@ use Rattle.fond_task.specs.declared.rule.Targets.{Targets}
 use Rattle.fond_task.specs.declared.rule.Targets.TheVariants.{One, All}
 use Rattle.fond_policy.specs.declared.item.Way.{Way}
 use Rattle.fond_policy.specs.declared.item.Way.TheVariants.{Goal as ToGoal, Rule as ByRule}
+use Rattle.fond_policy.specs.declared.best.BestCert.{BestCert}
 use Rattle.fond_policy.specs.declared.cert.Cert.{Cert}
 use Rattle.fond_policy.specs.declared.cert.Cert.TheVariants.{Policy, Refusal, Covered}
 use Rattle.fond_form.specs.declared.table.LineKind.{LineKind}
@@ -19,7 +20,7 @@ use Rattle.fond_form.specs.declared.table.LineKind.TheVariants as k
 use Rattle.fond_form.specs.declared.table.Sort.{Sort}
 use Rattle.fond_form.specs.declared.table.Sort.TheVariants.{Nothing, Action, Short, Long, Target, Shorts, Targets as SeveralTargets, Literals}
 use Rattle.fond_form.specs.Forms.{Field, form}
-use Rattle.fond_cert.specs.Spellings.{act_leaves, action_leaves, Meaning, spelled, Meanings, all_spelled, spelled_line, layer_lines, pair_line, targets_line, way_line, cert_lines, lines_text, spelling, written_cube, written_literal}
+use Rattle.fond_cert.specs.Spellings.{act_leaves, action_leaves, Meaning, spelled, Meanings, all_spelled, spelled_line, layer_lines, far_lines, pair_line, targets_line, way_line, ranked_way_line, best_lines, cert_lines, lines_text, best_spelling, spelling, written_cube, written_literal}
 use Rattle.fond_laws.specs.Alike.{IsSameAct, IsSameTask}
 
 module _ (labels : Labels) where
@@ -77,10 +78,33 @@ module _ (game other : Task) (leaves : act_leaves game ≡ act_leaves other) (cu
       ++ (map (λ rule. same_targets rule.act rule.targets rule.cond i) rules
       ++ (map (λ item. same_way item.way item.cube i) items ++ (same_line k.Start (start, tt) i ∷ same_line k.End (tt, tt) i ∷ [])))))
 
--- a certificate is spelled alike in the same task
-pub same_spelling : (game other : Task) → IsSameTask game other → (cert : Cert) → spelling game cert ≡ spelling other cert
-same_spelling game other same cert =
-    let leaves : act_leaves game ≡ act_leaves other = λ i number.
-    ((λ j. leaves_of (same.labels j) (slice_get game.acts number)) ∙ same_leaves other.labels game.acts other.acts same.acts number) i in
-    let cubes : written_cube game ≡ written_cube other = λ i cube. filter_map (λ item. option_map (written_literal (same.labels i) item.1) (literal_at cube item.0)) (enumerate_from 0 (same.atoms i)) in
-    ap lines_text (same_lines game other leaves cubes cert)
+  same_list : (list : List CubeView) → far_lines game list ≡ far_lines other list
+  same_list list = λ i. same_line k.Far (tt, tt) i ∷ map (λ cube. same_line k.Cube (cube, tt) i) list
+
+  same_ranked : (way : Way) (cube : CubeView) (rank : ℕ) → ranked_way_line game way cube rank ≡ ranked_way_line other way cube rank
+  same_ranked ToGoal cube rank = same_line k.GoalItem (cube, tt)
+  same_ranked (ByRule rule numbers) cube rank = same_line k.RankedItem (rule, (rank, (numbers, (cube, tt))))
+
+  same_best_lines : (cert : BestCert) → best_lines game cert ≡ best_lines other cert
+  same_best_lines cert = λ i.
+      same_line k.BestHeader (tt, tt) i ∷ (flat_map (λ layer. same_layer layer i) cert.layers
+      ++ (map (λ rule. same_targets rule.act rule.targets rule.cond i) cert.rules
+      ++ (map (λ entry. same_ranked entry.0.way entry.0.cube entry.1 i) (zip cert.items cert.ranks)
+      ++ (same_line k.Start (cert.start, tt) i ∷ (flat_map (λ list. same_list list i) cert.far ++ (same_line k.End (tt, tt) i ∷ []))))))
+
+module _ (game other : Task) (same : IsSameTask game other) where
+  -- each number has the same action's leaves in the same task
+  leaves_alike : act_leaves game ≡ act_leaves other
+  leaves_alike = λ i number. ((λ j. leaves_of (same.labels j) (slice_get game.acts number)) ∙ same_leaves other.labels game.acts other.acts same.acts number) i
+
+  -- a cube is written alike in the same task
+  cubes_alike : written_cube game ≡ written_cube other
+  cubes_alike = λ i cube. filter_map (λ item. option_map (written_literal (same.labels i) item.1) (literal_at cube item.0)) (enumerate_from 0 (same.atoms i))
+
+  -- a certificate is spelled alike in the same task
+  pub same_spelling : (cert : Cert) → spelling game cert ≡ spelling other cert
+  same_spelling cert = ap lines_text (same_lines game other leaves_alike cubes_alike cert)
+
+  -- and so is one of least rank
+  pub same_best_spelling : (cert : BestCert) → best_spelling game cert ≡ best_spelling other cert
+  same_best_spelling cert = ap lines_text (same_best_lines game other leaves_alike cubes_alike cert)

@@ -1,5 +1,6 @@
 -- The laws of replies.
-use Rattle.std.specs.Prelude.{◌≡◌, ◌⊎◌, ◌≤◌, ℕ, List, [], ◌∷◌, ⊤, codes, length}
+use Rattle.std.specs.Prelude.{◌≡◌, ◌⊎◌, ◌≤◌, ℕ, List, [], ◌∷◌, ◌++◌, ⊤, codes, length}
+use Rattle.std.specs.Fmt.{decimal}
 use Rattle.fond_ast.specs.declared.task.LiftedTask.{LiftedTask}
 use Rattle.fond_task.specs.declared.task.Task.{Task}
 use Rattle.fond_policy.specs.declared.cert.Cert.{Cert}
@@ -15,15 +16,12 @@ use Rattle.fond_succ.specs.Traces.{Trace}
 use Rattle.fond_state.specs.Traces.{Pick}
 use Rattle.fond_commands.specs.Certified.{DescribeGround, IsCertText, rules_of}
 use Rattle.fond_demo.specs.Demos.{demo_domain, demo_problem, demo_side}
-use Rattle.fond_best.specs.declared.rated.Rated.TheVariants.{Least}
-use Rattle.fond_commands.specs.Ratings.{AnswersRate, rated_reply}
-use Rattle.fond_tool.specs.Bests.{AnswersBest}
 use Rattle.fond_tool.specs.Demos.{demo_text, demo_texts}
 use Rattle.fond_tool.specs.Jobs.{JobReply, texts}
 use Rattle.fond_laws.specs.Stuck.{EndsStuck}
 use Rattle.fond_commands.specs.Tasks.{Describe}
 use Rattle.fond_commands.specs.Replies.{Reply, line_reply}
-use Rattle.fond_commands.specs.declared.words.Job.TheVariants.{Check, Demo, Duel, Migrate, Plan}
+use Rattle.fond_commands.specs.declared.words.Job.TheVariants.{Best, Check, Demo, Duel, Migrate, Plan, Rate}
 use Rattle.fond_commands.specs.declared.status.Ending.{Ending}
 use Rattle.fond_commands.specs.declared.status.Ending.TheVariants.{Done, Unsolvable}
 
@@ -49,10 +47,14 @@ abbrev pub PlannedAreAccepted : Type 0
 PlannedAreAccepted = (budget : ℕ) (domain problem side : List ℕ) (planned reply : Reply) → JobReply (Plan budget) (domain ∷ problem ∷ side ∷ []) planned → IsCertEnding planned.ending
     → JobReply Check (domain ∷ problem ∷ side ∷ planned.text ∷ []) reply → reply ≡ accepted_reply planned.ending
 
--- in a ground task, the reply of `rate` to a certificate that `best` prints is its rank, and it shows that the rank is the least
+-- the reply of `rate` to a correct certificate of this least rank
+abbrev pub least_reply : ℕ → Reply
+least_reply rank = line_reply (codes "least rank " ++ decimal rank) Done
+
+-- for the same three files, the reply of `rate` to a certificate of least rank that `best` prints is its rank
 abbrev pub ShortestAreRated : Type 0
-ShortestAreRated = (task : LiftedTask) (game : Task) (budget : ℕ) (printed reply : Reply) → AnswersBest task game budget printed → printed.ending ≡ Done → AnswersRate printed.text task game reply
-    → (rank : ℕ) × (reply ≡ rated_reply game (Least rank))
+ShortestAreRated = (budget : ℕ) (domain problem side : List ℕ) (printed reply : Reply) → JobReply (Best budget) (domain ∷ problem ∷ side ∷ []) printed → printed.ending ≡ Done
+    → JobReply Rate (domain ∷ problem ∷ side ∷ printed.text ∷ []) reply → (rank : ℕ) × (reply ≡ least_reply rank)
 
 -- if three texts describe a task of which no more states than the budget are reachable, each reply of `plan` is a certificate: of
 -- a policy if the task is solvable, and a refusal if it is not

@@ -12,7 +12,7 @@ pub fn planned_are_accepted()
     ensures { PlannedAreAccepted }
 {}
 
-/// `rate` accepts each certificate of least rank that `best` prints, in the ground task for which it was printed.
+/// `rate` accepts each certificate of least rank that `best` prints for the same files.
 pub fn shortest_are_rated()
     ensures { ShortestAreRated }
 {}
