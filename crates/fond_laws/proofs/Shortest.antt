@@ -50,7 +50,7 @@ module _ (texts : Texts) (task : LiftedTask) (game : Task) (described : Describe
   rated_of spelled right reply (TaskReply.answered other another same also answers) =
       let alike : IsSameTask game another = same_ground other game another (ground_of_same task other game (texts_have_one_task_lem texts task other described.0.0 also.0.0) described.1) also.1 in
       rated_so other another cert rank text (same_best_belongs game another alike cert spelled.0, spelled.1, spelled.2 ∙ same_best_spelling game another alike cert)
-          (same_best game another alike cert rank right) reply answers
+      (same_best game another alike cert rank right) reply answers
 
 shortest_of : (texts : Texts) (budget : ℕ) (printed reply : Reply) → BestReply texts budget printed → printed.ending ≡ Done → RateReply texts printed.text reply → (rank : ℕ) × (reply ≡ least_reply rank)
 shortest_of texts budget printed reply (TaskReply.refused fault refusal) done rates = absurd cc
