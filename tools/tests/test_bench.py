@@ -153,6 +153,31 @@ class Runs(Folder):
         self.assertEqual([row["answer"] for row in rows_of(self.path("tables/plan.csv"))], ["policy", "policy"])
         self.assertEqual(bench("compare", *words, "doors 12"), table)
 
+    def agree(self, new, *words):
+        """The lines that bench/agree prints for the example coin, and its status."""
+        words = [os.path.join(top, "bench", "agree"), measured.built_program(), new, *words, os.path.join(top, "examples", "coin")]
+        ran = subprocess.run(words, stdout=subprocess.PIPE, check=False, text=True)
+        return ran.stdout.splitlines(), ran.returncode
+
+    def test_agree(self):
+        lines, status = self.agree(measured.built_program(), "--least", "5")
+        self.assertEqual((len(lines), status), (4, 0))
+        self.assertRegex(lines[-1], r"^9 runs are the same, 0 differ, 0 were stopped; OLD took \d+\.\d\d s and NEW \d+\.\d\d s$")
+        lines, _ = self.agree(measured.built_program(), "--least", "0")
+        commands = ["plan", "check", "migrate", "simulate", "duel", "graph", "explain", "best", "rate"]
+        self.assertEqual([line.split(" | ")[1:4] for line in lines[2:-2]], [[f"`{it}`", "same", "0"] for it in commands])
+
+    def test_agree_with_another_program(self):
+        """A program that prints other bytes, one that ends with another status, and one that does not end."""
+        cases = 'check) echo "accepted policy  " ;; graph) "$program" "$@"; exit 7 ;; rate) exec sleep 9 ;; *) exec "$program" "$@" ;;'
+        text = f"#!/bin/sh\nprogram='{measured.built_program()}'\ncase $1 in {cases} esac\n"
+        lines, status = self.agree(self.path("other", text, is_program=True), "--seconds", "0.1", "--least", "5")
+        rows = [line.split(" | ")[1:5] for line in lines[2:-2]]
+        self.assertEqual([row[:3] for row in rows], [["`check`", "differs", "0"], ["`graph`", "differs", "0, 7"],
+                                                     ["`rate`", "stopped", "0, out of time"]])
+        self.assertTrue(lines[-1].startswith("6 runs are the same, 2 differ, 1 were stopped;"))
+        self.assertEqual(status, 1)
+
 
 @unittest.skipUnless(has_matplotlib(), "no matplotlib")
 class Figures(Folder):
