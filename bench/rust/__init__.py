@@ -1,0 +1,1 @@
+"""Turns the program into Rust and compiles it without proofs. bench/unproved is the command."""
