@@ -14,18 +14,20 @@ import platform
 import re
 import shutil
 import subprocess
-import time
 
 from rust.scan import Unclear
 from rust.translate import rust_of
 
 PROGRAM = "dualfond"
 SHIMS = os.path.join(os.path.dirname(os.path.abspath(__file__)), "shims")
+# The crates of shims/ that use others of them.
 SHIMS_USE = {"indexmap": {"rstd"}, "rand_pcg": {"rand_core"}}
 # Nothing tests arithmetic or unwinds, as in the program that the kit builds; the kit builds for x86-64-v2.
 FLAGS = ["--edition=2024", "-Copt-level=3", "-Ccodegen-units=1", "-Cpanic=abort", "-Cdebug-assertions=off", "-Coverflow-checks=off",
          "-Cstrip=debuginfo", "--cap-lints=allow"]
 FLAGS += ["-Ctarget-cpu=x86-64-v2"] if platform.machine() == "x86_64" else []
+# The first rustc with the edition 2024.
+LEAST_RUSTC = (1, 85)
 
 
 class Fault(Exception):
@@ -40,6 +42,22 @@ class Crate:
     files: tuple
     folder: str
     uses: frozenset
+
+
+def rustc_version():
+    """What rustc tells of itself, or nothing if there is none that runs."""
+    try:
+        return subprocess.run(["rustc", "-vV"], stdout=subprocess.PIPE, stderr=subprocess.DEVNULL, check=True, text=True).stdout
+    except (OSError, subprocess.CalledProcessError):
+        return ""
+
+
+def lacking():
+    """What the machine lacks for a build, in words, or nothing."""
+    found = re.search(r"^release: (\d+)\.(\d+)", rustc_version(), re.M)
+    if not found:
+        return "no rustc"
+    return "" if (int(found[1]), int(found[2])) >= LEAST_RUSTC else "no rustc with the edition 2024"
 
 
 def content(path):
@@ -135,8 +153,8 @@ class Build:
 
     def __init__(self, crates, folder, flags, is_whole):
         self.crates, self.folder, self.flags, self.is_whole = crates, folder, [*FLAGS, *flags], is_whole
-        self.version = subprocess.run(["rustc", "-vV"], stdout=subprocess.PIPE, check=True, text=True).stdout
-        self.digests, self.seconds = {}, {}
+        self.version = rustc_version()
+        self.digests, self.compiled = {}, []
 
     def path(self, name):
         return os.path.join(self.folder, name if name == PROGRAM else f"lib{name}.rlib")
@@ -167,7 +185,6 @@ class Build:
         """Compiles a crate whose used crates are compiled, unless nothing changed since it was compiled."""
         crate, mark = self.crates[name], self.path(name) + ".made-of"
         self.digests[name] = digest = self.digest_of_input(crate)
-        since = time.monotonic()
         if content(mark).decode() != digest or not os.path.exists(self.path(name)):
             # (a build that is cut off leaves no mark)
             write_changed(mark, "")
@@ -175,7 +192,7 @@ class Build:
             if ran.returncode:
                 raise Fault(f"{name} is not compiled\n{ran.stderr}")
             write_changed(mark, digest)
-            self.seconds[name] = time.monotonic() - since
+            self.compiled.append(name)
 
     def make_all(self, jobs):
         """Compiles all crates, so many at a time. Those with the longest chain above them come first."""
@@ -203,9 +220,9 @@ def locked(folder):
 
 
 def build(top, program, state, flags=(), is_whole=False, jobs=1):
-    """Builds the program of a checkout into the file `program`. Returns the seconds of each crate that was compiled."""
-    if not shutil.which("rustc"):
-        raise Fault("there is no rustc")
+    """Builds the program of a checkout into the file `program`. Returns the names of the crates that were compiled."""
+    if lacking():
+        raise Fault(lacking())
     top = os.path.realpath(top)
     key = hashlib.sha256("\0".join([top, *flags]).encode()).hexdigest()[:12]
     folder = os.path.join(state, f"{os.path.basename(top)}-{key}")
@@ -216,4 +233,4 @@ def build(top, program, state, flags=(), is_whole=False, jobs=1):
         work.make_all(jobs)
         shutil.copy2(work.path(PROGRAM), f"{program}.new")
         os.replace(f"{program}.new", program)
-    return work.seconds
+    return work.compiled

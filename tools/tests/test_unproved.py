@@ -2,7 +2,6 @@
 """Checks how bench/unproved turns sources into Rust, and, if there is rustc, that the program which it builds answers as the proved one."""
 import os
 import re
-import shutil
 import subprocess
 import sys
 import tempfile
@@ -14,7 +13,7 @@ top = os.path.dirname(os.path.dirname(here))
 sys.path[:0] = [os.path.dirname(here), here, os.path.join(top, "bench")]
 from checkout import change, copy  # noqa: E402
 import measured  # noqa: E402
-from rust.build import PROGRAM, SHIMS, crates_of, listed_uses  # noqa: E402
+from rust.build import PROGRAM, SHIMS, crates_of, lacking, listed_uses  # noqa: E402
 from rust.scan import Unclear  # noqa: E402
 from rust.translate import PRELUDE, rust_of  # noqa: E402
 
@@ -142,58 +141,54 @@ def source_of(path, folder):
     return os.path.join(top, os.path.relpath(path, folder)[:-3] + ".rt")
 
 
-@unittest.skipUnless(shutil.which("rustc"), "no rustc")
+@unittest.skipIf(lacking(), lacking())
 class Builds(unittest.TestCase):
-    """One build of a copy of the checkout, with little optimization, and what a change adds to it."""
+    """One build of a copy of the checkout, with little optimization, and what changes add to it."""
 
-    def setUp(self):
+    @classmethod
+    def setUpClass(cls):
         held = tempfile.TemporaryDirectory()
-        self.addCleanup(held.cleanup)
-        self.folder = held.name
-        self.top = os.path.join(self.folder, "copy")
-        os.mkdir(self.top)
-        copy(top, self.top, ("bench", "crates", "crates.txt"))
+        cls.addClassCleanup(held.cleanup)
+        cls.state, cls.program = os.path.join(held.name, "state"), os.path.join(held.name, "program")
+        cls.top = os.path.join(held.name, "copy")
+        os.mkdir(cls.top)
+        copy(top, cls.top, ("bench", "crates", "crates.txt"))
+        cls.first = cls.build()
 
-    def build(self):
-        """Builds the copy: its status, how many crates were compiled, and what was said."""
-        words = ["--jobs", "2", f"--flags={FLAGS}", "--folder", os.path.join(self.folder, "state"), self.program]
-        ran = subprocess.run([os.path.join(self.top, "bench", "unproved"), *words], capture_output=True, text=True, check=False)
+    @classmethod
+    def build(cls):
+        """Builds the copy: the status, how many crates were compiled, and what was said."""
+        words = [os.path.join(cls.top, "bench", "unproved"), "--jobs", "2", f"--flags={FLAGS}", "--folder", cls.state, cls.program]
+        ran = subprocess.run(words, capture_output=True, text=True, check=False)
         count = re.match(r"unproved: (\d+) crates compiled", ran.stderr)
         return ran.returncode, int(count[1]) if count else None, ran.stdout + ran.stderr
 
-    @property
-    def program(self):
-        return os.path.join(self.folder, "program")
-
-    def test_build(self):
-        status, count, said = self.build()
+    def test_first_build(self):
+        status, count, said = self.first
         self.assertEqual(status, 0, said)
         self.assertGreater(count, 40)
-        self.answers_as_the_program()
-        self.assertEqual(self.build()[:2], (0, 0))
-        change(os.path.join(self.top, LOW), b"ghost use Rattle.std.specs.Prelude.{None};")
-        self.assertEqual(self.build()[:2], (0, 0))
-        change(os.path.join(self.top, MAIN), b"// more\n")
-        self.assertEqual(self.build()[:2], (0, 1))
-        self.fault_is_named()
 
-    def answers_as_the_program(self):
-        if not program():
-            self.skipTest("no program")
+    @unittest.skipUnless(program(), "no program to compare with")
+    def test_answers(self):
         folders = [os.path.join(top, "examples", name) for name in EXAMPLES]
         words = [os.path.join(top, "bench", "agree"), program(), self.program, *folders]
         ran = subprocess.run(words, stdout=subprocess.PIPE, text=True, check=False)
         self.assertEqual(ran.returncode, 0, ran.stdout)
         self.assertRegex(ran.stdout, r"\n\d\d runs are the same, 0 differ, 0 were stopped;")
 
-    def fault_is_named(self):
-        """A fault is reported with the line of the source, and the last program stays."""
-        with open(os.path.join(top, MAIN), encoding="utf-8") as file:
-            lines = file.read().count("\n")
-        change(os.path.join(self.top, MAIN), b"fn f() -> u8\n    ensures { \xe2\x8a\xa4 }\n{ true }\n")
-        status, count, said = self.build()
-        self.assertEqual((status, count), (1, None))
-        self.assertIn(f"crates/dualfond/src/main.rs:{lines + 4}:", said)
+    def test_changes(self):
+        """Contracts compile nothing, code compiles its crate, and a fault is named by its line and leaves the last program."""
+        self.assertEqual(self.build()[:2], (0, 0))
+        change(os.path.join(self.top, LOW), b"ghost use Rattle.std.specs.Prelude.{None};")
+        self.assertEqual(self.build()[:2], (0, 0))
+        change(os.path.join(self.top, MAIN), b"// more\n")
+        self.assertEqual(self.build()[:2], (0, 1))
+        change(os.path.join(self.top, MAIN), "fn f() -> u8\n    ensures { ⊤ }\n{ true }\n".encode())
+        with open(os.path.join(self.top, MAIN), "rb") as file:
+            last = file.read().count(b"\n")
+        status, _, said = self.build()
+        self.assertEqual(status, 1)
+        self.assertIn(f"crates/dualfond/src/main.rs:{last}:", said)
         self.assertTrue(os.path.exists(self.program))
 
 
