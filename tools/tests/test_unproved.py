@@ -1,5 +1,5 @@
 #!/usr/bin/env python3
-"""Checks how bench/unproved turns sources into Rust, and, if there is rustc, that the program which it builds answers as the proved one."""
+"""Checks how bench/unproved turns sources into Rust and, if there is rustc, that the program that it builds answers as the proved one."""
 import os
 import re
 import subprocess
@@ -82,12 +82,14 @@ impl<R> Shelf<R> {}
 
     def test_attributes(self):
         self.check("#![tactic(auto)]\n#[derive(Drop)]\nstruct A;", "struct A;")
-        self.check("#[derive(Clone, Copy, Drop, Error)]\nenum E {\n    #[error(\"no ] here\")]\n    B,\n}", "#[derive(Clone, Copy)] enum E { B, }")
+        self.check("#[derive(Clone, Copy, Drop, Error)]\nenum E {\n    #[error(\"no ] here\")]\n    B,\n}",
+                   "#[derive(Clone, Copy)] enum E { B, }")
         self.check("#[cycle(a, b)]\n#[inline]\nfn f() {}", "#[inline] fn f() {}")
 
     def test_literals_and_comments(self):
         """What they hold is neither stripped nor counted."""
-        for source in ('let a = "ensures { ghost use x; \\" std::mem";', "let b = ['{', '\\'', '\"', b'}', '\\u{7b}'];", 'let c = r#"std::"{"#;',
+        for source in ('let a = "ensures { ghost use x; \\" std::mem";', "let b = ['{', '\\'', '\"', b'}', '\\u{7b}'];",
+                       'let c = r#"std::"{"#;',
                        "/* ghost use /* std:: */ } */ fn f<'a>(x: &'a str) {}", "// vec![in alloc; 0; 1]\nlet d = b\"#[derive(Drop)]\";"):
             self.check(source, source)
         self.check("fn f() ensures { ⊤ } { g(\"{\", '}') /* } */ }", "fn f() { g(\"{\", '}') /* } */ }")

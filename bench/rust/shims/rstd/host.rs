@@ -31,7 +31,8 @@ pub mod rt {
     }
 
     impl HostRuntime {
-        /// The standard output, without the buffer that Rust's has: the program writes in large pieces.
+        /// The standard output, without the buffer that Rust's has: the program writes in large pieces. If it is closed, Rust opens
+        /// /dev/null in its place, so that nothing is written and no write fails.
         pub fn stdout(&self) -> File {
             let descriptor = std::io::stdout().as_fd().try_clone_to_owned();
             File::from(descriptor.expect("a descriptor for the standard output"))
@@ -40,10 +41,14 @@ pub mod rt {
 }
 
 pub mod env {
-    use std::env::{ArgsOs, args_os};
+    use std::env::args_os;
+    use std::io;
+    use std::vec;
 
-    pub fn args<R>(_rt: &R) -> std::io::Result<ArgsOs> {
-        Ok(args_os())
+    /// The words of the command line, or an error if one of them is not UTF-8.
+    pub fn args<R>(_rt: &R) -> io::Result<vec::IntoIter<String>> {
+        let words: Result<Vec<String>, _> = args_os().map(|word| word.into_string()).collect();
+        Ok(words.map_err(|_| io::Error::from(io::ErrorKind::InvalidData))?.into_iter())
     }
 }
 

@@ -34,6 +34,4 @@ pub mod prelude {
     pub use crate::rt::{AllocGlobal, HostRuntime};
     pub use crate::rvec;
     pub use crate::vec::{CollectIn as _, Vec};
-    // `as_bytes` of a word of the command line
-    pub use std::os::unix::ffi::OsStrExt as _;
 }
