@@ -67,6 +67,7 @@ class Translation:
         self.copy(end, "\n" * self.text.count("\n", self.at, end))
 
     def step(self):
+        """Passes what begins here: a literal, marks, a word with what it begins, or an attribute."""
         text, at = self.text, self.at
         plain, word, end = PLAIN.match(text, at), WORD.match(text, at), end_of_literal(text, at)
         if end > at:

@@ -20,7 +20,10 @@ fn output(state: u64) -> u32 {
 
 impl Lcg64Xsh32 {
     fn step(&mut self) {
-        self.state = self.state.wrapping_mul(MULTIPLIER).wrapping_add(self.increment);
+        self.state = self
+            .state
+            .wrapping_mul(MULTIPLIER)
+            .wrapping_add(self.increment);
     }
 }
 
@@ -33,7 +36,10 @@ impl SeedableRng for Lcg64Xsh32 {
         }
         let seed = u128::from_le_bytes(seed);
         let increment = (seed >> 64) as u64 | 1;
-        let mut generator = Lcg64Xsh32 { state: (seed as u64).wrapping_add(increment), increment };
+        let mut generator = Lcg64Xsh32 {
+            state: (seed as u64).wrapping_add(increment),
+            increment,
+        };
         generator.step();
         generator
     }

@@ -48,7 +48,9 @@ pub mod env {
     /// The words of the command line, or an error if one of them is not UTF-8.
     pub fn args<R>(_rt: &R) -> io::Result<vec::IntoIter<String>> {
         let words: Result<Vec<String>, _> = args_os().map(|word| word.into_string()).collect();
-        Ok(words.map_err(|_| io::Error::from(io::ErrorKind::InvalidData))?.into_iter())
+        Ok(words
+            .map_err(|_| io::Error::from(io::ErrorKind::InvalidData))?
+            .into_iter())
     }
 }
 

@@ -17,7 +17,10 @@ struct Slot {
     upper: u32,
 }
 
-const EMPTY: Slot = Slot { number: u32::MAX, upper: 0 };
+const EMPTY: Slot = Slot {
+    number: u32::MAX,
+    upper: 0,
+};
 const LEAST_SLOTS: usize = 16;
 
 /// The table has a power of two of slots, of which half are empty at least.
@@ -40,7 +43,10 @@ fn upper(hash: u64) -> u32 {
 
 impl<K: Eq + Hash, V> IndexMap<K, V> {
     pub fn new(_alloc: Global) -> IndexMap<K, V> {
-        IndexMap { entries: Vec::new(), slots: Vec::new() }
+        IndexMap {
+            entries: Vec::new(),
+            slots: Vec::new(),
+        }
     }
 
     #[inline]
@@ -78,20 +84,33 @@ impl<K: Eq + Hash, V> IndexMap<K, V> {
             while self.slots[at].number != EMPTY.number {
                 at = (at + 1) & mask;
             }
-            self.slots[at] = Slot { number: number as u32, upper: upper(entry.hash) };
+            self.slots[at] = Slot {
+                number: number as u32,
+                upper: upper(entry.hash),
+            };
         }
     }
 
-    pub fn insert_full(&mut self, key: K, value: V) -> Result<(usize, Option<V>), AllocFailed<(K, V)>> {
+    pub fn insert_full(
+        &mut self,
+        key: K,
+        value: V,
+    ) -> Result<(usize, Option<V>), AllocFailed<(K, V)>> {
         if self.slots.len() < 2 * (self.entries.len() + 1) {
             self.grow();
         }
         let hash = hash_of(&key);
         match self.find(hash, &key) {
-            Ok(number) => Ok((number, Some(std::mem::replace(&mut self.entries[number].value, value)))),
+            Ok(number) => Ok((
+                number,
+                Some(std::mem::replace(&mut self.entries[number].value, value)),
+            )),
             Err(at) => {
                 let number = self.entries.len();
-                self.slots[at] = Slot { number: number as u32, upper: upper(hash) };
+                self.slots[at] = Slot {
+                    number: number as u32,
+                    upper: upper(hash),
+                };
                 self.entries.push(Entry { hash, key, value });
                 Ok((number, None))
             }
@@ -110,6 +129,8 @@ impl<K: Eq + Hash, V> IndexMap<K, V> {
 
     #[inline]
     pub fn get_index(&self, number: usize) -> Option<(&K, &V)> {
-        self.entries.get(number).map(|entry| (&entry.key, &entry.value))
+        self.entries
+            .get(number)
+            .map(|entry| (&entry.key, &entry.value))
     }
 }

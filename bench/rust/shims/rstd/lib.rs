@@ -9,7 +9,10 @@ pub mod index_map;
 pub mod vec;
 
 pub use host::{env, fs, io, rt};
-pub use std::{array, borrow, char, cmp, convert, default, fmt, hash, iter, mem, num, ops, option, process, result, slice, str};
+pub use std::{
+    array, borrow, char, cmp, convert, default, fmt, hash, iter, mem, num, ops, option, process,
+    result, slice, str,
+};
 
 pub mod marker {
     pub use std::marker::*;
