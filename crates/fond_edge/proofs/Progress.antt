@@ -1,20 +1,16 @@
 -- How far a loop has come that writes bytes to a sink.
-use Rattle.std.proofs.Common.{◌≡◌, ℕ, ◌-◌, ◌<◌, ◌≤◌, List, ◌++◌, length, take, drop, Option, None, Some, ap, sym, ◌∙◌, arith, append_assoc, length-append}
+use Rattle.std.proofs.Common.{◌≡◌, ℕ, ◌-◌, ◌<◌, ◌≤◌, List, ◌++◌, length, take, drop, Option, ap, sym, ◌∙◌, arith, append_assoc, length-append}
 use Rattle.std.proofs.Math.Seq.{take-append_seam}
 use Rattle.std.proofs.lemmas.Grind.{common_steps}
 use Rattle.std.proofs.lemmas.List.{take-append-drop}
 use Rattle.fond_edge.specs.Written.{Appended, AppendedPart}
+use Rattle.fond_edge.specs.WriterLaws.{appended_twice}
 
 -- a front of the bytes was appended, and the rest is left
 pub record Progress (old now : Option (List ℕ)) (bytes rest : List ℕ) : Type 0 where
   pub front : List ℕ
   pub split : front ++ rest ≡ bytes
   pub appended : Appended old now front
-
-pub appended_twice : (old now new : Option (List ℕ)) (front more : List ℕ) → Appended old now front → Appended now new more → Appended old new (front ++ more)
-appended_twice None now new front more first second = rw first at second
-appended_twice (Some written) now new front more first second =
-    (rw first at second) ∙ ap Some (append_assoc written front more)
 
 pub progress_more : (old now new : Option (List ℕ)) (bytes rest : List ℕ) (n : ℕ) → n ≤ length rest → Progress old now bytes rest → Appended now new (take n rest) → Progress old new bytes (take (length rest - n) (drop n rest))
 progress_more old now new bytes rest n within progress more =

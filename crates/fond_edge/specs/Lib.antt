@@ -6,4 +6,5 @@ pub mod MemoryShelfState
 pub mod MemorySinkState
 pub mod PenState
 pub mod Pens
+pub mod WriterLaws
 pub mod Written

@@ -36,3 +36,7 @@ pub record IsLost (before after : Flow) (bytes : List ℕ) : Type 0 where
 -- all of the bytes were put, or the pen has failed
 abbrev pub Adds : Flow → Flow → List ℕ → Type 0
 Adds before after bytes = IsPut before after bytes ⊎ IsLost before after bytes
+
+-- the pen and the sink are the same ones, named as before, and these bytes were added
+abbrev pub Writes : {P S : Type 0} → P → P → S → S → Flow → Flow → List ℕ → Type 0
+Writes pen same_pen sink same_sink before after bytes = (pen ≡ same_pen) × (sink ≡ same_sink) × Adds before after bytes

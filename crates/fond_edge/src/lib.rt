@@ -13,3 +13,4 @@ pub mod pen;
 pub mod send;
 pub mod shelf;
 pub mod sink;
+pub mod writer;

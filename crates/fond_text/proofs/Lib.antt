@@ -3,3 +3,4 @@ pub mod Digits
 pub mod Earliest
 pub mod Numerals
 pub mod Lowered
+pub mod Outs

@@ -6,4 +6,5 @@ pub mod Lists
 pub mod Name
 pub mod Places
 pub mod Text
+pub mod TextLaws
 pub mod formers

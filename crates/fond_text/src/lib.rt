@@ -11,6 +11,7 @@ pub mod first;
 pub mod list;
 pub mod name;
 pub mod number;
+pub mod out;
 pub mod place;
 pub mod text;
 pub mod word;

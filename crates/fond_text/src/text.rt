@@ -6,6 +6,7 @@ ghost use Rattle.std.specs.Prelude.{◌≡◌, [], None, Some, IfOk, OnErr};
 
 use crate::fault::NoMemory;
 use crate::number::Digits;
+use crate::out::Out;
 use std::alloc::Global;
 use std::marker::Model;
 
@@ -58,5 +59,29 @@ impl Text {
         ensures err { OnErr result (self ≡ None) }
     {
         self.bytes.ok_or(NoMemory)
+    }
+}
+
+impl Out for Text {
+    ghost use Rattle.std.specs.Option.{is_none};
+    ghost use Rattle.fond_text.specs.Text.{Adds};
+    ghost use Rattle.fond_text.specs.TextLaws.{adds_nothing, adds_then, adds_failed};
+
+    ghost adds = { Adds };
+
+    ghost failed = { is_none };
+
+    ghost adds_nothing = { adds_nothing };
+
+    ghost adds_then = { adds_then };
+
+    ghost adds_failed = { adds_failed };
+
+    fn add(&mut self, part: &[u8]) {
+        self.add(part);
+    }
+
+    fn has_failed(&self) -> bool {
+        self.bytes.is_none()
     }
 }

@@ -1,5 +1,6 @@
 use Rattle.std.proofs.Common.{◌≡◌, true, false, sym, ap, ◌∙◌}
-use Rattle.fond_edge.proofs.Puts.{lost_by_failed, put_by_keeping, lost_in_flush, put_after_flush, passed, lost}
+use Rattle.fond_edge.specs.WriterLaws.{lost_by_failed}
+use Rattle.fond_edge.proofs.Puts.{put_by_keeping, lost_in_flush, put_after_flush, passed, lost}
 use Rattle.fond_edge.proofs.pen.Pen.put.Goals as goal
 
 pub returns-then-self-clause-err : goal.returns-then-self-clause-err
