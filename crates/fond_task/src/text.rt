@@ -2,7 +2,6 @@
 
 ghost use Rattle.fond_task.specs.Texts.{name_at, named_text, atom_text, action_text, state_text};
 ghost use Rattle.fond_state.specs.Cubes.{truth_at};
-ghost use Rattle.fond_text.specs.Text.{Adds};
 ghost use Rattle.std.specs.List.{flat_map};
 ghost use Rattle.std.specs.Prelude.{◌≡◌, [], ◌++◌, codes, if◌then◌else◌};
 
@@ -10,70 +9,64 @@ use crate::task::{Labels, Task};
 use fond_state::state::State;
 use fond_text::atom::{Atom, GroundAction, Objects};
 use fond_text::name::Names;
-use fond_text::text::Text;
+use fond_text::out::Out;
 
 /// Adds the name of a number, or nothing if it has none.
-fn put_name(names: &Names, number: u32, text: &mut Text)
-    ensures { Adds text.old text.new (name_at names.now number) }
+fn put_name<O: Out>(names: &Names, number: u32, out: &mut O)
+    ensures { O.adds out.old out.new (name_at names.now number) }
 {
     if (number as usize) < names.len() {
-        text.add(names.get(number as usize).bytes());
+        out.add(names.get(number as usize).bytes());
     }
 }
 
 /// Adds the names of objects, each after a space.
-fn put_objects(names: &Names, objects: &Objects, text: &mut Text)
-    ensures { Adds text.old text.new (flat_map (λ object. codes " " ++ name_at names.now object) objects.now) }
+fn put_objects<O: Out>(names: &Names, objects: &Objects, out: &mut O)
+    ensures { O.adds out.old out.new (flat_map (λ object. codes " " ++ name_at names.now object) objects.now) }
 {
     for object in objects.as_slice() {
-        text.add(b" ");
-        put_name(names, *object, text);
+        out.add(b" ");
+        put_name(names, *object, out);
     }
 }
 
 /// Adds a name and the names of objects between parentheses.
-fn put_named(labels: &Labels, heads: &Names, head: u32, objects: &Objects, text: &mut Text)
-    ensures { Adds text.old text.new (named_text labels.now.objects (name_at heads.now head) objects.now) }
+fn put_named<O: Out>(labels: &Labels, heads: &Names, head: u32, objects: &Objects, out: &mut O)
+    ensures { O.adds out.old out.new (named_text labels.now.objects (name_at heads.now head) objects.now) }
 {
-    text.add(b"(");
-    put_name(heads, head, text);
-    put_objects(&labels.objects, objects, text);
-    text.add(b")");
+    out.add(b"(");
+    put_name(heads, head, out);
+    put_objects(&labels.objects, objects, out);
+    out.add(b")");
 }
 
 /// Adds the text of a ground atom.
-pub fn put_atom(labels: &Labels, atom: &Atom, text: &mut Text)
-    ensures { Adds text.old text.new (atom_text labels.now atom.now) }
+pub fn put_atom<O: Out>(labels: &Labels, atom: &Atom, out: &mut O)
+    ensures { O.adds out.old out.new (atom_text labels.now atom.now) }
 {
     put_named(
         labels,
         &labels.predicates,
         atom.predicate,
         &atom.objects,
-        text,
+        out,
     );
 }
 
 /// Adds the text of a ground action.
-pub fn put_action(labels: &Labels, ground: &GroundAction, text: &mut Text)
-    ensures { Adds text.old text.new (action_text labels.now ground.now) }
+pub fn put_action<O: Out>(labels: &Labels, ground: &GroundAction, out: &mut O)
+    ensures { O.adds out.old out.new (action_text labels.now ground.now) }
 {
-    put_named(
-        labels,
-        &labels.schemas,
-        ground.schema,
-        &ground.objects,
-        text,
-    );
+    put_named(labels, &labels.schemas, ground.schema, &ground.objects, out);
 }
 
 /// Adds the line of an atom, if it is true.
-fn put_line(labels: &Labels, atom: &Atom, is_true: bool, text: &mut Text)
-    ensures { Adds text.old text.new (if is_true then atom_text labels.now atom.now ++ codes "\n" else []) }
+fn put_line<O: Out>(labels: &Labels, atom: &Atom, is_true: bool, out: &mut O)
+    ensures { O.adds out.old out.new (if is_true then atom_text labels.now atom.now ++ codes "\n" else []) }
 {
     if is_true {
-        put_atom(labels, atom, text);
-        text.add(b"\n");
+        put_atom(labels, atom, out);
+        out.add(b"\n");
     }
 }
 
@@ -85,11 +78,11 @@ fn is_atom_true(state: &State, atom: usize) -> bool
 }
 
 /// Adds the text of a state: the line `state` and a line for each true atom, in the order of the atoms.
-pub fn put_state(task: &Task, state: &State, text: &mut Text)
-    ensures { Adds text.old text.new (state_text task.now state.now) }
+pub fn put_state<O: Out>(task: &Task, state: &State, out: &mut O)
+    ensures { O.adds out.old out.new (state_text task.now state.now) }
 {
-    text.add(b"state\n");
+    out.add(b"state\n");
     for (i, atom) in task.atoms.as_slice().iter().enumerate() {
-        put_line(&task.labels, atom, is_atom_true(state, i), text);
+        put_line(&task.labels, atom, is_atom_true(state, i), out);
     }
 }

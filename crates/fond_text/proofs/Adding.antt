@@ -12,7 +12,7 @@ module _ (before now after : Option (List ℕ)) (part more : List ℕ) where
 
 -- what is added as one text is added as the same text in other words
 pub adds_same : (before after : Option (List ℕ)) (text other : List ℕ) → text ≡ other → Adds before after text → Adds before after other
-adds_same = outs.adds_same Adds
+adds_same before after text other = outs.adds_same Adds
 
 -- nothing is added by doing nothing
 pub adds_nothing : (text : Option (List ℕ)) → Adds text text []
@@ -28,10 +28,10 @@ abbrev pub Adding : (before now : Option (List ℕ)) (whole left : List ℕ) →
 Adding = outs.Adding Adds
 
 pub adding_all : (text : Option (List ℕ)) (whole : List ℕ) → Adding text text whole whole
-adding_all text whole = outs.adding_all Adds text whole (added.adds_nothing text)
+adding_all text whole = outs.adding_all Adds (added.adds_nothing text)
 
 pub adding_more : (before now after : Option (List ℕ)) (whole left item rest : List ℕ) → left ≡ item ++ rest → Adding before now whole left → Adds now after item → Adding before after whole rest
-adding_more = outs.adding_more Adds added.adds_then
+adding_more before now after whole left item rest = outs.adding_more Adds added.adds_then
 
 pub adding_none : (before now : Option (List ℕ)) (whole left : List ℕ) → left ≡ [] → Adding before now whole left → Adds before now whole
-adding_none = outs.adding_none Adds
+adding_none before now whole left = outs.adding_none Adds

@@ -7,9 +7,9 @@ use Rattle.std.specs.Prelude.{IfSome, slice_get}
 abbrev pub Adds : Type 0 → Type 1
 Adds S = S → S → List ℕ → Type 0
 
--- what is added as one text is added as the same text in other words
-pub adds_same : {S : Type 0} (adds : Adds S) (before after : S) (text other : List ℕ) → text ≡ other → adds before after text → adds before after other
-adds_same adds before after text other same added = subst (λ t. adds before after t) same added
+-- texts that are added one after the other are added as a whole
+abbrev pub Chains : {S : Type 0} → Adds S → Type 0
+Chains {S} adds = (before now after : S) (text more : List ℕ) → adds before now text → adds now after more → adds before after (text ++ more)
 
 -- a front of the text was added, and the rest is left
 pub record Adding {S : Type 0} (adds : Adds S) (before now : S) (whole left : List ℕ) : Type 0 where
@@ -17,37 +17,34 @@ pub record Adding {S : Type 0} (adds : Adds S) (before now : S) (whole left : Li
   pub added : adds before now done
   pub split : done ++ left ≡ whole
 
--- texts that are added one after the other are added as a whole
-abbrev pub Chains : {S : Type 0} → Adds S → Type 0
-Chains {S} adds = (before now after : S) (text more : List ℕ) → adds before now text → adds now after more → adds before after (text ++ more)
+module _ {S : Type 0} (adds : Adds S) where
+  -- what is added as one text is added as the same text in other words
+  pub adds_same : {before after : S} {text other : List ℕ} → text ≡ other → adds before after text → adds before after other
+  adds_same {before} {after} same added = subst (λ t. adds before after t) same added
 
-pub adding_all : {S : Type 0} (adds : Adds S) (now : S) (whole : List ℕ) → adds now now [] → Adding adds now now whole whole
-adding_all adds now whole nothing = record { done = []; added = nothing; split = refl }
+  pub adding_all : {now : S} {whole : List ℕ} → adds now now [] → Adding adds now now whole whole
+  adding_all nothing = record { done = []; added = nothing; split = refl }
 
-pub adding_more : {S : Type 0} (adds : Adds S) (chains : Chains adds) (before now after : S) (whole left item rest : List ℕ) →
-    left ≡ item ++ rest → Adding adds before now whole left → adds now after item → Adding adds before after whole rest
-adding_more adds chains before now after whole left item rest same adding more = record {
-  done = adding.done ++ item;
-  added = chains before now after adding.done item adding.added more;
-  split = append_assoc adding.done item rest ∙ ap (λ t. adding.done ++ t) (sym same) ∙ adding.split;
-}
+  pub adding_none : {before now : S} {whole left : List ℕ} → left ≡ [] → Adding adds before now whole left → adds before now whole
+  adding_none none adding = adds_same (sym (append-nil adding.done) ∙ ap (λ t. adding.done ++ t) (sym none) ∙ adding.split) adding.added
 
--- the texts of the items before this one were added, and now its own
-pub adding_at : {S X : Type 0} (adds : Adds S) (chains : Chains adds) (f : X → List ℕ) (xs : List X) (i : ℕ) (before now after : S) (whole : List ℕ) →
-    i < length xs → IfSome (slice_get xs i) (λ x. adds now after (f x)) → Adding adds before now whole (flat_map f (drop i xs)) →
-    Adding adds before after whole (flat_map f (drop (i + 1) xs))
-adding_at adds chains f [] i before now after whole there added adding = absurd (omega (arith, there))
-adding_at adds chains f (x ∷ xs) zero before now after whole there added adding =
-    adding_more adds chains before now after whole (flat_map f (x ∷ xs)) (f x) (flat_map f xs) refl adding added
-adding_at adds chains f (x ∷ xs) (suc i) before now after whole there added adding =
-    let next : suc i + 1 ≡ suc (i + 1) = omega arith in rw next (adding_at adds chains f xs i before now after whole (omega (arith, there)) added adding)
+  module _ (chains : Chains adds) where
+    pub adding_more : {before now after : S} {whole left item rest : List ℕ} → left ≡ item ++ rest → Adding adds before now whole left → adds now after item →
+        Adding adds before after whole rest
+    adding_more {item = item} {rest = rest} same adding more = record {
+      done = adding.done ++ item;
+      added = chains _ _ _ _ _ adding.added more;
+      split = append_assoc adding.done item rest ∙ ap (λ t. adding.done ++ t) (sym same) ∙ adding.split;
+    }
 
-pub adding_none : {S : Type 0} (adds : Adds S) (before now : S) (whole left : List ℕ) → left ≡ [] → Adding adds before now whole left → adds before now whole
-adding_none adds before now whole left none adding =
-    adds_same adds before now adding.done whole (sym (append-nil adding.done) ∙ ap (λ t. adding.done ++ t) (sym none) ∙ adding.split) adding.added
+    -- the texts of the items before this one were added, and now its own
+    pub adding_at : {X : Type 0} {before now after : S} {whole : List ℕ} (f : X → List ℕ) (xs : List X) (i : ℕ) → i < length xs →
+        IfSome (slice_get xs i) (λ x. adds now after (f x)) → Adding adds before now whole (flat_map f (drop i xs)) → Adding adds before after whole (flat_map f (drop (i + 1) xs))
+    adding_at f [] i there added adding = absurd (omega (arith, there))
+    adding_at f (x ∷ xs) zero there added adding = adding_more refl adding added
+    adding_at f (x ∷ xs) (suc i) there added adding =
+        let next : suc i + 1 ≡ suc (i + 1) = omega arith in rw next (adding_at f xs i (omega (arith, there)) added adding)
 
--- what is left is lost with what was added, if the destination loses it
-pub adding_lost : {S : Type 0} (adds : Adds S) (chains : Chains adds) (before now : S) (whole left : List ℕ) →
-    adds now now left → Adding adds before now whole left → adds before now whole
-adding_lost adds chains before now whole left lost adding =
-    adds_same adds before now (adding.done ++ left) whole adding.split (chains before now now adding.done left adding.added lost)
+    -- what is left is lost with what was added, if the destination loses it
+    pub adding_lost : {before now : S} {whole left : List ℕ} → adds now now left → Adding adds before now whole left → adds before now whole
+    adding_lost lost adding = adds_same adding.split (chains _ _ _ _ _ adding.added lost)
