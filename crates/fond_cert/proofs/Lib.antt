@@ -16,6 +16,5 @@ pub mod OwnLines
 pub mod OneFault
 pub mod Headers
 pub mod OneCert
-pub mod Adding
 pub mod Printed
 pub mod Zipped

@@ -1,18 +1,15 @@
 //! Printing lists, item by item.
 
-ghost use Rattle.fond_edge.specs.Pens.{flow, Adds};
 ghost use Rattle.std.specs.List.{flat_map};
 ghost use Rattle.std.specs.Prelude.{◌≡◌, ◌<◌, All, IfSome, length, slice_get};
 
-use fond_edge::pen::Pen;
-use fond_edge::sink::Sink;
 use fond_task::task::Task;
+use fond_text::out::Out;
 
 /// A list of parts of a certificate, each of which has lines of its own.
 pub(crate) trait Listing {
     ghost use Rattle.fond_task.specs.declared.task.Task.{Task};
     ghost use Rattle.std.specs.Prelude.{◌≡◌, ℕ, ◌<◌, List, All, IfSome, length, slice_get};
-    ghost use Rattle.fond_edge.specs.Pens.{flow, Adds};
 
     type Item;
 
@@ -33,24 +30,22 @@ pub(crate) trait Listing {
         ensures few { result < limit };
 
     /// Adds the lines of an item.
-    fn put_at<K: Sink>(&self, task: &Task, i: u64, pen: &mut Pen, sink: &mut K)
+    fn put_at<O: Out>(&self, task: &Task, i: u64, out: &mut O)
         requires there { i < length (items self.now) }
         requires few { i < limit }
         requires fits { All (fits task.now) (items self.now) }
-        ensures { IfSome (slice_get (items self.now) i) (λ item. Adds (flow (K.written sink.old) (K.faults sink.old) pen.old)
-            (flow (K.written sink.new) (K.faults sink.new) pen.new) (text task.now item)) };
+        ensures { IfSome (slice_get (items self.now) i) (λ item. O.adds out.old out.new (text task.now item)) };
 }
 
-/// Adds the lines of all items of a list, or of the first ones if the pen fails.
-pub(crate) fn put_all<L: Listing, K: Sink>(task: &Task, list: &L, pen: &mut Pen, sink: &mut K)
+/// Adds the lines of all items of a list, or of the first ones if the destination fails.
+pub(crate) fn put_all<L: Listing, O: Out>(task: &Task, list: &L, out: &mut O)
     requires { All (L.fits task.now) (L.items list.now) }
-    ensures { Adds (flow (K.written sink.old) (K.faults sink.old) pen.old)
-        (flow (K.written sink.new) (K.faults sink.new) pen.new) (flat_map (L.text task.now) (L.items list.now)) }
+    ensures { O.adds out.old out.new (flat_map (L.text task.now) (L.items list.now)) }
 {
     for i in 0..list.count() {
-        if pen.has_failed() {
+        if out.has_failed() {
             return;
         }
-        list.put_at(task, i, pen, sink);
+        list.put_at(task, i, out);
     }
 }

@@ -1,26 +1,21 @@
-//! Printing a certificate or a certificate of least rank, into a sink or as a text. A failure of the sink is remembered by the pen, so
-//! that the functions for the parts answer nothing. Loops over parts end as soon as the pen has failed.
+//! Printing a certificate or a certificate of least rank, into a sink or as a text. Loops over parts end as soon as the destination
+//! has failed.
 
 ghost use Rattle.fond_policy.specs.Belongs.{Belongs, BelongsAsBest};
 ghost use Rattle.fond_cert.specs.Items.{IsPairOf, IsRuleOf};
 ghost use Rattle.fond_cert.specs.Printed.{fed, reach_text, start_text, chosen_text, places_text, cond_text, pair_text, rule_text, layer_text, far_text, way_text, item_text, ranked_way_text, ranked_text};
-ghost use Rattle.fond_cert.specs.Spellings.{best_spelling, cube_line, lines_text, spelling};
+ghost use Rattle.fond_cert.specs.Spellings.{best_spelling, cube_line, spelling};
 ghost use Rattle.fond_edge.specs.Faults.{Rose};
-ghost use Rattle.fond_edge.specs.Pens.{flow, IsPut, IsLost, Adds};
+ghost use Rattle.fond_edge.specs.Pens.{flow, IsPut, IsLost};
 ghost use Rattle.fond_edge.specs.Written.{Appended, AppendedPart};
-ghost use Rattle.fond_task.specs.Layers.{CubeView};
-ghost use Rattle.std.specs.Fmt.{decimal};
-ghost use Rattle.std.specs.List.{flat_map};
-ghost use Rattle.std.specs.Prelude.{◌≡◌, ◌≤◌, List, All, codes, map, IfOk, OnOk, OnErr};
+ghost use Rattle.std.specs.Prelude.{◌≡◌, ◌≤◌, codes, IfOk, OnOk, OnErr};
 
 use crate::listing::{Listing, put_all};
-use crate::put::{
-    put_act, put_cube, put_item_numbers, put_number, put_spaced, put_target, put_targets,
-};
-use crate::text_sink::TextSink;
+use crate::put::{put_act, put_cube, put_item_numbers, put_spaced, put_target, put_targets};
 use fond_edge::pen::Pen;
 use fond_edge::send::WriteFault;
 use fond_edge::sink::Sink;
+use fond_edge::writer::Writer;
 use fond_layers::layers::{Layer, Layers};
 use fond_policy::best::{BestCert, Ranks};
 use fond_policy::cert::Cert;
@@ -32,16 +27,17 @@ use fond_state::cube::Cube;
 use fond_task::rule::{Pair, Rule, Targets};
 use fond_task::task::Task;
 use fond_text::fault::NoMemory;
+use fond_text::out::{Out, put_number};
+use fond_text::text::Text;
 use std::alloc::Global;
 
 /// Adds the line of a cube.
-fn put_cube_line<K: Sink>(task: &Task, cube: &Cube, pen: &mut Pen, sink: &mut K)
-    ensures { Adds (flow (K.written sink.old) (K.faults sink.old) pen.old)
-        (flow (K.written sink.new) (K.faults sink.new) pen.new) (fed (cube_line task.now cube.now)) }
+fn put_cube_line<O: Out>(task: &Task, cube: &Cube, out: &mut O)
+    ensures { O.adds out.old out.new (fed (cube_line task.now cube.now)) }
 {
-    pen.add(sink, b"cube");
-    put_cube(task, cube, pen, sink);
-    pen.add(sink, b"\n");
+    out.add(b"cube");
+    put_cube(task, cube, out);
+    out.add(b"\n");
 }
 
 impl Listing for Layer {
@@ -63,18 +59,17 @@ impl Listing for Layer {
         self.len() as u64
     }
 
-    fn put_at<K: Sink>(&self, task: &Task, i: u64, pen: &mut Pen, sink: &mut K) {
-        put_cube_line(task, &self.as_slice()[i as usize], pen, sink);
+    fn put_at<O: Out>(&self, task: &Task, i: u64, out: &mut O) {
+        put_cube_line(task, &self.as_slice()[i as usize], out);
     }
 }
 
 /// Adds the lines of a layer.
-fn put_layer<K: Sink>(task: &Task, layer: &Layer, pen: &mut Pen, sink: &mut K)
-    ensures { Adds (flow (K.written sink.old) (K.faults sink.old) pen.old)
-        (flow (K.written sink.new) (K.faults sink.new) pen.new) (layer_text task.now layer.now) }
+fn put_layer<O: Out>(task: &Task, layer: &Layer, out: &mut O)
+    ensures { O.adds out.old out.new (layer_text task.now layer.now) }
 {
-    pen.add(sink, b"layer\n");
-    put_all(task, layer, pen, sink);
+    out.add(b"layer\n");
+    put_all(task, layer, out);
 }
 
 impl Listing for Layers {
@@ -95,41 +90,38 @@ impl Listing for Layers {
         self.len() as u64
     }
 
-    fn put_at<K: Sink>(&self, task: &Task, i: u64, pen: &mut Pen, sink: &mut K) {
-        put_layer(task, self.get(i as u32), pen, sink);
+    fn put_at<O: Out>(&self, task: &Task, i: u64, out: &mut O) {
+        put_layer(task, self.get(i as u32), out);
     }
 }
 
 /// Adds a condition at the end of a line.
-fn put_cond<K: Sink>(task: &Task, cond: &Cube, pen: &mut Pen, sink: &mut K)
-    ensures { Adds (flow (K.written sink.old) (K.faults sink.old) pen.old)
-        (flow (K.written sink.new) (K.faults sink.new) pen.new) (cond_text task.now cond.now) }
+fn put_cond<O: Out>(task: &Task, cond: &Cube, out: &mut O)
+    ensures { O.adds out.old out.new (cond_text task.now cond.now) }
 {
-    pen.add(sink, b" :");
-    put_cube(task, cond, pen, sink);
-    pen.add(sink, b"\n");
+    out.add(b" :");
+    put_cube(task, cond, out);
+    out.add(b"\n");
 }
 
 /// Adds the numbers of a pair, each after a space.
-fn put_places<K: Sink>(pair: &Pair, pen: &mut Pen, sink: &mut K)
-    ensures { Adds (flow (K.written sink.old) (K.faults sink.old) pen.old)
-        (flow (K.written sink.new) (K.faults sink.new) pen.new) (places_text pair.now) }
+fn put_places<O: Out>(pair: &Pair, out: &mut O)
+    ensures { O.adds out.old out.new (places_text pair.now) }
 {
-    put_spaced(pair.outcome, pen, sink);
-    put_spaced(pair.layer, pen, sink);
-    put_spaced(pair.cube, pen, sink);
+    put_spaced(pair.outcome, out);
+    put_spaced(pair.layer, out);
+    put_spaced(pair.cube, out);
 }
 
 /// Adds the line of a pair.
-fn put_pair<K: Sink>(task: &Task, pair: &Pair, pen: &mut Pen, sink: &mut K)
+fn put_pair<O: Out>(task: &Task, pair: &Pair, out: &mut O)
     requires { IsPairOf task.now pair.now }
-    ensures { Adds (flow (K.written sink.old) (K.faults sink.old) pen.old)
-        (flow (K.written sink.new) (K.faults sink.new) pen.new) (pair_text task.now pair.now) }
+    ensures { O.adds out.old out.new (pair_text task.now pair.now) }
 {
-    pen.add(sink, b"pair ");
-    put_act(task, pair.act, pen, sink);
-    put_places(pair, pen, sink);
-    put_cond(task, &pair.cond, pen, sink);
+    out.add(b"pair ");
+    put_act(task, pair.act, out);
+    put_places(pair, out);
+    put_cond(task, &pair.cond, out);
 }
 
 impl Listing for Pairs {
@@ -151,40 +143,38 @@ impl Listing for Pairs {
         self.len()
     }
 
-    fn put_at<K: Sink>(&self, task: &Task, i: u64, pen: &mut Pen, sink: &mut K) {
-        put_pair(task, self.get(i), pen, sink);
+    fn put_at<O: Out>(&self, task: &Task, i: u64, out: &mut O) {
+        put_pair(task, self.get(i), out);
     }
 }
 
 /// Adds the targets of a rule, after its action.
-fn put_rule_targets<K: Sink>(targets: &Targets, pen: &mut Pen, sink: &mut K)
-    ensures { Adds (flow (K.written sink.old) (K.faults sink.old) pen.old)
-        (flow (K.written sink.new) (K.faults sink.new) pen.new) (chosen_text targets.now) }
+fn put_rule_targets<O: Out>(targets: &Targets, out: &mut O)
+    ensures { O.adds out.old out.new (chosen_text targets.now) }
 {
     match targets {
         Targets::One { outcome, target } => {
-            pen.add(sink, b" fair ");
-            put_number(*outcome as u64, pen, sink);
-            pen.add(sink, b" ");
-            put_target(*target, pen, sink);
+            out.add(b" fair ");
+            put_number(*outcome as u64, out);
+            out.add(b" ");
+            put_target(*target, out);
         }
         Targets::All(targets) => {
-            pen.add(sink, b" unfair");
-            put_targets(targets, pen, sink);
+            out.add(b" unfair");
+            put_targets(targets, out);
         }
     }
 }
 
 /// Adds the line of a rule.
-fn put_rule<K: Sink>(task: &Task, rule: &Rule, pen: &mut Pen, sink: &mut K)
+fn put_rule<O: Out>(task: &Task, rule: &Rule, out: &mut O)
     requires { IsRuleOf task.now rule.now }
-    ensures { Adds (flow (K.written sink.old) (K.faults sink.old) pen.old)
-        (flow (K.written sink.new) (K.faults sink.new) pen.new) (rule_text task.now rule.now) }
+    ensures { O.adds out.old out.new (rule_text task.now rule.now) }
 {
-    pen.add(sink, b"rule ");
-    put_act(task, rule.act, pen, sink);
-    put_rule_targets(&rule.targets, pen, sink);
-    put_cond(task, &rule.cond, pen, sink);
+    out.add(b"rule ");
+    put_act(task, rule.act, out);
+    put_rule_targets(&rule.targets, out);
+    put_cond(task, &rule.cond, out);
 }
 
 impl Listing for Rules {
@@ -206,53 +196,49 @@ impl Listing for Rules {
         self.len() as u64
     }
 
-    fn put_at<K: Sink>(&self, task: &Task, i: u64, pen: &mut Pen, sink: &mut K) {
-        put_rule(task, self.get(i as u32), pen, sink);
+    fn put_at<O: Out>(&self, task: &Task, i: u64, out: &mut O) {
+        put_rule(task, self.get(i as u32), out);
     }
 }
 
 /// Adds the reach line.
-fn put_reach<K: Sink>(reach: u64, pen: &mut Pen, sink: &mut K)
-    ensures { Adds (flow (K.written sink.old) (K.faults sink.old) pen.old)
-        (flow (K.written sink.new) (K.faults sink.new) pen.new) (reach_text reach) }
+fn put_reach<O: Out>(reach: u64, out: &mut O)
+    ensures { O.adds out.old out.new (reach_text reach) }
 {
-    pen.add(sink, b"reach ");
-    put_number(reach, pen, sink);
-    pen.add(sink, b"\n");
+    out.add(b"reach ");
+    put_number(reach, out);
+    out.add(b"\n");
 }
 
 /// Adds the start line.
-fn put_start<K: Sink>(start: u32, pen: &mut Pen, sink: &mut K)
-    ensures { Adds (flow (K.written sink.old) (K.faults sink.old) pen.old)
-        (flow (K.written sink.new) (K.faults sink.new) pen.new) (start_text start) }
+fn put_start<O: Out>(start: u32, out: &mut O)
+    ensures { O.adds out.old out.new (start_text start) }
 {
-    pen.add(sink, b"start ");
-    put_number(start as u64, pen, sink);
-    pen.add(sink, b"\n");
+    out.add(b"start ");
+    put_number(start as u64, out);
+    out.add(b"\n");
 }
 
 /// Adds a way, after the word of its line.
-fn put_way<K: Sink>(way: &Way, pen: &mut Pen, sink: &mut K)
-    ensures { Adds (flow (K.written sink.old) (K.faults sink.old) pen.old)
-        (flow (K.written sink.new) (K.faults sink.new) pen.new) (way_text way.now) }
+fn put_way<O: Out>(way: &Way, out: &mut O)
+    ensures { O.adds out.old out.new (way_text way.now) }
 {
     match way {
-        Way::Goal => pen.add(sink, b"goal"),
+        Way::Goal => out.add(b"goal"),
         Way::Rule { rule, items } => {
-            put_number(*rule as u64, pen, sink);
-            put_item_numbers(items, pen, sink);
+            put_number(*rule as u64, out);
+            put_item_numbers(items, out);
         }
     }
 }
 
 /// Adds the line of an item.
-fn put_item<K: Sink>(task: &Task, item: &Item, pen: &mut Pen, sink: &mut K)
-    ensures { Adds (flow (K.written sink.old) (K.faults sink.old) pen.old)
-        (flow (K.written sink.new) (K.faults sink.new) pen.new) (item_text task.now item.now) }
+fn put_item<O: Out>(task: &Task, item: &Item, out: &mut O)
+    ensures { O.adds out.old out.new (item_text task.now item.now) }
 {
-    pen.add(sink, b"item ");
-    put_way(&item.way, pen, sink);
-    put_cond(task, &item.cube, pen, sink);
+    out.add(b"item ");
+    put_way(&item.way, out);
+    put_cond(task, &item.cube, out);
 }
 
 impl Listing for Items {
@@ -273,35 +259,33 @@ impl Listing for Items {
         self.len() as u64
     }
 
-    fn put_at<K: Sink>(&self, task: &Task, i: u64, pen: &mut Pen, sink: &mut K) {
-        put_item(task, self.get(i as u32), pen, sink);
+    fn put_at<O: Out>(&self, task: &Task, i: u64, out: &mut O) {
+        put_item(task, self.get(i as u32), out);
     }
 }
 
 /// Adds a way and a rank, which is not written for an item of goals, after the word of their line.
-fn put_ranked_way<K: Sink>(way: &Way, rank: u64, pen: &mut Pen, sink: &mut K)
-    ensures { Adds (flow (K.written sink.old) (K.faults sink.old) pen.old)
-        (flow (K.written sink.new) (K.faults sink.new) pen.new) (ranked_way_text way.now rank) }
+fn put_ranked_way<O: Out>(way: &Way, rank: u64, out: &mut O)
+    ensures { O.adds out.old out.new (ranked_way_text way.now rank) }
 {
     match way {
-        Way::Goal => pen.add(sink, b"goal"),
+        Way::Goal => out.add(b"goal"),
         Way::Rule { rule, items } => {
-            put_number(*rule as u64, pen, sink);
-            pen.add(sink, b" rank ");
-            put_number(rank, pen, sink);
-            put_item_numbers(items, pen, sink);
+            put_number(*rule as u64, out);
+            out.add(b" rank ");
+            put_number(rank, out);
+            put_item_numbers(items, out);
         }
     }
 }
 
 /// Adds the line of an item with its rank.
-fn put_ranked<K: Sink>(task: &Task, item: &Item, rank: u64, pen: &mut Pen, sink: &mut K)
-    ensures { Adds (flow (K.written sink.old) (K.faults sink.old) pen.old)
-        (flow (K.written sink.new) (K.faults sink.new) pen.new) (ranked_text task.now (item.now, rank)) }
+fn put_ranked<O: Out>(task: &Task, item: &Item, rank: u64, out: &mut O)
+    ensures { O.adds out.old out.new (ranked_text task.now (item.now, rank)) }
 {
-    pen.add(sink, b"item ");
-    put_ranked_way(&item.way, rank, pen, sink);
-    put_cond(task, &item.cube, pen, sink);
+    out.add(b"item ");
+    put_ranked_way(&item.way, rank, out);
+    put_cond(task, &item.cube, out);
 }
 
 /// Items with their ranks.
@@ -331,19 +315,18 @@ impl<'a> Listing for Ranked<'a> {
         ranks.min(self.items.len() as u64)
     }
 
-    fn put_at<K: Sink>(&self, task: &Task, i: u64, pen: &mut Pen, sink: &mut K) {
+    fn put_at<O: Out>(&self, task: &Task, i: u64, out: &mut O) {
         let rank = *self.ranks.get(i as usize);
-        put_ranked(task, self.items.get(i as u32), rank, pen, sink);
+        put_ranked(task, self.items.get(i as u32), rank, out);
     }
 }
 
 /// Adds the lines of a far list.
-fn put_far<K: Sink>(task: &Task, list: &Layer, pen: &mut Pen, sink: &mut K)
-    ensures { Adds (flow (K.written sink.old) (K.faults sink.old) pen.old)
-        (flow (K.written sink.new) (K.faults sink.new) pen.new) (far_text task.now list.now) }
+fn put_far<O: Out>(task: &Task, list: &Layer, out: &mut O)
+    ensures { O.adds out.old out.new (far_text task.now list.now) }
 {
-    pen.add(sink, b"far\n");
-    put_all(task, list, pen, sink);
+    out.add(b"far\n");
+    put_all(task, list, out);
 }
 
 /// Lists of far cubes.
@@ -370,24 +353,22 @@ impl<'a> Listing for FarLists<'a> {
         self.lists.len() as u64
     }
 
-    fn put_at<K: Sink>(&self, task: &Task, i: u64, pen: &mut Pen, sink: &mut K) {
-        put_far(task, self.lists.get(i as u32), pen, sink);
+    fn put_at<O: Out>(&self, task: &Task, i: u64, out: &mut O) {
+        put_far(task, self.lists.get(i as u32), out);
     }
 }
 
 /// Adds the last line.
-fn put_end<K: Sink>(pen: &mut Pen, sink: &mut K)
-    ensures { Adds (flow (K.written sink.old) (K.faults sink.old) pen.old)
-        (flow (K.written sink.new) (K.faults sink.new) pen.new) (codes "end\n") }
+fn put_end<O: Out>(out: &mut O)
+    ensures { O.adds out.old out.new (codes "end\n") }
 {
-    pen.add(sink, b"end\n");
+    out.add(b"end\n");
 }
 
 /// Adds the lines of a certificate.
-fn put_lines<K: Sink>(task: &Task, cert: &Cert, pen: &mut Pen, sink: &mut K)
+fn put_lines<O: Out>(task: &Task, cert: &Cert, out: &mut O)
     requires { Belongs task.now cert.now }
-    ensures { Adds (flow (K.written sink.old) (K.faults sink.old) pen.old)
-        (flow (K.written sink.new) (K.faults sink.new) pen.new) (spelling task.now cert.now) }
+    ensures { O.adds out.old out.new (spelling task.now cert.now) }
 {
     match cert {
         Cert::Policy {
@@ -396,17 +377,17 @@ fn put_lines<K: Sink>(task: &Task, cert: &Cert, pen: &mut Pen, sink: &mut K)
             rules,
             reach,
         } => {
-            pen.add(sink, b"dualfond 1 policy\n");
-            put_all(task, layers, pen, sink);
-            put_all(task, pairs, pen, sink);
-            put_all(task, rules, pen, sink);
-            put_reach(*reach, pen, sink);
-            put_end(pen, sink);
+            out.add(b"dualfond 1 policy\n");
+            put_all(task, layers, out);
+            put_all(task, pairs, out);
+            put_all(task, rules, out);
+            put_reach(*reach, out);
+            put_end(out);
         }
         Cert::Refusal { layers } => {
-            pen.add(sink, b"dualfond 1 refusal\n");
-            put_all(task, layers, pen, sink);
-            put_end(pen, sink);
+            out.add(b"dualfond 1 refusal\n");
+            put_all(task, layers, out);
+            put_end(out);
         }
         Cert::Covered {
             layers,
@@ -415,13 +396,13 @@ fn put_lines<K: Sink>(task: &Task, cert: &Cert, pen: &mut Pen, sink: &mut K)
             items,
             start,
         } => {
-            pen.add(sink, b"dualfond 2 policy\n");
-            put_all(task, layers, pen, sink);
-            put_all(task, pairs, pen, sink);
-            put_all(task, rules, pen, sink);
-            put_all(task, items, pen, sink);
-            put_start(*start, pen, sink);
-            put_end(pen, sink);
+            out.add(b"dualfond 2 policy\n");
+            put_all(task, layers, out);
+            put_all(task, pairs, out);
+            put_all(task, rules, out);
+            put_all(task, items, out);
+            put_start(*start, out);
+            put_end(out);
         }
     }
 }
@@ -440,8 +421,9 @@ pub fn send_cert<K: Sink>(
     ensures err { OnErr result (IsLost (flow (K.written sink.old) (K.faults sink.old) pen.old)
         (flow (K.written sink.new) (K.faults sink.new) pen.new) (spelling task.now cert.now)) }
 {
-    put_lines(task, cert, pen, sink);
-    if pen.has_failed() {
+    let mut out = Writer { pen, sink };
+    put_lines(task, cert, &mut out);
+    if out.has_failed() {
         return Err(WriteFault);
     }
     Ok(())
@@ -466,34 +448,28 @@ pub fn print_cert(alloc: Global, task: &Task, cert: &Cert) -> Result<Vec<u8>, No
     requires { Belongs task.now cert.now }
     ensures { IfOk result (λ text. text.items ≡ spelling task.now cert.now) }
 {
-    let mut sink = TextSink {
-        text: Vec::new(alloc),
-        faults: 0,
-    };
-    match write_cert(task, cert, &mut sink) {
-        Ok(()) => Ok(sink.text),
-        Err(WriteFault) => Err(NoMemory),
-    }
+    let mut text = Text::new(alloc);
+    put_lines(task, cert, &mut text);
+    text.finish()
 }
 
 /// Adds the lines of a certificate of least rank.
-fn put_best<K: Sink>(task: &Task, cert: &BestCert, pen: &mut Pen, sink: &mut K)
+fn put_best<O: Out>(task: &Task, cert: &BestCert, out: &mut O)
     requires { BelongsAsBest task.now cert.now }
-    ensures { Adds (flow (K.written sink.old) (K.faults sink.old) pen.old)
-        (flow (K.written sink.new) (K.faults sink.new) pen.new) (best_spelling task.now cert.now) }
+    ensures { O.adds out.old out.new (best_spelling task.now cert.now) }
 {
     let items = Ranked {
         items: &cert.items,
         ranks: &cert.ranks,
     };
     let far = FarLists { lists: &cert.far };
-    pen.add(sink, b"dualfond 2 best\n");
-    put_all(task, &cert.layers, pen, sink);
-    put_all(task, &cert.rules, pen, sink);
-    put_all(task, &items, pen, sink);
-    put_start(cert.start, pen, sink);
-    put_all(task, &far, pen, sink);
-    put_end(pen, sink);
+    out.add(b"dualfond 2 best\n");
+    put_all(task, &cert.layers, out);
+    put_all(task, &cert.rules, out);
+    put_all(task, &items, out);
+    put_start(cert.start, out);
+    put_all(task, &far, out);
+    put_end(out);
 }
 
 /// Puts the text of a certificate of least rank into a pen, in pieces, or tells that the pen has failed. Takes time in the length of
@@ -510,8 +486,9 @@ pub fn send_best<K: Sink>(
     ensures err { OnErr result (IsLost (flow (K.written sink.old) (K.faults sink.old) pen.old)
         (flow (K.written sink.new) (K.faults sink.new) pen.new) (best_spelling task.now cert.now)) }
 {
-    put_best(task, cert, pen, sink);
-    if pen.has_failed() {
+    let mut out = Writer { pen, sink };
+    put_best(task, cert, &mut out);
+    if out.has_failed() {
         return Err(WriteFault);
     }
     Ok(())
@@ -537,12 +514,7 @@ pub fn print_best(alloc: Global, task: &Task, cert: &BestCert) -> Result<Vec<u8>
     requires { BelongsAsBest task.now cert.now }
     ensures { IfOk result (λ text. text.items ≡ best_spelling task.now cert.now) }
 {
-    let mut sink = TextSink {
-        text: Vec::new(alloc),
-        faults: 0,
-    };
-    match write_best(task, cert, &mut sink) {
-        Ok(()) => Ok(sink.text),
-        Err(WriteFault) => Err(NoMemory),
-    }
+    let mut text = Text::new(alloc);
+    put_best(task, cert, &mut text);
+    text.finish()
 }

@@ -1,6 +1,5 @@
-use Rattle.fond_edge.proofs.Puts.{adds_then}
 use Rattle.fond_cert.proofs.print.put_cond.Goals as goal
 
 pub returns : goal.returns
 returns g c =
-    adds_then _ _ _ _ _ c.add.ensures.adds (adds_then _ _ _ _ _ c.put_cube.ensures c.add-2.ensures.adds)
+    g.met.O.Out.adds_then _ _ _ _ _ c.add.ensures (g.met.O.Out.adds_then _ _ _ _ _ c.put_cube.ensures c.add-2.ensures)

@@ -1,6 +1,5 @@
-use Rattle.fond_edge.proofs.Puts.{adds_then}
 use Rattle.fond_cert.proofs.put.put_spaced.Goals as goal
 
 pub returns : goal.returns
 returns g c =
-    adds_then _ _ _ _ _ c.add.ensures.adds c.put_number.ensures
+    g.met.O.Out.adds_then _ _ _ _ _ c.add.ensures c.put_number.ensures

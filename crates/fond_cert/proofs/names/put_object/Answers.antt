@@ -1,6 +1,0 @@
-use Rattle.fond_edge.proofs.Puts.{adds_then}
-use Rattle.fond_cert.proofs.names.put_object.Goals as goal
-
-pub returns : goal.returns
-returns g c =
-    adds_then _ _ _ _ _ c.add.ensures.adds c.put_name.ensures
