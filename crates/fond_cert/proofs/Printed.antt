@@ -1,7 +1,6 @@
 -- What is printed is how certificates are written.
 use Rattle.std.proofs.Common.{◌≡◌, ℕ, ◌≤◌, length, zero, suc, Bool, List, [], ◌∷◌, ◌++◌, Option, Some, None, map, codes, refl, sym, ap, ◌∙◌, arith, append_assoc, drop}
 use Rattle.std.specs.Prelude.{slice_get}
-use Rattle.std.specs.Fmt.{decimal}
 use Rattle.std.specs.List.{filter_map, flat_map, enumerate_from, cons_option}
 use Rattle.std.specs.Option.{option_map, option_map_or}
 use Rattle.std.proofs.lemmas.Grind.{flat_map-append}
@@ -12,13 +11,7 @@ use Rattle.fond_task.specs.declared.task.Task.{Task}
 use Rattle.fond_task.specs.Texts.{action_text}
 use Rattle.fond_state.specs.Cubes.{literal_at}
 use Rattle.fond_task.specs.Layers.{CubeView}
-use Rattle.fond_task.specs.declared.rule.Pair.{Pair}
-use Rattle.fond_task.specs.declared.rule.Rule.{Rule}
-use Rattle.fond_task.specs.declared.rule.Targets.{Targets}
-use Rattle.fond_task.specs.declared.rule.Targets.TheVariants.{One, All}
-use Rattle.fond_policy.specs.declared.item.Item.{Item}
-use Rattle.fond_policy.specs.declared.item.Way.{Way}
-use Rattle.fond_policy.specs.declared.item.Way.TheVariants.{Goal as ToGoal, Rule as ByRule}
+use Rattle.fond_task.specs.declared.rule.Targets.TheVariants.{One}
 use Rattle.fond_policy.specs.declared.best.BestCert.{BestCert}
 use Rattle.fond_policy.specs.declared.cert.Cert.{Cert}
 use Rattle.fond_cert.specs.declared.draft.Draft.{Draft}
@@ -28,10 +21,10 @@ use Rattle.fond_cert.specs.declared.due.Kind.TheVariants.{Best as OfBest}
 use Rattle.fond_cert.specs.declared.due.Section.{Section}
 use Rattle.fond_cert.specs.declared.due.Section.TheVariants.{One as OneOf, Any, Few, Blocks}
 use Rattle.fond_cert.specs.Sections.{sections}
-use Rattle.fond_form.specs.Lines.{group_text, spaced, WrittenLiteral, sign_text, literals_text}
-use Rattle.fond_form.specs.Forms.{Field, text_of, form, value_text, Values, fields_text, Line}
-use Rattle.fond_cert.specs.Printed.{atom_literal_text, cube_text, fed, chosen_text, cond_text, pair_text, rule_text, way_text, item_text, ranked_way_text, ranked_text, layer_text, far_text, entry_text}
-use Rattle.fond_cert.specs.Spellings.{action_leaves, act_leaves, written_literal, written_cube, target_word, targets_line, layer_lines, far_lines, pair_line, rule_line, way_line, item_line, ranked_way_line, ranked_line, reach_line, start_line, end_line, Entry, entry_line, all_layers, all_far, entries, lines_then, header, Content, parts_of, kind_of, lines_text, spelling, best_spelling}
+use Rattle.fond_form.specs.Lines.{group_text, WrittenLiteral, sign_text, literals_text}
+use Rattle.fond_form.specs.Forms.{Line}
+use Rattle.fond_cert.specs.Printed.{atom_literal_text, cube_text, fed, layer_text, far_text}
+use Rattle.fond_cert.specs.Spellings.{action_leaves, act_leaves, written_literal, written_cube, layer_lines, far_lines, end_line, Entry, entry_line, all_layers, all_far, entries, lines_then, header, Content, parts_of, kind_of, lines_text, spelling, best_spelling}
 use Rattle.fond_cert.proofs.Acts.{leaves_text as action_leaves_text}
 use Rattle.fond_cert.proofs.CubeTexts.{leaves_text}
 use Rattle.fond_cert.proofs.Leads.{lines_append}
@@ -63,78 +56,18 @@ none_of F [] (suc i) le = refl
 none_of F (x ∷ xs) zero le = absurd (omega (arith, le))
 none_of F (x ∷ xs) (suc i) le = none_of F xs i (omega (arith, le))
 
--- the text of fields, and a text after them
-abbrev fields_then : (fields : List Field) → Values fields → List ℕ → List ℕ
-fields_then [] values end = end
-fields_then (field ∷ fields) values end = text_of field.0 ++ (value_text field.1 values.0 ++ fields_then fields values.1 end)
-
-fields_end : (fields : List Field) (values : Values fields) (end : List ℕ) → fields_text fields values ++ end ≡ fields_then fields values end
-fields_end [] values end = refl
-fields_end (field ∷ fields) values end =
-    let value = value_text field.1 values.0 in
-    append_assoc (text_of field.0) (value ++ fields_text fields values.1) end
-    ∙ ap (λ t. text_of field.0 ++ t) (append_assoc value (fields_text fields values.1) end ∙ ap (λ t. value ++ t) (fields_end fields values.1 end))
-
--- a line with its line feed, field by field
-pub line_is : (line : Line) → fields_then (form line.kind) line.values (codes "\n") ≡ fed line
-line_is line = sym (fields_end (form line.kind) line.values (codes "\n"))
-
 -- lines of which each item makes several, item by item
 pub several_lines : {X : Type 0} (f : X → List Line) (xs : List X) → lines_text (flat_map f xs) ≡ flat_map (λ (x : X). lines_text (f x)) xs
 several_lines f [] = refl
 several_lines f (x ∷ xs) = flat_map-append fed (f x) (flat_map f xs) ∙ ap (λ t. lines_text (f x) ++ t) (several_lines f xs)
 
-flat3 : (o l c t : List ℕ) → (o ++ (l ++ c)) ++ t ≡ o ++ (l ++ (c ++ t))
-flat3 o l c t = append_assoc o (l ++ c) t ∙ ap (λ u. o ++ u) (append_assoc l c t)
-
-pair_is : (task : Task) (pair : Pair) → pair_text task pair ≡ fed (pair_line task pair)
-pair_is task pair =
-    ap (λ t. codes "pair " ++ (group_text (act_leaves task pair.act) ++ t)) (flat3 (codes " " ++ decimal pair.outcome) (codes " " ++ decimal pair.layer) (codes " " ++ decimal pair.cube) (cond_text task pair.cond))
-    ∙ line_is (pair_line task pair)
-
-rule_by : (task : Task) (act : ℕ) (targets : Targets) (cond : CubeView) →
-    codes "rule " ++ (group_text (act_leaves task act) ++ (chosen_text targets ++ cond_text task cond)) ≡ fed (targets_line task act targets cond)
-rule_by task act (One outcome target) cond =
-    ap (λ t. codes "rule " ++ (group_text (act_leaves task act) ++ (codes " fair " ++ t))) (append_assoc (decimal outcome) (codes " " ++ target_word target) (cond_text task cond))
-    ∙ line_is (targets_line task act (One outcome target) cond)
-rule_by task act (All targets) cond = line_is (targets_line task act (All targets) cond)
-
-rule_is : (task : Task) (rule : Rule) → rule_text task rule ≡ fed (rule_line task rule)
-rule_is task rule = rule_by task rule.act rule.targets rule.cond
-
-way_by : (task : Task) (way : Way) (cube : CubeView) → codes "item " ++ (way_text way ++ cond_text task cube) ≡ fed (way_line task way cube)
-way_by task ToGoal cube = line_is (way_line task ToGoal cube)
-way_by task (ByRule rule numbers) cube =
-    ap (λ t. codes "item " ++ t) (append_assoc (decimal rule) (spaced (map decimal numbers)) (cond_text task cube)) ∙ line_is (way_line task (ByRule rule numbers) cube)
-
-item_is : (task : Task) (item : Item) → item_text task item ≡ fed (item_line task item)
-item_is task item = way_by task item.way item.cube
-
-ranked_by : (task : Task) (way : Way) (cube : CubeView) (rank : ℕ) → codes "item " ++ (ranked_way_text way rank ++ cond_text task cube) ≡ fed (ranked_way_line task way cube rank)
-ranked_by task ToGoal cube rank = line_is (ranked_way_line task ToGoal cube rank)
-ranked_by task (ByRule rule numbers) cube rank =
-    let last = spaced (map decimal numbers) in
-    let end = cond_text task cube in
-    ap (λ t. codes "item " ++ t)
-    (append_assoc (decimal rule) (codes " rank " ++ (decimal rank ++ last)) end ∙ ap (λ t. decimal rule ++ (codes " rank " ++ t)) (append_assoc (decimal rank) last end))
-    ∙ line_is (ranked_way_line task (ByRule rule numbers) cube rank)
-
-ranked_is : (task : Task) (entry : Item × ℕ) → ranked_text task entry ≡ fed (ranked_line task entry)
-ranked_is task entry = ranked_by task entry.0.way entry.0.cube entry.1
-
 pub mapped : {X : Type 0} (f : X → Line) (g : X → List ℕ) → ((x : X) → g x ≡ fed (f x)) → (xs : List X) → flat_map g xs ≡ lines_text (map f xs)
 mapped f g h [] = refl
 mapped f g h (x ∷ xs) = ap (λ t. t ++ flat_map g xs) (h x) ∙ ap (λ t. fed (f x) ++ t) (mapped f g h xs)
 
--- the text of an entry is that of its line
-entry_is : (task : Task) (group : Group) (entry : Entry group) → entry_text task group entry ≡ fed (entry_line task group entry)
-entry_is task g.Pair pair = pair_is task pair
-entry_is task g.Rule rule = rule_is task rule
-entry_is task g.Item item = item_is task item
-entry_is task g.Reach reach = line_is (reach_line task reach)
-entry_is task g.Start start = line_is (start_line task start)
-entry_is task g.Ranked entry = ranked_is task entry
-entry_is task group entry = refl
+-- the text of an entry: that of its line
+abbrev entry_text : Task → (group : Group) → Entry group → List ℕ
+entry_text task group entry = fed (entry_line task group entry)
 
 -- the texts of items, one by one, and a further text
 abbrev texts_then : {X : Type 0} → (X → List ℕ) → List X → List ℕ → List ℕ
@@ -147,7 +80,7 @@ flat_then f (x ∷ xs) further = append_assoc (f x) (flat_map f xs) further ∙ 
 
 entries_are : (task : Task) (group : Group) (xs : List (Entry group)) (further : List ℕ) (lines : List Line) → further ≡ lines_text lines → texts_then (entry_text task group) xs further ≡ lines_text (map (entry_line task group) xs ++ lines)
 entries_are task group [] further lines same = same
-entries_are task group (x ∷ xs) further lines same = λ i. entry_is task group x i ++ entries_are task group xs further lines same i
+entries_are task group (x ∷ xs) further lines same = ap (λ t. entry_text task group x ++ t) (entries_are task group xs further lines same)
 
 -- the text of sections as it is printed, and the last line
 abbrev sections_text : Task → Draft → List Section → List ℕ

@@ -7,6 +7,7 @@ pub mod code;
 mod draft;
 mod due;
 pub mod error;
+mod field;
 mod grow;
 mod item;
 pub mod laws;

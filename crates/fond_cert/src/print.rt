@@ -3,19 +3,20 @@
 
 ghost use Rattle.fond_policy.specs.Belongs.{Belongs, BelongsAsBest};
 ghost use Rattle.fond_cert.specs.Items.{IsPairOf, IsRuleOf};
-ghost use Rattle.fond_cert.specs.Printed.{fed, reach_text, start_text, chosen_text, places_text, cond_text, pair_text, rule_text, layer_text, far_text, way_text, item_text, ranked_way_text, ranked_text};
-ghost use Rattle.fond_cert.specs.Spellings.{best_spelling, cube_line, spelling};
+ghost use Rattle.fond_cert.specs.Printed.{far_text, fed, layer_text};
+ghost use Rattle.fond_cert.specs.Spellings.{best_spelling, end_line, item_line, pair_line, ranked_line, rule_line, spelling};
 ghost use Rattle.fond_edge.specs.Faults.{Rose};
 ghost use Rattle.fond_edge.specs.Pens.{flow, IsPut, IsLost};
 ghost use Rattle.fond_edge.specs.Written.{Appended, AppendedPart};
-ghost use Rattle.std.specs.Prelude.{◌≡◌, ◌≤◌, codes, IfOk, OnOk, OnErr};
+ghost use Rattle.std.specs.Prelude.{◌≡◌, ◌≤◌, IfOk, OnOk, OnErr};
 
+use crate::field::{Datum, put_line};
 use crate::listing::{Listing, put_all};
-use crate::put::{put_act, put_cube, put_item_numbers, put_spaced, put_target, put_targets};
 use fond_edge::pen::Pen;
 use fond_edge::send::WriteFault;
 use fond_edge::sink::Sink;
 use fond_edge::writer::Writer;
+use fond_form::table::LineKind;
 use fond_layers::layers::{Layer, Layers};
 use fond_policy::best::{BestCert, Ranks};
 use fond_policy::cert::Cert;
@@ -27,18 +28,9 @@ use fond_state::cube::Cube;
 use fond_task::rule::{Pair, Rule, Targets};
 use fond_task::task::Task;
 use fond_text::fault::NoMemory;
-use fond_text::out::{Out, put_number};
+use fond_text::out::Out;
 use fond_text::text::Text;
 use std::alloc::Global;
-
-/// Adds the line of a cube.
-fn put_cube_line<O: Out>(task: &Task, cube: &Cube, out: &mut O)
-    ensures { O.adds out.old out.new (fed (cube_line task.now cube.now)) }
-{
-    out.add(b"cube");
-    put_cube(task, cube, out);
-    out.add(b"\n");
-}
 
 impl Listing for Layer {
     ghost use Rattle.std.specs.Prelude.{◌^◌, ⊤};
@@ -60,7 +52,8 @@ impl Listing for Layer {
     }
 
     fn put_at<O: Out>(&self, task: &Task, i: u64, out: &mut O) {
-        put_cube_line(task, &self.as_slice()[i as usize], out);
+        let cube = &self.as_slice()[i as usize];
+        put_line(task, LineKind::Cube, &[Datum::Cube(cube)], out);
     }
 }
 
@@ -68,7 +61,7 @@ impl Listing for Layer {
 fn put_layer<O: Out>(task: &Task, layer: &Layer, out: &mut O)
     ensures { O.adds out.old out.new (layer_text task.now layer.now) }
 {
-    out.add(b"layer\n");
+    put_line(task, LineKind::Layer, &[Datum::Nothing], out);
     put_all(task, layer, out);
 }
 
@@ -95,38 +88,25 @@ impl Listing for Layers {
     }
 }
 
-/// Adds a condition at the end of a line.
-fn put_cond<O: Out>(task: &Task, cond: &Cube, out: &mut O)
-    ensures { O.adds out.old out.new (cond_text task.now cond.now) }
-{
-    out.add(b" :");
-    put_cube(task, cond, out);
-    out.add(b"\n");
-}
-
-/// Adds the numbers of a pair, each after a space.
-fn put_places<O: Out>(pair: &Pair, out: &mut O)
-    ensures { O.adds out.old out.new (places_text pair.now) }
-{
-    put_spaced(pair.outcome, out);
-    put_spaced(pair.layer, out);
-    put_spaced(pair.cube, out);
-}
-
 /// Adds the line of a pair.
 fn put_pair<O: Out>(task: &Task, pair: &Pair, out: &mut O)
     requires { IsPairOf task.now pair.now }
-    ensures { O.adds out.old out.new (pair_text task.now pair.now) }
+    ensures { O.adds out.old out.new (fed (pair_line task.now pair.now)) }
 {
-    out.add(b"pair ");
-    put_act(task, pair.act, out);
-    put_places(pair, out);
-    put_cond(task, &pair.cond, out);
+    let values = [
+        Datum::Act(pair.act),
+        Datum::Number(pair.outcome as u64),
+        Datum::Number(pair.layer as u64),
+        Datum::Number(pair.cube as u64),
+        Datum::Cube(&pair.cond),
+    ];
+    put_line(task, LineKind::Pair, &values, out);
 }
 
 impl Listing for Pairs {
     ghost use Rattle.std.specs.Prelude.{◌^◌};
-    ghost use Rattle.fond_cert.specs.Printed.{pair_text};
+    ghost use Rattle.fond_cert.specs.Printed.{fed};
+    ghost use Rattle.fond_cert.specs.Spellings.{pair_line};
     ghost use Rattle.fond_cert.specs.Items.{IsPairOf};
 
     type Item = Pair;
@@ -137,7 +117,7 @@ impl Listing for Pairs {
 
     ghost fits = { IsPairOf };
 
-    ghost text = { pair_text };
+    ghost text = { λ task pair. fed (pair_line task pair) };
 
     fn count(&self) -> u64 {
         self.len()
@@ -148,38 +128,30 @@ impl Listing for Pairs {
     }
 }
 
-/// Adds the targets of a rule, after its action.
-fn put_rule_targets<O: Out>(targets: &Targets, out: &mut O)
-    ensures { O.adds out.old out.new (chosen_text targets.now) }
+/// Adds the line of a rule.
+fn put_rule<O: Out>(task: &Task, rule: &Rule, out: &mut O)
+    requires { IsRuleOf task.now rule.now }
+    ensures { O.adds out.old out.new (fed (rule_line task.now rule.now)) }
 {
-    match targets {
+    let act = Datum::Act(rule.act);
+    let cond = Datum::Cube(&rule.cond);
+    match &rule.targets {
         Targets::One { outcome, target } => {
-            out.add(b" fair ");
-            put_number(*outcome as u64, out);
-            out.add(b" ");
-            put_target(*target, out);
+            let outcome = Datum::Number(*outcome as u64);
+            let values = [act, outcome, Datum::Target(*target), cond];
+            put_line(task, LineKind::FairRule, &values, out);
         }
         Targets::All(targets) => {
-            out.add(b" unfair");
-            put_targets(targets, out);
+            let values = [act, Datum::Targets(targets), cond];
+            put_line(task, LineKind::UnfairRule, &values, out);
         }
     }
 }
 
-/// Adds the line of a rule.
-fn put_rule<O: Out>(task: &Task, rule: &Rule, out: &mut O)
-    requires { IsRuleOf task.now rule.now }
-    ensures { O.adds out.old out.new (rule_text task.now rule.now) }
-{
-    out.add(b"rule ");
-    put_act(task, rule.act, out);
-    put_rule_targets(&rule.targets, out);
-    put_cond(task, &rule.cond, out);
-}
-
 impl Listing for Rules {
     ghost use Rattle.std.specs.Prelude.{◌^◌};
-    ghost use Rattle.fond_cert.specs.Printed.{rule_text};
+    ghost use Rattle.fond_cert.specs.Printed.{fed};
+    ghost use Rattle.fond_cert.specs.Spellings.{rule_line};
     ghost use Rattle.fond_cert.specs.Items.{IsRuleOf};
 
     type Item = Rule;
@@ -190,7 +162,7 @@ impl Listing for Rules {
 
     ghost fits = { IsRuleOf };
 
-    ghost text = { rule_text };
+    ghost text = { λ task rule. fed (rule_line task rule) };
 
     fn count(&self) -> u64 {
         self.len() as u64
@@ -201,49 +173,24 @@ impl Listing for Rules {
     }
 }
 
-/// Adds the reach line.
-fn put_reach<O: Out>(reach: u64, out: &mut O)
-    ensures { O.adds out.old out.new (reach_text reach) }
+/// Adds the line of an item.
+fn put_item<O: Out>(task: &Task, item: &Item, out: &mut O)
+    ensures { O.adds out.old out.new (fed (item_line task.now item.now)) }
 {
-    out.add(b"reach ");
-    put_number(reach, out);
-    out.add(b"\n");
-}
-
-/// Adds the start line.
-fn put_start<O: Out>(start: u32, out: &mut O)
-    ensures { O.adds out.old out.new (start_text start) }
-{
-    out.add(b"start ");
-    put_number(start as u64, out);
-    out.add(b"\n");
-}
-
-/// Adds a way, after the word of its line.
-fn put_way<O: Out>(way: &Way, out: &mut O)
-    ensures { O.adds out.old out.new (way_text way.now) }
-{
-    match way {
-        Way::Goal => out.add(b"goal"),
+    let cube = Datum::Cube(&item.cube);
+    match &item.way {
+        Way::Goal => put_line(task, LineKind::GoalItem, &[cube], out),
         Way::Rule { rule, items } => {
-            put_number(*rule as u64, out);
-            put_item_numbers(items, out);
+            let values = [Datum::Number(*rule as u64), Datum::Numbers(items), cube];
+            put_line(task, LineKind::RuleItem, &values, out);
         }
     }
 }
 
-/// Adds the line of an item.
-fn put_item<O: Out>(task: &Task, item: &Item, out: &mut O)
-    ensures { O.adds out.old out.new (item_text task.now item.now) }
-{
-    out.add(b"item ");
-    put_way(&item.way, out);
-    put_cond(task, &item.cube, out);
-}
-
 impl Listing for Items {
     ghost use Rattle.std.specs.Prelude.{◌^◌, ⊤};
-    ghost use Rattle.fond_cert.specs.Printed.{item_text};
+    ghost use Rattle.fond_cert.specs.Printed.{fed};
+    ghost use Rattle.fond_cert.specs.Spellings.{item_line};
 
     type Item = Item;
 
@@ -253,7 +200,7 @@ impl Listing for Items {
 
     ghost fits = { λ task item. ⊤ };
 
-    ghost text = { item_text };
+    ghost text = { λ task item. fed (item_line task item) };
 
     fn count(&self) -> u64 {
         self.len() as u64
@@ -264,28 +211,19 @@ impl Listing for Items {
     }
 }
 
-/// Adds a way and a rank, which is not written for an item of goals, after the word of their line.
-fn put_ranked_way<O: Out>(way: &Way, rank: u64, out: &mut O)
-    ensures { O.adds out.old out.new (ranked_way_text way.now rank) }
+/// Adds the line of an item with its rank, which is not written for an item of goals.
+fn put_ranked<O: Out>(task: &Task, item: &Item, rank: u64, out: &mut O)
+    ensures { O.adds out.old out.new (fed (ranked_line task.now (item.now, rank))) }
 {
-    match way {
-        Way::Goal => out.add(b"goal"),
+    let cube = Datum::Cube(&item.cube);
+    match &item.way {
+        Way::Goal => put_line(task, LineKind::GoalItem, &[cube], out),
         Way::Rule { rule, items } => {
-            put_number(*rule as u64, out);
-            out.add(b" rank ");
-            put_number(rank, out);
-            put_item_numbers(items, out);
+            let rule = Datum::Number(*rule as u64);
+            let values = [rule, Datum::Number(rank), Datum::Numbers(items), cube];
+            put_line(task, LineKind::RankedItem, &values, out);
         }
     }
-}
-
-/// Adds the line of an item with its rank.
-fn put_ranked<O: Out>(task: &Task, item: &Item, rank: u64, out: &mut O)
-    ensures { O.adds out.old out.new (ranked_text task.now (item.now, rank)) }
-{
-    out.add(b"item ");
-    put_ranked_way(&item.way, rank, out);
-    put_cond(task, &item.cube, out);
 }
 
 /// Items with their ranks.
@@ -298,7 +236,8 @@ struct Ranked<'a> {
 impl<'a> Listing for Ranked<'a> {
     ghost use Rattle.std.specs.List.{zip};
     ghost use Rattle.std.specs.Prelude.{◌^◌, ⊤};
-    ghost use Rattle.fond_cert.specs.Printed.{ranked_text};
+    ghost use Rattle.fond_cert.specs.Printed.{fed};
+    ghost use Rattle.fond_cert.specs.Spellings.{ranked_line};
 
     type Item = (Item, u64);
 
@@ -308,7 +247,7 @@ impl<'a> Listing for Ranked<'a> {
 
     ghost fits = { λ task entry. ⊤ };
 
-    ghost text = { ranked_text };
+    ghost text = { λ task entry. fed (ranked_line task entry) };
 
     fn count(&self) -> u64 {
         let ranks = self.ranks.len() as u64;
@@ -325,7 +264,7 @@ impl<'a> Listing for Ranked<'a> {
 fn put_far<O: Out>(task: &Task, list: &Layer, out: &mut O)
     ensures { O.adds out.old out.new (far_text task.now list.now) }
 {
-    out.add(b"far\n");
+    put_line(task, LineKind::Far, &[Datum::Nothing], out);
     put_all(task, list, out);
 }
 
@@ -359,10 +298,10 @@ impl<'a> Listing for FarLists<'a> {
 }
 
 /// Adds the last line.
-fn put_end<O: Out>(out: &mut O)
-    ensures { O.adds out.old out.new (codes "end\n") }
+fn put_end<O: Out>(task: &Task, out: &mut O)
+    ensures { O.adds out.old out.new (fed (end_line task.now)) }
 {
-    out.add(b"end\n");
+    put_line(task, LineKind::End, &[Datum::Nothing], out);
 }
 
 /// Adds the lines of a certificate.
@@ -377,17 +316,17 @@ fn put_lines<O: Out>(task: &Task, cert: &Cert, out: &mut O)
             rules,
             reach,
         } => {
-            out.add(b"dualfond 1 policy\n");
+            put_line(task, LineKind::PolicyHeader, &[Datum::Nothing], out);
             put_all(task, layers, out);
             put_all(task, pairs, out);
             put_all(task, rules, out);
-            put_reach(*reach, out);
-            put_end(out);
+            put_line(task, LineKind::Reach, &[Datum::Number(*reach)], out);
+            put_end(task, out);
         }
         Cert::Refusal { layers } => {
-            out.add(b"dualfond 1 refusal\n");
+            put_line(task, LineKind::RefusalHeader, &[Datum::Nothing], out);
             put_all(task, layers, out);
-            put_end(out);
+            put_end(task, out);
         }
         Cert::Covered {
             layers,
@@ -396,13 +335,13 @@ fn put_lines<O: Out>(task: &Task, cert: &Cert, out: &mut O)
             items,
             start,
         } => {
-            out.add(b"dualfond 2 policy\n");
+            put_line(task, LineKind::CoverHeader, &[Datum::Nothing], out);
             put_all(task, layers, out);
             put_all(task, pairs, out);
             put_all(task, rules, out);
             put_all(task, items, out);
-            put_start(*start, out);
-            put_end(out);
+            put_line(task, LineKind::Start, &[Datum::Number(*start as u64)], out);
+            put_end(task, out);
         }
     }
 }
@@ -463,13 +402,18 @@ fn put_best<O: Out>(task: &Task, cert: &BestCert, out: &mut O)
         ranks: &cert.ranks,
     };
     let far = FarLists { lists: &cert.far };
-    out.add(b"dualfond 2 best\n");
+    put_line(task, LineKind::BestHeader, &[Datum::Nothing], out);
     put_all(task, &cert.layers, out);
     put_all(task, &cert.rules, out);
     put_all(task, &items, out);
-    put_start(cert.start, out);
+    put_line(
+        task,
+        LineKind::Start,
+        &[Datum::Number(cert.start as u64)],
+        out,
+    );
     put_all(task, &far, out);
-    put_end(out);
+    put_end(task, out);
 }
 
 /// Puts the text of a certificate of least rank into a pen, in pieces, or tells that the pen has failed. Takes time in the length of

@@ -2,7 +2,7 @@
 //! atoms for each cube, and no memory but that of the destination.
 
 ghost use Rattle.fond_form.specs.Lines.{group_text, spaced, sign_text, literals_text};
-ghost use Rattle.fond_cert.specs.Printed.{atom_literal_text, cube_text};
+ghost use Rattle.fond_cert.specs.Printed.{atom_literal_text};
 ghost use Rattle.fond_cert.specs.Spellings.{act_leaves, written_cube, target_word};
 ghost use Rattle.std.specs.Fmt.{decimal};
 ghost use Rattle.std.specs.Prelude.{◌++◌, ◌<◌, codes, length, map};
@@ -37,19 +37,12 @@ fn put_literal<O: Out>(labels: &Labels, atom: &Atom, literal: Option<bool>, out:
 }
 
 /// Adds the literals of the cube, atom by atom.
-fn put_literals<O: Out>(task: &Task, cube: &Cube, out: &mut O)
-    ensures { O.adds out.old out.new (cube_text task.now cube.now) }
+pub(crate) fn put_cube<O: Out>(task: &Task, cube: &Cube, out: &mut O)
+    ensures { O.adds out.old out.new (literals_text (written_cube task.now cube.now)) }
 {
     for (i, atom) in task.atoms.as_slice().iter().enumerate() {
         put_literal(&task.labels, atom, cube.literal(i as u32), out);
     }
-}
-
-/// Adds the literals of the cube.
-pub(crate) fn put_cube<O: Out>(task: &Task, cube: &Cube, out: &mut O)
-    ensures { O.adds out.old out.new (literals_text (written_cube task.now cube.now)) }
-{
-    put_literals(task, cube, out);
 }
 
 /// Adds the action of this number.
@@ -88,7 +81,7 @@ pub(crate) fn put_targets<O: Out>(targets: &TargetList, out: &mut O)
 }
 
 /// Adds a number after a space.
-pub(crate) fn put_spaced<O: Out>(number: u32, out: &mut O)
+fn put_spaced<O: Out>(number: u32, out: &mut O)
     ensures { O.adds out.old out.new (codes " " ++ decimal number) }
 {
     out.add(b" ");

@@ -72,7 +72,7 @@ pub enum LineKind {
 }
 
 /// The bytes of a text.
-pub(crate) fn bytes_of(text: Text) -> &'static [u8]
+pub fn bytes_of(text: Text) -> &'static [u8]
     ensures { result.now ≡ text_of text }
 {
     match text {

@@ -1,5 +1,7 @@
 use Rattle.fond_cert.proofs.print.put_item.Goals as goal
 
-pub returns : goal.returns
-returns g c =
-    g.met.O.Out.adds_then _ _ _ _ _ c.add.ensures (g.met.O.Out.adds_then _ _ _ _ _ c.put_way.ensures c.put_cond.ensures)
+pub returns-in-Goal : goal.returns-in-Goal
+returns-in-Goal g c = rw c.in-Goal.is c.put_line.ensures
+
+pub returns-in-Rule : goal.returns-in-Rule
+returns-in-Rule g c = rw c.in-Rule.is c.put_line-in-Rule.ensures

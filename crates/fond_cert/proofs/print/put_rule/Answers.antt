@@ -1,5 +1,7 @@
 use Rattle.fond_cert.proofs.print.put_rule.Goals as goal
 
-pub returns : goal.returns
-returns g c =
-    g.met.O.Out.adds_then _ _ _ _ _ c.add.ensures (g.met.O.Out.adds_then _ _ _ _ _ c.put_act.ensures (g.met.O.Out.adds_then _ _ _ _ _ c.put_rule_targets.ensures c.put_cond.ensures))
+pub returns-in-One : goal.returns-in-One
+returns-in-One g c = rw c.in-One.is c.put_line.ensures
+
+pub returns-in-All : goal.returns-in-All
+returns-in-All g c = rw c.in-All.is c.put_line-in-All.ensures

@@ -3,7 +3,7 @@ use Rattle.std.specs.List.{flat_map, enumerate_from}
 use Rattle.fond_state.specs.Cubes.{literal_at}
 use Rattle.fond_cert.specs.Printed.{atom_literal_text}
 use Rattle.fond_text.proofs.Outs.{Adding}
-use Rattle.fond_cert.proofs.put.put_literals.Given as goal
+use Rattle.fond_cert.proofs.put.put_cube.Given as goal
 
 abbrev pub invariant-loop-i : goal.invariant-loop-i
 invariant-loop-i g l =
