@@ -1,5 +1,5 @@
 -- What is printed is how certificates are written.
-use Rattle.std.proofs.Common.{◌≡◌, ℕ, ◌≤◌, length, zero, suc, Bool, List, [], ◌∷◌, ◌++◌, Option, Some, None, map, codes, refl, sym, ap, ◌∙◌, arith, append_assoc, drop}
+use Rattle.std.proofs.Common.{◌≡◌, ℕ, Bool, List, [], ◌∷◌, ◌++◌, Option, Some, None, map, codes, refl, sym, ap, ◌∙◌, append_assoc}
 use Rattle.std.specs.Prelude.{slice_get}
 use Rattle.std.specs.List.{filter_map, flat_map, enumerate_from, cons_option}
 use Rattle.std.specs.Option.{option_map, option_map_or}
@@ -11,7 +11,6 @@ use Rattle.fond_task.specs.declared.task.Task.{Task}
 use Rattle.fond_task.specs.Texts.{action_text}
 use Rattle.fond_state.specs.Cubes.{literal_at}
 use Rattle.fond_task.specs.Layers.{CubeView}
-use Rattle.fond_task.specs.declared.rule.Targets.TheVariants.{One}
 use Rattle.fond_policy.specs.declared.best.BestCert.{BestCert}
 use Rattle.fond_policy.specs.declared.cert.Cert.{Cert}
 use Rattle.fond_cert.specs.declared.draft.Draft.{Draft}
@@ -23,7 +22,7 @@ use Rattle.fond_cert.specs.declared.due.Section.TheVariants.{One as OneOf, Any, 
 use Rattle.fond_cert.specs.Sections.{sections}
 use Rattle.fond_form.specs.Lines.{group_text, WrittenLiteral, sign_text, literals_text}
 use Rattle.fond_form.specs.Forms.{Line}
-use Rattle.fond_cert.specs.Printed.{atom_literal_text, cube_text, fed, layer_text, far_text}
+use Rattle.fond_cert.specs.Printed.{atom_literal_text, fed, layer_text, far_text}
 use Rattle.fond_cert.specs.Spellings.{action_leaves, act_leaves, written_literal, written_cube, layer_lines, far_lines, end_line, Entry, entry_line, all_layers, all_far, entries, lines_then, header, Content, parts_of, kind_of, lines_text, spelling, best_spelling}
 use Rattle.fond_cert.proofs.Acts.{leaves_text as action_leaves_text}
 use Rattle.fond_cert.proofs.CubeTexts.{leaves_text}
@@ -43,27 +42,20 @@ cube_items_text labels cube (item ∷ items) =
     ap (λ t. atom_literal_text labels item.1 (literal_at cube item.0) ++ t) (cube_items_text labels cube items)
     ∙ one_item labels item.1 (literal_at cube item.0) (filter_map (λ (item : ℕ × Atom). option_map (written_literal labels item.1) (literal_at cube item.0)) items)
 
+-- the text of a cube's literals, atom by atom
+abbrev pub cube_text : Task → CubeView → List ℕ
+cube_text task cube = flat_map (λ item. atom_literal_text task.labels item.1 (literal_at cube item.0)) (enumerate_from 0 task.atoms)
+
 pub cube_text_is : (task : Task) (cube : CubeView) → cube_text task cube ≡ literals_text (written_cube task cube)
 cube_text_is task cube = cube_items_text task.labels cube (enumerate_from 0 task.atoms)
 
 pub act_text_is : (task : Task) (n : ℕ) (act : Act) → slice_get task.acts n ≡ Some act → action_text task.labels act.ground ≡ group_text (act_leaves task n)
 act_text_is task n act e = action_leaves_text task.labels act.ground ∙ ap (λ o. group_text (option_map_or (λ (a : Act). action_leaves task.labels a.ground) o [])) (sym e)
 
--- a text of the items past the last one
-pub none_of : {X : Type 0} (F : List X → List ℕ) (xs : List X) (i : ℕ) → length xs ≤ i → F (drop i xs) ≡ F []
-none_of F [] zero le = refl
-none_of F [] (suc i) le = refl
-none_of F (x ∷ xs) zero le = absurd (omega (arith, le))
-none_of F (x ∷ xs) (suc i) le = none_of F xs i (omega (arith, le))
-
 -- lines of which each item makes several, item by item
 pub several_lines : {X : Type 0} (f : X → List Line) (xs : List X) → lines_text (flat_map f xs) ≡ flat_map (λ (x : X). lines_text (f x)) xs
 several_lines f [] = refl
 several_lines f (x ∷ xs) = flat_map-append fed (f x) (flat_map f xs) ∙ ap (λ t. lines_text (f x) ++ t) (several_lines f xs)
-
-pub mapped : {X : Type 0} (f : X → Line) (g : X → List ℕ) → ((x : X) → g x ≡ fed (f x)) → (xs : List X) → flat_map g xs ≡ lines_text (map f xs)
-mapped f g h [] = refl
-mapped f g h (x ∷ xs) = ap (λ t. t ++ flat_map g xs) (h x) ∙ ap (λ t. fed (f x) ++ t) (mapped f g h xs)
 
 -- the text of an entry: that of its line
 abbrev entry_text : Task → (group : Group) → Entry group → List ℕ

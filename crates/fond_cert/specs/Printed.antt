@@ -1,12 +1,11 @@
 -- What is printed, part by part.
 use Rattle.std.specs.Prelude.{ℕ, ◌<◌, List, [], ◌++◌, Bool, Option, Some, None, codes, length, map, ⊤}
 use Rattle.std.specs.Fmt.{decimal}
-use Rattle.std.specs.List.{enumerate_from, flat_map, zip}
+use Rattle.std.specs.List.{flat_map, zip}
 use Rattle.fond_text.specs.declared.atom.Atom.{Atom}
 use Rattle.fond_task.specs.declared.task.Labels.{Labels}
 use Rattle.fond_task.specs.declared.task.Task.{Task}
 use Rattle.fond_task.specs.Texts.{atom_text}
-use Rattle.fond_state.specs.Cubes.{literal_at}
 use Rattle.fond_task.specs.Layers.{CubeView}
 use Rattle.fond_form.specs.Lines.{group_text, spaced, sign_text, literals_text}
 use Rattle.fond_form.specs.Forms.{Field, Line, line_text, text_of}
@@ -18,10 +17,6 @@ use Rattle.fond_cert.specs.Spellings.{act_leaves, target_word, written_cube, lay
 abbrev pub atom_literal_text : Labels → Atom → Option Bool → List ℕ
 atom_literal_text labels atom None = []
 atom_literal_text labels atom (Some sign) = codes " " ++ (sign_text sign ++ atom_text labels atom)
-
--- the text of a cube's literals, atom by atom
-abbrev pub cube_text : Task → CubeView → List ℕ
-cube_text task cube = flat_map (λ item. atom_literal_text task.labels item.1 (literal_at cube item.0)) (enumerate_from 0 task.atoms)
 
 -- the text of the value that stands for this
 abbrev pub datum_text : Task → Datum → List ℕ

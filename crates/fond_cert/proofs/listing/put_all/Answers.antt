@@ -1,7 +1,7 @@
 use Rattle.std.proofs.Common.{◌<◌, length, arith, sym, ◌∙◌}
+use Rattle.std.proofs.lemmas.List.{at_drop_all}
 use Rattle.std.specs.List.{flat_map}
 use Rattle.fond_text.proofs.Outs.{adding_all, adding_at, adding_none, adding_lost}
-use Rattle.fond_cert.proofs.Printed.{none_of}
 use Rattle.fond_cert.proofs.listing.put_all.Goals as goal
 
 pub loop-i-init : goal.loop-i-init
@@ -17,4 +17,4 @@ returns-then-has_failed g c = adding_lost g.O.Out.adds g.met.O.Out.adds_then (g.
 
 pub returns : goal.returns
 returns g c =
-    adding_none g.O.Out.adds (none_of (flat_map (g.L.Listing.text c.args.task.now)) (g.L.Listing.items c.args.list.now) c.loop-i.i (omega (arith, c.loop-i-test.false, c.count-i-end.ensures.count))) c.loop-i.invariant
+    adding_none g.O.Out.adds (at_drop_all (flat_map (g.L.Listing.text c.args.task.now)) (g.L.Listing.items c.args.list.now) c.loop-i.i (omega (arith, c.loop-i-test.false, c.count-i-end.ensures.count))) c.loop-i.invariant

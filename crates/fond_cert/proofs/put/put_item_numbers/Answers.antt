@@ -1,9 +1,8 @@
-use Rattle.std.proofs.Common.{ap, map, arith, ℕ, List}
-use Rattle.std.proofs.lemmas.List.{at_drop_more}
+use Rattle.std.proofs.Common.{ap, map, ℕ, List}
+use Rattle.std.proofs.lemmas.List.{at_drop_more, at_drop_all}
 use Rattle.std.specs.Fmt.{decimal}
 use Rattle.fond_form.specs.Lines.{spaced}
 use Rattle.fond_text.proofs.Outs.{adds_same, adding_all, adding_more, adding_none}
-use Rattle.fond_cert.proofs.Printed.{none_of}
 use Rattle.fond_cert.proofs.put.put_item_numbers.Goals as goal
 
 pub loop-item-init : goal.loop-item-init
@@ -18,4 +17,4 @@ pub returns : goal.returns
 returns g c =
     let text : List ℕ → List ℕ = λ items. spaced (map decimal items) in
     adds_same g.O.Out.adds (ap text c.as_slice-item-items.ensures)
-    (adding_none g.O.Out.adds (none_of text c.as_slice-item-items.result.now c.loop-item.item-index (omega (arith, c.loop-item-test.false))) c.loop-item.invariant)
+    (adding_none g.O.Out.adds (at_drop_all text c.as_slice-item-items.result.now c.loop-item.item-index c.loop-item-test.false) c.loop-item.invariant)
