@@ -37,6 +37,6 @@ pub record IsLost (before after : Flow) (bytes : List ℕ) : Type 0 where
 abbrev pub Adds : Flow → Flow → List ℕ → Type 0
 Adds before after bytes = IsPut before after bytes ⊎ IsLost before after bytes
 
--- the pen and the sink are the same ones, named as before, and these bytes were added
+-- the pen and the sink are those of before, by their names, and these bytes were added
 abbrev pub Writes : {P S : Type 0} → P → P → S → S → Flow → Flow → List ℕ → Type 0
 Writes pen same_pen sink same_sink before after bytes = (pen ≡ same_pen) × (sink ≡ same_sink) × Adds before after bytes

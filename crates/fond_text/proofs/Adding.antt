@@ -2,21 +2,12 @@
 use Rattle.std.proofs.Common.{◌≡◌, ℕ, inl, inr, List, [], ◌++◌, Option, Some, sym, ◌∙◌}
 use Rattle.std.proofs.lemmas.Option.{none-some, same_Some}
 use Rattle.fond_text.specs.Text.{Adds}
-use Rattle.fond_text.specs.TextLaws as added
+pub use Rattle.fond_text.specs.TextLaws.{adds_then, adds_nothing}
 use Rattle.fond_text.proofs.Outs as outs
-
-module _ (before now after : Option (List ℕ)) (part more : List ℕ) where
-  -- what is added one after the other is added as a whole
-  pub adds_then : Adds before now part → Adds now after more → Adds before after (part ++ more)
-  adds_then = added.adds_then before now after part more
 
 -- what is added as one text is added as the same text in other words
 pub adds_same : (before after : Option (List ℕ)) (text other : List ℕ) → text ≡ other → Adds before after text → Adds before after other
 adds_same before after text other = outs.adds_same Adds
-
--- nothing is added by doing nothing
-pub adds_nothing : (text : Option (List ℕ)) → Adds text text []
-adds_nothing = added.adds_nothing
 
 -- the bytes of a text are what was added to an empty one
 pub whole_is : (after : Option (List ℕ)) (part bytes : List ℕ) → Adds (Some []) after part → after ≡ Some bytes → bytes ≡ part
@@ -28,10 +19,10 @@ abbrev pub Adding : (before now : Option (List ℕ)) (whole left : List ℕ) →
 Adding = outs.Adding Adds
 
 pub adding_all : (text : Option (List ℕ)) (whole : List ℕ) → Adding text text whole whole
-adding_all text whole = outs.adding_all Adds (added.adds_nothing text)
+adding_all text whole = outs.adding_all Adds (adds_nothing text)
 
 pub adding_more : (before now after : Option (List ℕ)) (whole left item rest : List ℕ) → left ≡ item ++ rest → Adding before now whole left → Adds now after item → Adding before after whole rest
-adding_more before now after whole left item rest = outs.adding_more Adds added.adds_then
+adding_more before now after whole left item rest = outs.adding_more Adds adds_then
 
 pub adding_none : (before now : Option (List ℕ)) (whole left : List ℕ) → left ≡ [] → Adding before now whole left → Adds before now whole
 adding_none before now whole left = outs.adding_none Adds

@@ -5,8 +5,7 @@ ghost use Rattle.std.specs.Fmt.{decimal};
 ghost use Rattle.std.specs.Prelude.{◌≡◌, [], None, Some, IfOk, OnErr};
 
 use crate::fault::NoMemory;
-use crate::number::Digits;
-use crate::out::Out;
+use crate::out::{Out, put_number};
 use std::alloc::Global;
 use std::marker::Model;
 
@@ -50,7 +49,7 @@ impl Text {
     pub fn add_number(&mut self, number: u64)
         ensures { Adds self.old self.new (decimal number) }
     {
-        self.add(Digits::of(number).bytes());
+        put_number(number, self);
     }
 
     /// The bytes of the text, unless it is lost.
