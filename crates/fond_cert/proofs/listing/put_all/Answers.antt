@@ -10,7 +10,8 @@ loop-i-init g c = adding_all g.O.Out.adds (g.met.O.Out.adds_nothing _)
 pub loop-i-preserved : goal.loop-i-preserved
 loop-i-preserved g c =
     let there : c.loop-i.i < length (g.L.Listing.items c.args.list.now) = omega (arith, c.loop-i-test.true, c.count-i-end.ensures.count) in
-    adding_at g.O.Out.adds g.met.O.Out.adds_then (g.L.Listing.text c.args.task.now) _ _ there c.put_at.ensures c.loop-i.invariant
+    let text = g.L.Listing.text c.args.task.now in
+    adding_at g.O.Out.adds g.met.O.Out.adds_then {whole = flat_map text (g.L.Listing.items c.args.list.now)} text _ _ there c.put_at.ensures c.loop-i.invariant
 
 pub returns-then-has_failed : goal.returns-then-has_failed
 returns-then-has_failed g c = adding_lost g.O.Out.adds g.met.O.Out.adds_then (g.met.O.Out.adds_failed _ _ (sym c.has_failed.ensures ∙ c.if-has_failed.true)) c.loop-i.invariant
