@@ -33,13 +33,16 @@ part_of_more old new bytes more part = record {
       rw (take-append-le part.count bytes more within) part.appended;
 }
 
+-- a count that increased is increased later
 rose_then : (a b c : ℕ) → Rose a b → b ≤ c → Rose a c
 rose_then a b c rose le = omega (arith, rose, le)
 
+-- a count that increases after a while has increased
 pub then_rose : (a b c : ℕ) → a ≤ b → Rose b c → Rose a c
 then_rose a b c le rose = omega (arith, rose, le)
 
 module _ (before now after : Flow) (bytes more : List ℕ) where
+  -- what is put one after the other is put as a whole
   pub put_twice : IsPut before now bytes → IsPut now after more → IsPut before after (bytes ++ more)
   put_twice first second = record {
     front = first.front ++ second.front;
@@ -53,6 +56,7 @@ module _ (before now after : Flow) (bytes more : List ℕ) where
     counted = omega (arith, first.counted, second.counted);
   }
 
+  -- what is lost after something was put is lost with it
   pub put_then_lost : IsPut before now bytes → IsLost now after more → IsLost before after (bytes ++ more)
   put_then_lost first second = record {
     failed = second.failed;
@@ -65,6 +69,7 @@ module _ (before now after : Flow) (bytes more : List ℕ) where
     counted = omega (arith, first.counted, second.counted);
   }
 
+  -- what is lost one after the other is lost as a whole
   pub lost_then : IsLost before now bytes → IsLost now after more → IsLost before after (bytes ++ more)
   lost_then first second =
       let still : after.written ≡ now.written = second.still first.failed in record {
@@ -84,10 +89,12 @@ module _ (before now after : Flow) (bytes more : List ℕ) where
   adds_then (inr first) (inl second) = absurd (false≢true (sym second.was_sound ∙ first.failed))
   adds_then (inr first) (inr second) = inr (lost_then first second)
 
+-- nothing is appended by doing nothing
 pub nothing_appended : (written : Option (List ℕ)) → Appended written written []
 nothing_appended None = refl
 nothing_appended (Some written) = ap Some (sym (append-nil written))
 
+-- nothing is added by doing nothing, whether the pen has failed or not
 nothing_at : (written : Option (List ℕ)) (faults : ℕ) (pen : PenState) (failed : Bool) → pen.failed ≡ failed → Adds (flow written faults pen) (flow written faults pen) []
 nothing_at written faults pen false e = inl (record {
   front = [];
@@ -119,14 +126,16 @@ lost_by_failed written faults pen bytes failed = record {
   counted = omega arith;
 }
 
--- the laws of a writer
+-- the laws of a writer: nothing is added by doing nothing
 pub writes_nothing : {P S : Type 0} {p : P} {s : S} (written : Option (List ℕ)) (faults : ℕ) (pen : PenState) → Writes p p s s (flow written faults pen) (flow written faults pen) []
 writes_nothing written faults pen = (refl, refl, adds_nothing written faults pen)
 
+-- texts that are added one after the other are added as a whole
 pub writes_then : {P S : Type 0} {p q r : P} {s t u : S} {before now after : Flow} {text more : List ℕ} →
     Writes p q s t before now text → Writes q r t u now after more → Writes p r s u before after (text ++ more)
 writes_then (pen, sink, first) (pen', sink', second) = (pen ∙ pen', sink ∙ sink', adds_then _ _ _ _ _ first second)
 
+-- whatever is added after a failure is lost
 pub writes_failed : {P S : Type 0} {p : P} {s : S} (written : Option (List ℕ)) (faults : ℕ) (pen : PenState) (text : List ℕ) → pen.failed ≡ true →
     Writes p p s s (flow written faults pen) (flow written faults pen) text
 writes_failed written faults pen text failed = (refl, refl, inr (lost_by_failed written faults pen text failed))
