@@ -20,17 +20,6 @@ use std::alloc::Global;
 /// The most states of a search with a local aim.
 const LOCAL_STATES: u32 = 300;
 
-/// The number of states from which on a search begins anew with lookahead.
-const FIRST_STATES: u32 = 5_000;
-
-/// The length of a relaxed plan from which on its steps are taken at once: in a first search, and in a second one that is small or
-/// large.
-const NO_LOOK: u32 = u32::MAX;
-
-const SHORT_LOOK: u32 = 100;
-
-const LARGE_LOOK: u32 = 2;
-
 /// A searching engine.
 #[derive(Drop)]
 pub struct Engine {
@@ -153,40 +142,6 @@ impl Engine {
             .saturating_add(self.layers.work())
     }
 
-    /// Searches with a limit, and once more with lookahead if that was too few.
-    fn run(&mut self, states: u32, work: u64) -> Result<Ended, NoMemory> {
-        let begun = self.search.work();
-        let first = Limits {
-            states: states.min(FIRST_STATES),
-            work: work.saturating_sub(work / 4),
-            look: NO_LOOK,
-        };
-        let ended = self.search.run(&mut self.known, &self.start, first)?;
-        let done = self.search.work().saturating_sub(begun);
-        if ended != Ended::Spent || done >= work {
-            return Ok(ended);
-        }
-        self.run_again(states, work.saturating_sub(done))
-    }
-
-    /// Searches once more, with lookahead, unless the search is a small one from which relaxed plans are short.
-    fn run_again(&mut self, states: u32, work: u64) -> Result<Ended, NoMemory> {
-        let is_large = states > FIRST_STATES;
-        if !is_large && self.search.length < SHORT_LOOK {
-            return Ok(Ended::Spent);
-        }
-        let limits = Limits {
-            states: if is_large {
-                states.saturating_sub(FIRST_STATES)
-            } else {
-                states
-            },
-            work,
-            look: if is_large { LARGE_LOOK } else { SHORT_LOOK },
-        };
-        self.search.run(&mut self.known, &self.start, limits)
-    }
-
     /// Searches with the local aim, if the state has one. Returns whether a plan was found.
     fn run_near(&mut self, states: u32, work: u64) -> Result<bool, NoMemory> {
         if !self.aim.enter(&self.start) || !self.known.aim_around(&self.aim.left)? {
@@ -195,7 +150,7 @@ impl Engine {
         let limits = Limits {
             states: states.min(LOCAL_STATES),
             work: work / 2,
-            look: NO_LOOK,
+            counts: false,
         };
         let ended = self.search.run(&mut self.known, &self.start, limits)?;
         self.known.net.drop_aims();
@@ -209,7 +164,12 @@ impl Engine {
             return Ok(Ended::Found);
         }
         let done = self.search.work().saturating_sub(begun);
-        self.run(states, work.saturating_sub(done))
+        let limits = Limits {
+            states,
+            work: work.saturating_sub(done),
+            counts: true,
+        };
+        self.search.run(&mut self.known, &self.start, limits)
     }
 
     /// The steps of the plan that was found, the first one first.

@@ -4,8 +4,8 @@ use fond_moves::index::{NONE, link_at, put, size};
 use fond_text::fault::NoMemory;
 use std::alloc::Global;
 
-/// The number of buckets.
-const LEVELS: u32 = 30_000;
+/// The most buckets.
+const LEVELS: u32 = 1_000_000;
 
 /// A step that may be taken in a state, by their numbers.
 #[derive(Clone, Copy)]

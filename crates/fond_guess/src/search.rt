@@ -1,40 +1,54 @@
-//! Greedy best first search that evaluates a state when it is taken from the queue, and prefers the steps of relaxed plans
-//! (Richter and Helmert, *Preferred operators and deferred evaluation in satisficing planning*, 2009).
+//! Greedy best first search that evaluates a state when it is taken from a list, and prefers the steps of relaxed plans (Richter and
+//! Helmert, *Preferred operators and deferred evaluation in satisficing planning*, 2009). Once the least estimate has not fallen for a
+//! while, it also takes states in the order of the goals and landmarks that are left.
 //!
 //! A fair action has an entry for each outcome. An unfair one has a single entry, and the search goes on in one outcome, the
 //! opponent's response, so that a search which ends without a plan has met all that the opponent needs.
 
+use crate::goals::Goals;
 use crate::known::Known;
-use crate::queue::{Agenda, Open};
+use crate::lists::{ALL, HELPFUL, LEFT, OpenLists, PREFERRED};
+use crate::queue::Open;
 use fond_deadends::states::StateSet;
 use fond_heuristic::cost::FAR;
-use fond_heuristic::relaxed::{Chosen, Estimate};
+use fond_heuristic::relaxed::Estimate;
 use fond_moves::boxes::boxed;
-use fond_moves::index::{NONE, copy_words, size};
+use fond_moves::index::{NONE, copy_words};
 use fond_task::plan_step::PlanStep;
 use fond_text::fault::NoMemory;
 use std::alloc::Global;
 
-/// How many more preferred entries are taken when the search comes nearer to the goal than before.
-const BOOST: i64 = 1_000;
+/// How many states are opened, with no estimate below the least before, until goals are counted, and until landmarks are. Where the
+/// opponent picks, counting is of less use: goals that hold may be undone.
+const GOALS_FROM: u32 = 200;
+
+const LANDMARKS_FROM: u32 = 300;
+
+const OPPOSED_FROM: u32 = 5_000;
 
 /// The most outcomes of an unfair action whose states are estimated at once.
 const MOST_ASKED: u32 = 24;
 
 /// How a state was reached: from which one, and by which step. The first state has none.
 #[derive(Clone, Copy)]
-pub(crate) struct Link {
-    pub(crate) from: u32,
-    pub(crate) step: u32,
+struct Link {
+    from: u32,
+    step: u32,
 }
 
-/// What a search may take: how many states it may open, and how much work it may do, and the length of a relaxed plan from
-/// which on its steps are taken at once.
+/// What a search may take: how many states it may open, and how much work it may do; and whether it may count goals.
 #[derive(Clone, Copy)]
 pub(crate) struct Limits {
     pub(crate) states: u32,
     pub(crate) work: u64,
-    pub(crate) look: u32,
+    pub(crate) counts: bool,
+}
+
+/// The levels of an entry: the estimate of its state, and the rank of what is left there, or `NONE` where it is not listed.
+#[derive(Clone, Copy)]
+struct Levels {
+    estimate: u32,
+    rank: u32,
 }
 
 /// How a search ended.
@@ -48,28 +62,24 @@ pub(crate) enum Ended {
 /// A search. Its buffers serve one search after the other.
 #[derive(Drop)]
 pub(crate) struct Search {
-    pub(crate) states: StateSet,
-    pub(crate) links: Vec<Link>,
-    all: Agenda,
-    preferred: Agenda,
-    /// How often each queue was taken from, less its boosts.
-    taken: i64,
-    taken_preferred: i64,
-    /// The states that were passed on the way along a relaxed plan, and not opened.
-    pub(crate) passed: Vec<u32>,
-    pub(crate) path: Vec<Chosen>,
+    states: StateSet,
+    links: Vec<Link>,
+    lists: OpenLists,
+    goals: Box<Goals>,
+    /// How often what is counted was chosen.
+    stage: u32,
     acts: Vec<u32>,
-    pub(crate) current: Vec<u64>,
-    pub(crate) next: Vec<u64>,
+    current: Vec<u64>,
+    next: Vec<u64>,
     chosen: Vec<u64>,
-    pub(crate) estimate: Box<Estimate>,
-    pub(crate) nearest: u32,
-    /// The length of the first state's relaxed plan.
-    pub(crate) length: u32,
-    pub(crate) opened: u32,
-    pub(crate) steps: u64,
+    estimate: Box<Estimate>,
+    nearest: u32,
+    opened: u32,
+    /// How many states were opened when the least estimate fell last.
+    fell: u32,
+    steps: u64,
     /// The state in which the plan ends, and an unfair action that ends it.
-    pub(crate) end: u32,
+    end: u32,
     last: Option<PlanStep>,
 }
 
@@ -90,25 +100,24 @@ impl Search {
         let current = vec![in alloc; 0; width as usize]?;
         let next = vec![in alloc; 0; width as usize]?;
         let chosen = vec![in alloc; 0; width as usize]?;
+        let lists = OpenLists::new(alloc)?;
+        let goals = Goals::new(alloc, &known.net, known.moves.steps.len())?;
         boxed(
             alloc,
             Search {
                 states,
                 links: Vec::new(alloc),
-                all: Agenda::new(alloc),
-                preferred: Agenda::new(alloc),
-                taken: 0,
-                taken_preferred: 0,
-                passed: Vec::new(alloc),
-                path: Vec::new(alloc),
+                lists,
+                goals,
+                stage: 0,
                 acts: Vec::new(alloc),
                 current,
                 next,
                 chosen,
                 estimate,
                 nearest: FAR,
-                length: 0,
                 opened: 0,
+                fell: 0,
                 steps: 0,
                 end: NONE,
                 last: None,
@@ -120,14 +129,12 @@ impl Search {
     fn clear(&mut self) -> Result<(), NoMemory> {
         self.states.clear()?;
         self.links.clear();
-        self.all.clear();
-        self.preferred.clear();
-        self.taken = 0;
-        self.taken_preferred = 0;
-        self.passed.clear();
+        self.lists.clear(ALL);
+        self.goals.clear();
+        self.stage = 0;
         self.nearest = FAR;
-        self.length = 0;
         self.opened = 0;
+        self.fell = 0;
         self.end = NONE;
         self.last = None;
         Ok(())
@@ -135,7 +142,9 @@ impl Search {
 
     /// The work done so far: updates of the relaxation, and entries taken or made.
     pub(crate) fn work(&self) -> u64 {
-        self.steps.saturating_add(self.estimate.costs.work)
+        self.steps
+            .saturating_add(self.estimate.costs.work)
+            .saturating_add(self.goals.work())
     }
 
     /// Counts a step of work.
@@ -144,16 +153,30 @@ impl Search {
     }
 
     /// The estimate of the current state, or `FAR` if it is dead.
-    pub(crate) fn judge(&mut self, known: &Known) -> Result<u32, NoMemory> {
+    fn judge(&mut self, known: &Known) -> Result<u32, NoMemory> {
         self.estimate.of(&known.net, &self.current)
     }
 
-    /// Adds an entry for a step.
-    fn offer(&mut self, estimate: u32, open: Open, preferred: bool) -> Result<(), NoMemory> {
+    /// Adds an entry for a step, which the relaxed plan has if `preferred`, and the one for the nearest goal if `helpful`.
+    fn offer(
+        &mut self,
+        levels: Levels,
+        open: Open,
+        preferred: bool,
+        helpful: bool,
+    ) -> Result<(), NoMemory> {
         self.tick();
-        self.all.push(estimate, open)?;
-        if preferred {
-            self.preferred.push(estimate, open)?;
+        if levels.estimate != NONE {
+            self.lists.push(ALL, levels.estimate, open)?;
+            if preferred {
+                self.lists.push(PREFERRED, levels.estimate, open)?;
+            }
+        }
+        if levels.rank != NONE {
+            self.lists.push(LEFT, levels.rank, open)?;
+            if helpful {
+                self.lists.push(HELPFUL, levels.rank, open)?;
+            }
         }
         Ok(())
     }
@@ -164,26 +187,28 @@ impl Search {
         known: &Known,
         act: u32,
         state: u32,
-        estimate: u32,
+        levels: Levels,
     ) -> Result<(), NoMemory> {
         let first = known.moves.first_step(act);
         for outcome in 0..known.moves.outcomes(act) {
             let step = first.saturating_add(outcome);
             let preferred = self.estimate.prefers(step);
-            self.offer(estimate, Open { state, step }, preferred)?;
+            let helpful = self.goals.way.has(step);
+            self.offer(levels, Open { state, step }, preferred, helpful)?;
         }
         Ok(())
     }
 
-    /// Whether the relaxed plan has some step of the action.
-    fn prefers_act(&self, known: &Known, act: u32) -> bool {
+    /// Whether the relaxed plan, and the one for the nearest goal, have some step of the action.
+    fn prefers_act(&self, known: &Known, act: u32) -> (bool, bool) {
         let first = known.moves.first_step(act);
+        let mut preferred = false;
+        let mut helpful = false;
         for outcome in 0..known.moves.outcomes(act) {
-            if self.estimate.prefers(first.saturating_add(outcome)) {
-                return true;
-            }
+            preferred |= self.estimate.prefers(first.saturating_add(outcome));
+            helpful |= self.goals.way.has(first.saturating_add(outcome));
         }
-        false
+        (preferred, helpful)
     }
 
     /// Adds the entries of an action that applies in the current state.
@@ -192,50 +217,123 @@ impl Search {
         known: &Known,
         act: u32,
         state: u32,
-        estimate: u32,
+        levels: Levels,
     ) -> Result<(), NoMemory> {
         if known.is_excluded(act, &self.current, &mut self.next) {
             return Ok(());
         }
         if !known.moves.is_unfair(act) {
-            return self.offer_fair(known, act, state, estimate);
+            return self.offer_fair(known, act, state, levels);
         }
         let step = known.moves.first_step(act);
-        let preferred = self.prefers_act(known, act);
-        self.offer(estimate, Open { state, step }, preferred)
+        let (preferred, helpful) = self.prefers_act(known, act);
+        self.offer(levels, Open { state, step }, preferred, helpful)
     }
 
-    /// Opens the current state, which has this number and estimate.
-    pub(crate) fn open(
-        &mut self,
-        known: &Known,
-        state: u32,
-        estimate: u32,
-    ) -> Result<(), NoMemory> {
-        self.opened = self.opened.saturating_add(1);
-        if estimate < self.nearest {
-            self.nearest = estimate;
-            self.taken_preferred = self.taken_preferred.saturating_sub(BOOST);
-        }
+    /// Adds the entries of all actions that apply in the current state.
+    fn offer_all(&mut self, known: &Known, state: u32, levels: Levels) -> Result<(), NoMemory> {
         known
             .index
             .collect(&known.moves, &self.current, &mut self.acts)?;
         for i in 0..self.acts.len() {
             if let Some(act) = self.acts.get(i) {
                 let act = *act;
-                self.offer_act(known, act, state, estimate)?;
+                self.offer_act(known, act, state, levels)?;
             }
         }
         Ok(())
     }
 
+    /// The rank of what is left in the current state, whose costs were worked out last, or `NONE` if nothing is counted.
+    fn rank(&mut self, known: &Known, state: u32) -> Result<u32, NoMemory> {
+        if !self.goals.is_on() {
+            return Ok(NONE);
+        }
+        let costs = &self.estimate.costs;
+        let left = self.goals.left(&known.net, costs, state, &self.current);
+        self.goals.way.find(&known.net, costs, left.fact)?;
+        Ok(left.rank())
+    }
+
+    /// Opens the current state, which has this number and estimate.
+    fn open(&mut self, known: &Known, state: u32, estimate: u32) -> Result<(), NoMemory> {
+        self.opened = self.opened.saturating_add(1);
+        let rank = self.rank(known, state)?;
+        let is_nearer = self.goals.is_better(rank);
+        if estimate < self.nearest {
+            self.fell = self.opened;
+        }
+        if is_nearer || estimate < self.nearest {
+            self.nearest = self.nearest.min(estimate);
+            self.lists.boost();
+        }
+        self.offer_all(known, state, Levels { estimate, rank })
+    }
+
+    /// Adds the entries of all states so far to the list of what is left.
+    fn open_again(&mut self, known: &Known) -> Result<(), NoMemory> {
+        self.goals.begin_again();
+        self.lists.clear(LEFT);
+        self.lists.boost();
+        for state in 0..self.states.len() {
+            copy_words(&mut self.current, self.states.get(state));
+            let from = match self.links.get(state as usize) {
+                Some(link) => link.from,
+                None => NONE,
+            };
+            self.goals.meet(&known.net, from, &self.current)?;
+            let costs = &self.estimate.costs;
+            let left = self.goals.left(&known.net, costs, state, &self.current);
+            let levels = Levels {
+                estimate: NONE,
+                rank: left.worst_rank(),
+            };
+            self.offer_all(known, state, levels)?;
+        }
+        Ok(())
+    }
+
+    /// How many states are to be opened before what is counted changes.
+    fn next_stage(&self, known: &Known) -> u32 {
+        match self.stage {
+            0 if known.net.has_hopeful => OPPOSED_FROM,
+            0 => GOALS_FROM,
+            1 if known.net.has_hopeful => OPPOSED_FROM,
+            1 => LANDMARKS_FROM,
+            _ => NONE,
+        }
+    }
+
+    /// Counts goals, and later landmarks too, once enough states were opened.
+    fn count(&mut self, known: &Known, start: &[u64]) -> Result<(), NoMemory> {
+        if self.opened.saturating_sub(self.fell) < self.next_stage(known) {
+            return Ok(());
+        }
+        copy_words(&mut self.current, start);
+        let _ = self.judge(known)?;
+        let work = self.work();
+        let costs = &self.estimate.costs;
+        let begun = match self.stage {
+            0 => self.goals.begin(&known.net, costs)?,
+            _ => self.goals.add_landmarks(&known.net, costs, start, work)?,
+        };
+        self.stage = self.stage.saturating_add(1);
+        if begun {
+            self.open_again(known)?;
+        }
+        Ok(())
+    }
+
     /// Adds the current state and opens it, if it is new and not dead. Returns whether a plan ends in it.
-    fn visit(&mut self, known: &Known, link: Link, look: u32) -> Result<bool, NoMemory> {
+    fn visit(&mut self, known: &Known, link: Link) -> Result<bool, NoMemory> {
         let (number, is_new) = self.states.add(&self.current)?;
         if !is_new {
             return Ok(false);
         }
         self.links.push(link)?;
+        if self.goals.is_on() {
+            self.goals.meet(&known.net, link.from, &self.current)?;
+        }
         if known.is_settled(&self.current)
             && (number != 0 || known.moves.goal.holds(&self.current))
         {
@@ -246,28 +344,14 @@ impl Search {
         if estimate == FAR {
             return Ok(false);
         }
-        if number == 0 {
-            self.length = size(self.estimate.plan.len());
-        }
         self.open(known, number, estimate)?;
-        if self.estimate.plan.len() < look as usize {
-            return Ok(false);
-        }
-        self.look_ahead(known, number)
+        Ok(false)
     }
 
-    /// The next entry of the queue whose turn it is.
+    /// The next entry of the list whose turn it is.
     fn pop(&mut self) -> Option<Open> {
         self.tick();
-        if !self.preferred.is_empty() && self.taken_preferred <= self.taken {
-            self.taken_preferred = self.taken_preferred.saturating_add(1);
-            return self.preferred.pop();
-        }
-        self.taken = self.taken.saturating_add(1);
-        match self.all.pop() {
-            Some(open) => Some(open),
-            None => self.preferred.pop(),
-        }
+        self.lists.pop()
     }
 
     /// How much the opponent likes the state in `next` as a response in the current state: most of all the one that was
@@ -335,31 +419,15 @@ impl Search {
         }))
     }
 
-    /// Opens the last of the states that were passed, if there is one.
-    fn open_passed(&mut self, known: &Known) -> Result<bool, NoMemory> {
-        let Some(number) = self.passed.pop() else {
-            return Ok(false);
-        };
-        copy_words(&mut self.current, self.states.get(number));
-        let estimate = self.judge(known)?;
-        if estimate != FAR {
-            self.open(known, number, estimate)?;
-        }
-        Ok(true)
-    }
-
     /// Takes an entry, and opens the state that it leads to if that is new. Returns how the search ended, if it did.
-    fn turn(&mut self, known: &mut Known, look: u32) -> Result<Option<Ended>, NoMemory> {
+    fn turn(&mut self, known: &mut Known) -> Result<Option<Ended>, NoMemory> {
         let Some(open) = self.pop() else {
-            if self.open_passed(known)? {
-                return Ok(None);
-            }
             return Ok(Some(Ended::Nothing));
         };
         let Some(link) = self.take(known, open)? else {
             return Ok(Some(Ended::Found));
         };
-        if self.visit(known, link, look)? {
+        if self.visit(known, link)? {
             return Ok(Some(Ended::Found));
         }
         Ok(None)
@@ -375,15 +443,18 @@ impl Search {
         self.clear()?;
         let begun = self.work();
         copy_words(&mut self.current, start);
-        if self.visit(known, no_link(), limits.look)? {
+        if self.visit(known, no_link())? {
             return Ok(Ended::Found);
         }
         for _ in 0..u64::MAX {
             if self.opened >= limits.states || self.work().saturating_sub(begun) >= limits.work {
                 return Ok(Ended::Spent);
             }
-            if let Some(ended) = self.turn(known, limits.look)? {
+            if let Some(ended) = self.turn(known)? {
                 return Ok(ended);
+            }
+            if limits.counts {
+                self.count(known, start)?;
             }
         }
         Ok(Ended::Spent)
