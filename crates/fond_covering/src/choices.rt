@@ -343,8 +343,7 @@ impl Choices {
             count_bits(mask.word, opposed(mask, state), &mut self.counts, false);
         }
         self.rivals.push(number)?;
-        let bits = masks.len().saturating_mul(64) as u64;
-        self.work = self.work.saturating_add(bits);
+        self.work = self.work.saturating_add(masks.len() as u64);
         Ok(())
     }
 
