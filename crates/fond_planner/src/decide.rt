@@ -9,6 +9,7 @@ ghost use Rattle.fond_task.specs.Certificates.{LiesInLayers};
 ghost use Rattle.fond_regress.specs.Stable.{IsHopeless, IsHopelessBy};
 ghost use Rattle.std.specs.Prelude.{◌≡◌, ◌<◌, ◌≤◌, ◌^◌, None, All, length, IfOk, IfSome, OnOk};
 
+use crate::limits::quick_states;
 use crate::planner::Planner;
 use crate::walk::Round;
 use fond_covering::cover::{cover_by_states, take_items};
@@ -145,17 +146,6 @@ impl<S: Source> Planner<S> {
     }
 }
 
-/// How many states are opened before the source is asked: a task with no more is decided without it. An opponent makes
-/// plans worth less, so then more are opened.
-fn quick_budget(t: &Task, budget: u32) -> u32 {
-    for act in &t.acts {
-        if act.unfair {
-            return budget.min(50000);
-        }
-    }
-    budget.min(100)
-}
-
 /// The refusal of a task whose initial state is hopeless by this cube. Its one layer is the cube.
 fn hopeless_refusal(alloc: Global, t: &Task, cube: Cube) -> Result<Cert, NoMemory>
     requires { IsHopelessBy t.now t.now.init cube }
@@ -188,7 +178,7 @@ fn decide_by_rounds<S: Source>(alloc: Global, t: &Task, budget: u32) -> Result<D
     requires hope { ¬ IsHopeless t.now t.now.init }
     ensures { IfOk result (IsDecision t.now budget) }
 {
-    let mut planner = Planner::<S>::new(alloc, t, quick_budget(t, budget))?;
+    let mut planner = Planner::<S>::new(alloc, t, quick_states(t))?;
     let end = planner.finish(alloc, t, budget)?;
     Ok(decision_of(t, budget, planner.draft, end))
 }

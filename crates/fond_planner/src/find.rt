@@ -12,11 +12,12 @@ ghost use Rattle.fond_task.specs.Certificates.{LiesInLayers};
 ghost use Rattle.fond_task.specs.Policies.{IsGoal};
 ghost use Rattle.std.specs.Prelude.{◌≡◌, ◌≤◌, None, true, length, IfOk, IfSome, OnOk};
 
+use crate::limits::{Stage, first_stage, last_stage, next_quick, second_stage};
 use crate::planner::Planner;
 use fond_draft::draft::Draft;
 use fond_draft::make::make_rules;
 use fond_draft::plan::{Plan, plan_of};
-use fond_draft::source::{Effort, Source};
+use fond_draft::source::Source;
 use fond_explicit::answer::{Choices, Solved};
 use fond_explicit::solve::solve_by;
 use fond_layers::layers::Layers;
@@ -24,36 +25,6 @@ use fond_state::state::State;
 use fond_task::task::Task;
 use fond_text::fault::NoMemory;
 use std::alloc::Global;
-
-/// How many states are opened in a second stage.
-const SECOND_STATES: u32 = 50000;
-
-/// What the searches of the first stage may do.
-fn first_effort(budget: u32) -> Effort {
-    Effort {
-        states: budget.min(4000),
-        work: 30000000,
-        layers: 20000000,
-    }
-}
-
-/// What those of the second stage may do.
-fn second_effort(budget: u32) -> Effort {
-    Effort {
-        states: budget.min(20000),
-        work: 300000000,
-        layers: 200000000,
-    }
-}
-
-/// What they may do once opening as many states as the budget was too few.
-fn last_effort(budget: u32) -> Effort {
-    Effort {
-        states: budget,
-        work: 20000000000,
-        layers: 2000000000,
-    }
-}
 
 /// What is found out about a state.
 #[derive(Clone, Copy)]
@@ -215,7 +186,7 @@ impl<S: Source> Planner<S> {
         alloc: Global,
         t: &Task,
         state: &State,
-        effort: Effort,
+        stage: Stage,
     ) -> Result<Option<Found>, NoMemory>
         requires planner { IsPlanner t.now self.old }
         requires reachable { IsReachable t.now t.now.init state.now }
@@ -223,7 +194,7 @@ impl<S: Source> Planner<S> {
         ensures found { IfOk result (λ found. IfSome found (IsFound self.new.draft state.now)) }
         ensures pairs { OnOk result (self.new.draft.pairs ≡ self.old.draft.pairs) }
     {
-        if self.seek(alloc, t, state, effort)? {
+        if self.seek(alloc, t, state, stage)? {
             return Ok(Some(Found::Ruled));
         }
         if self.draft.layers.dead(state).is_some() {
@@ -232,16 +203,15 @@ impl<S: Source> Planner<S> {
         Ok(None)
     }
 
-    /// Finds out about a state by opening at most so many states from it, unless that was too few once, and then by searches.
+    /// Finds out about a state by opening states from it, unless that many were too few once, and then by searches.
     fn find_in_stage(
         &mut self,
         alloc: Global,
         t: &Task,
-        states: u32,
         state: &State,
-        effort: Effort,
+        stage: Stage,
     ) -> Result<Option<Found>, NoMemory>
-        requires few { states ≤ 1000000 }
+        requires few { stage.states ≤ 1000000 }
         requires planner { IsPlanner t.now self.old }
         requires reachable { IsReachable t.now t.now.init state.now }
         requires open { ¬ IsGoal t.now state.now }
@@ -249,13 +219,13 @@ impl<S: Source> Planner<S> {
         ensures found { IfOk result (λ found. IfSome found (IsFound self.new.draft state.now)) }
         ensures pairs { OnOk result (self.new.draft.pairs ≡ self.old.draft.pairs) }
     {
-        if states > self.too_few {
-            if let Some(found) = self.find_by_states(alloc, t, states, state)? {
+        if stage.states > self.too_few {
+            if let Some(found) = self.find_by_states(alloc, t, stage.states, state)? {
                 return Ok(Some(found));
             }
-            self.too_few = states;
+            self.too_few = stage.states;
         }
-        self.find_by_search(alloc, t, state, effort)
+        self.find_by_search(alloc, t, state, stage)
     }
 
     /// Finds out about a state by opening states from it. If the budget was too few once, long searches come before, and if it is
@@ -277,7 +247,7 @@ impl<S: Source> Planner<S> {
         ensures pairs { OnOk result (self.new.draft.pairs ≡ self.old.draft.pairs) }
     {
         if self.too_few >= budget {
-            if let Some(found) = self.find_by_search(alloc, t, state, last_effort(budget))? {
+            if let Some(found) = self.find_by_search(alloc, t, state, last_stage(budget))? {
                 return Ok(Some(found));
             }
             return self.find_by_states(alloc, t, budget, state);
@@ -286,7 +256,7 @@ impl<S: Source> Planner<S> {
             return Ok(Some(found));
         }
         self.too_few = budget;
-        self.find_by_search(alloc, t, state, last_effort(budget))
+        self.find_by_search(alloc, t, state, last_stage(budget))
     }
 
     /// Finds out about a state that is no goal: by what is known, and then in stages, each of which opens more states and searches
@@ -311,12 +281,12 @@ impl<S: Source> Planner<S> {
         if let Some(found) = self.find_known(alloc, t, state)? {
             return Ok(Some(found));
         }
-        let first = self.quick.min(budget);
-        if let Some(found) = self.find_in_stage(alloc, t, first, state, first_effort(budget))? {
+        let first = first_stage(self.quick, budget);
+        self.quick = next_quick(self.quick);
+        if let Some(found) = self.find_in_stage(alloc, t, state, first)? {
             return Ok(Some(found));
         }
-        let second = SECOND_STATES.min(budget);
-        if let Some(found) = self.find_in_stage(alloc, t, second, state, second_effort(budget))? {
+        if let Some(found) = self.find_in_stage(alloc, t, state, second_stage(budget))? {
             return Ok(Some(found));
         }
         self.find_at_last(alloc, t, budget, state)

@@ -11,6 +11,7 @@
 
 pub mod decide;
 mod find;
+mod limits;
 pub mod lost;
 mod planner;
 mod seek;

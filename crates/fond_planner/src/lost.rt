@@ -6,35 +6,15 @@ ghost use Rattle.fond_task.specs.Certificates.{LiesInLayers};
 ghost use Rattle.fond_task.specs.Layers.{AreSureLayers};
 ghost use Rattle.std.specs.Prelude.{◌≡◌, List, Bool, true, length, IfOk, OnOk};
 
+use crate::limits::{LAYERS, lost_effort};
 use crate::planner::Planner;
-use fond_draft::source::{Effort, Source};
+use fond_draft::source::Source;
 use fond_layers::layers::{Layer, Layers};
 use fond_state::state::State;
 use fond_task::hint::LayerHint;
 use fond_task::task::Task;
 use fond_text::fault::NoMemory;
 use std::alloc::Global;
-
-/// How many layers are proposed at most for the sake of one state.
-const LAYERS: u32 = 100000;
-
-/// What may be done to find layers for states that are known to be lost, if their layers have so many cubes.
-fn lost_effort(cubes: usize) -> Effort {
-    Effort {
-        states: u32::MAX,
-        work: 0,
-        layers: 2000000u64.saturating_add((cubes as u64).saturating_mul(2000)),
-    }
-}
-
-/// The number of cubes in some layers.
-fn count_cubes(layers: &Layers) -> usize {
-    let mut count: usize = 0;
-    for number in 0..layers.len() {
-        count = count.saturating_add(layers.get(number).len());
-    }
-    count
-}
 
 /// Sure layers in which each state lies that lies in these, whose states are lost: of few cubes where the source finds some. Takes the
 /// time of `Planner::learn_lost`.
@@ -132,7 +112,7 @@ impl<S: Source> Planner<S> {
         ensures planner { OnOk result (IsPlanner t.now self.new) }
         ensures pairs { OnOk result (self.new.draft.pairs ≡ self.old.draft.pairs) }
     {
-        self.allow(alloc, t, lost_effort(count_cubes(layers)))?;
+        self.allow(alloc, t, lost_effort(layers))?;
         self.source.know_lost(layers)?;
         self.learn_around_all(alloc, t, layers)?;
         self.source.forget_lost()

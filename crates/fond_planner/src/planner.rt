@@ -19,7 +19,7 @@ use fond_text::fault::NoMemory;
 use std::alloc::Global;
 
 /// A draft, the plans from which its rules are made, an index of the task's actions, and a source of hints. `quick` states are
-/// opened before the source is asked, and `too_few` is the largest number of opened states that settled nothing for some state.
+/// opened before the source is asked next, and `too_few` is the largest number of opened states that settled nothing for some state.
 /// `sketches` tells whether covers are still sketched.
 #[derive(Drop)]
 pub(crate) struct Planner<S> {

@@ -7,10 +7,11 @@ ghost use Rattle.fond_draft.specs.Turns.{AreReachable, AreTurns, IsTurn};
 ghost use Rattle.fond_explicit.specs.Answers.{IsReachable};
 ghost use Rattle.std.specs.Prelude.{◌≡◌, true, length, IfOk, IfSome, OnOk};
 
+use crate::limits::{SEEKS, Stage};
 use crate::planner::Planner;
 use fond_draft::make::add_rule;
 use fond_draft::replay::replay;
-use fond_draft::source::{Effort, Source};
+use fond_draft::source::Source;
 use fond_draft::turn::{first_open, is_ready};
 use fond_explicit::answer::{Choices, Pick};
 use fond_state::state::State;
@@ -20,9 +21,6 @@ use fond_task::task::Task;
 use fond_task::truth::is_goal;
 use fond_text::fault::NoMemory;
 use std::alloc::Global;
-
-/// How many states are sought at most, one after the other, for the sake of one.
-const SEEKS: u32 = 100000;
 
 /// What became of a state that was sought.
 #[derive(Drop)]
@@ -181,12 +179,14 @@ impl<S: Source> Planner<S> {
         }
     }
 
-    /// Seeks the waiting states, the last first, and those that have to be sought before them.
+    /// Seeks the waiting states, the last first, and those that have to be sought before them, as long as there are no more rules than
+    /// this.
     fn seek_all(
         &mut self,
         alloc: Global,
         t: &Task,
         waiting: &mut Vec<State>,
+        rules: u32,
     ) -> Result<(), NoMemory>
         requires planner { IsPlanner t.now self.old }
         requires reached { AreReachable t.now waiting.old.items }
@@ -194,21 +194,21 @@ impl<S: Source> Planner<S> {
         ensures pairs { OnOk result (self.new.draft.pairs ≡ self.old.draft.pairs) }
     {
         for _seek in 0..SEEKS {
-            if !self.seek_last(alloc, t, waiting)? {
+            if self.draft.rules.len() > rules || !self.seek_last(alloc, t, waiting)? {
                 return Ok(());
             }
         }
         Ok(())
     }
 
-    /// Adds rules by plans of the source until one holds in the state, within this effort. The state may lie in a layer afterwards,
+    /// Adds rules by plans of the source until one holds in the state, within a stage. The state may lie in a layer afterwards,
     /// and there may be further rules and layers, also if nothing was found. Returns whether a rule holds in the state.
     pub(crate) fn seek(
         &mut self,
         alloc: Global,
         t: &Task,
         state: &State,
-        effort: Effort,
+        stage: Stage,
     ) -> Result<bool, NoMemory>
         requires planner { IsPlanner t.now self.old }
         requires reachable { IsReachable t.now t.now.init state.now }
@@ -216,10 +216,10 @@ impl<S: Source> Planner<S> {
         ensures ruled { IfOk result (λ found. found ≡ true → HasRule self.new.draft.rules state.now) }
         ensures pairs { OnOk result (self.new.draft.pairs ≡ self.old.draft.pairs) }
     {
-        self.allow(alloc, t, effort)?;
+        self.allow(alloc, t, stage.effort)?;
         let mut waiting = Vec::new(alloc);
         waiting.push(state.copy(alloc)?)?;
-        self.seek_all(alloc, t, &mut waiting)?;
+        self.seek_all(alloc, t, &mut waiting, stage.rules)?;
         Ok(self.draft.rules.select(state).is_some())
     }
 }

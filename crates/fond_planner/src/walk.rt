@@ -16,6 +16,7 @@ ghost use Rattle.fond_regress.specs.Barred.{Bars, IsBarred};
 ghost use Rattle.std.specs.Prelude.{◌≡◌, ◌<◌, ◌≤◌, false, true, length, Contains, IfOk, OnOk};
 
 use crate::find::Found;
+use crate::limits::walk_limit;
 use crate::planner::Planner;
 use crate::sketched::Sketched;
 use fond_draft::draft::Draft;
@@ -76,15 +77,6 @@ pub(crate) enum Round {
     Lost,
     /// More states are reachable than the budget.
     Past,
-}
-
-/// How many states a walk goes through: 4,000,000, or as many as take 1 GiB for their truth values, but more than any budget.
-fn walk_limit(t: &Task) -> u32
-    ensures { 1000000 < result }
-{
-    let words = t.atoms.len() / 64 + 1;
-    let fitting = ((1usize << 27) / words).min(4000000) as u32;
-    fitting.max(1000001)
 }
 
 /// The pair that bars the action of a step in its state, whose next state lies in this cube of this layer.

@@ -1,4 +1,4 @@
-use Rattle.std.proofs.Common.{◌∙◌, ◌<◌, [], length, get_or, slice_get, Some, ◌≡◌, ap, subst, sym, true, arith}
+use Rattle.std.proofs.Common.{◌∙◌, ◌<◌, [], length, get_or, slice_get, Some, ◌≡◌, subst, sym, true, arith}
 use Rattle.std.proofs.lemmas.Bool.{false≢true}
 use Rattle.std.proofs.lemmas.Option.{same_Some, slice_get-get_or, slice_get_within}
 use Rattle.fond_task.specs.Truth.{is_true}

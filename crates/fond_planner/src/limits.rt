@@ -1,0 +1,137 @@
+//! How much each part of planning may do, in one place. A unit of work is an update of the relaxation or of a list of a search: a
+//! million of them take some 6 ms on the machine of docs/PERFORMANCE.md, in which 1,000 to 3,000 states are opened. Nothing rests on
+//! these numbers but how long planning takes, and which of several policies is found.
+
+ghost use Rattle.std.specs.Prelude.{◌<◌, ◌≤◌};
+
+use fond_draft::source::Effort;
+use fond_layers::layers::Layers;
+use fond_task::task::Task;
+
+/// How many states are opened before the source is first asked. If no action is unfair, plans make policies that are as small as those
+/// from opened states, so only tiny tasks are decided without. If some are, opened states make smaller ones, which is worth a few
+/// milliseconds.
+const FAIR_STATES: u32 = 100;
+
+const OPPOSED_STATES: u32 = 1000;
+
+/// How many states are opened if the searches of the first stage found nothing.
+const MORE_STATES: u32 = 50000;
+
+/// The most rules that a first search may make where an opponent picks: with more, opened states are tried before it goes on.
+const FEW_RULES: u32 = 200;
+
+/// How many states are sought at most, one after the other, for the sake of one.
+pub(crate) const SEEKS: u32 = 100000;
+
+/// How many layers are proposed at most for the sake of one state.
+pub(crate) const LAYERS: u32 = 100000;
+
+/// What a stage of finding out about a state may do: how many states it opens, with how many rules it still asks the source for more,
+/// and what the searches of the source may do.
+#[derive(Clone, Copy)]
+pub(crate) struct Stage {
+    pub(crate) states: u32,
+    pub(crate) rules: u32,
+    pub(crate) effort: Effort,
+}
+
+/// How many states are opened before the source is first asked.
+pub(crate) fn quick_states(t: &Task) -> u32 {
+    for act in &t.acts {
+        if act.unfair {
+            return OPPOSED_STATES;
+        }
+    }
+    FAIR_STATES
+}
+
+/// How many states are opened before the source is asked about the next state, if it was this many for one. They double where an
+/// opponent picks: the more states have to be found out about, the more pays what opened states tell about all of them.
+pub(crate) fn next_quick(quick: u32) -> u32 {
+    if quick <= FAIR_STATES {
+        quick
+    } else {
+        quick.saturating_mul(2).min(MORE_STATES)
+    }
+}
+
+/// The first stage, in which this many states are opened. If an opponent picks, searches may do as much as opening the states of the
+/// second stage takes.
+pub(crate) fn first_stage(quick: u32, budget: u32) -> Stage
+    ensures { result.states ≤ budget }
+{
+    let is_short = FAIR_STATES < quick && quick < MORE_STATES;
+    let (rules, work, layers) = if is_short {
+        (FEW_RULES, 10000000, 5000000)
+    } else {
+        (u32::MAX, 30000000, 20000000)
+    };
+    Stage {
+        states: quick.min(budget),
+        rules,
+        effort: Effort {
+            states: budget.min(4000),
+            work,
+            layers,
+        },
+    }
+}
+
+/// The second stage.
+pub(crate) fn second_stage(budget: u32) -> Stage
+    ensures { result.states ≤ budget }
+{
+    Stage {
+        states: MORE_STATES.min(budget),
+        rules: u32::MAX,
+        effort: Effort {
+            states: budget.min(20000),
+            work: 150000000,
+            layers: 100000000,
+        },
+    }
+}
+
+/// The last one: the searches may do this once opening as many states as the budget was too few.
+pub(crate) fn last_stage(budget: u32) -> Stage
+    ensures { result.states ≤ budget }
+{
+    Stage {
+        states: budget,
+        rules: u32::MAX,
+        effort: Effort {
+            states: budget,
+            work: 20000000000,
+            layers: 2000000000,
+        },
+    }
+}
+
+/// The number of cubes in some layers.
+fn count_cubes(layers: &Layers) -> usize {
+    let mut count: usize = 0;
+    for number in 0..layers.len() {
+        count = count.saturating_add(layers.get(number).len());
+    }
+    count
+}
+
+/// What may be done to find layers for states that are known to be lost, and lie in these layers of full cubes.
+pub(crate) fn lost_effort(layers: &Layers) -> Effort {
+    let cubes = count_cubes(layers) as u64;
+    Effort {
+        states: u32::MAX,
+        work: 0,
+        layers: 2000000u64.saturating_add(cubes.saturating_mul(2000)),
+    }
+}
+
+/// How many states a walk goes through: 4,000,000, or as many as take 1 GiB for their truth values, but more than any budget.
+pub(crate) fn walk_limit(t: &Task) -> u32
+    ensures { 1000000 < result }
+{
+    let words = t.atoms.len() / 64 + 1;
+    let fitting = ((1usize << 27) / words).min(4000000) as u32;
+    fitting.max(1000001)
+}
