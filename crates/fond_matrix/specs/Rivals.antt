@@ -4,16 +4,16 @@ use Rattle.fond_state.specs.Cubes.{Contradicts, without_literal}
 use Rattle.fond_matrix.specs.Rows.{clashes}
 use Rattle.fond_matrix.specs.Below.{TwoBelow}
 
--- a cube contradicts another by its literal of an atom alone
+-- a cube contradicts another one, and does not without its literal of this atom
 abbrev pub IsRival : List (Option Bool) → ℕ → List (Option Bool) → Type 0
 IsRival cube atom other = Contradicts cube other × (¬ Contradicts (without_literal cube atom) other)
 
--- a cube contradicts the cube of a number by its literal of an atom alone
+-- of the literals of a cube, the one of this atom alone contradicts the cube with this number
 abbrev pub IsSole : List (List ℕ) → List (Option Bool) → ℕ → ℕ → Type 0
 IsSole rows cube atom number = (clashes rows cube number atom ≡ true) × (¬ TwoBelow (clashes rows cube number) (length cube))
 
--- a number below a bound is that of a cube that a cube contradicts by its literal of an atom alone; it is 2^32 - 1 if there is none, and
--- never larger
+-- what is noted for an atom: the number, below a bound, of a cube that a cube contradicts by its literal of this atom alone; or
+-- 2^32 - 1, if there is no such number
 abbrev pub IsNoted : List (List ℕ) → List (Option Bool) → ℕ → ℕ → ℕ → Type 0
 IsNoted rows cube bound atom rival = (rival < 2 ^ 32 - 1 → (rival < bound) × IsSole rows cube atom rival) × (rival ≡ 2 ^ 32 - 1 → (k : ℕ) → k < bound → ¬ IsSole rows cube atom k) × (rival ≤ 2 ^ 32 - 1)
 
