@@ -9,8 +9,11 @@ NAME.unfair, as examples/ has them; tools/batch takes such a FOLDER.
 import argparse
 import dataclasses
 import os
+import random
 import re
 import typing
+
+EXAMPLES = os.path.join(os.path.dirname(os.path.dirname(os.path.abspath(__file__))), "examples")
 
 
 def places(count, goal_in_reach=True):
@@ -396,6 +399,97 @@ def gates(count):
     return domain, problem, "enter\n"
 
 
+def example_domain(name):
+    """The text of the domain of an example."""
+    with open(os.path.join(EXAMPLES, name, f"{name}.d"), encoding="ascii") as file:
+        return file.read()
+
+
+def lifts(floors):
+    """A building with coins to collect, as many as floors, and lifts at some places. On each floor but the lowest, one place has a gate:
+    whoever walks on from it may find himself at the entrance again."""
+    domain = """(define (domain lifts) (:requirements :typing :negative-preconditions :non-deterministic)
+(:types lift floor place coin) (:constants f0 - floor p0 - place)
+(:predicates (above ?f ?g - floor) (beside ?p ?q - place) (lift-at ?l - lift ?f - floor) (at ?f - floor ?p - place)
+ (shaft ?l - lift ?p - place) (inside ?l - lift) (gate ?f - floor ?p - place) (lies ?c - coin ?f - floor ?p - place) (have ?c - coin))
+(:action ride-up :parameters (?l - lift ?f ?g - floor) :precondition (and (above ?g ?f) (lift-at ?l ?f))
+ :effect (and (lift-at ?l ?g) (not (lift-at ?l ?f))))
+(:action ride-down :parameters (?l - lift ?f ?g - floor) :precondition (and (above ?f ?g) (lift-at ?l ?f))
+ :effect (and (lift-at ?l ?g) (not (lift-at ?l ?f))))
+(:action enter :parameters (?l - lift ?f - floor ?p - place) :precondition (and (at ?f ?p) (lift-at ?l ?f) (shaft ?l ?p))
+ :effect (and (inside ?l) (not (at ?f ?p))))
+(:action leave :parameters (?l - lift ?f - floor ?p - place) :precondition (and (inside ?l) (lift-at ?l ?f) (shaft ?l ?p))
+ :effect (and (at ?f ?p) (not (inside ?l))))
+(:action pass :parameters (?f - floor ?p ?q - place) :precondition (and (at ?f ?p) (beside ?p ?q) (gate ?f ?p))
+ :effect (and (not (at ?f ?p)) (oneof (at ?f ?q) (at f0 p0))))
+(:action walk :parameters (?f - floor ?p ?q - place) :precondition (and (at ?f ?p) (beside ?p ?q) (not (gate ?f ?p)))
+ :effect (and (not (at ?f ?p)) (at ?f ?q)))
+(:action collect :parameters (?c - coin ?f - floor ?p - place) :precondition (and (lies ?c ?f ?p) (at ?f ?p))
+ :effect (and (have ?c) (not (lies ?c ?f ?p)))))
+"""
+    drawn = random.Random(floors)
+    storeys, spots = numbered("f", floors), numbered("p", floors // 2 + 1)
+    cabins, coins = numbered("l", max(1, floors // 3)), numbered("c", floors)
+    facts = [f"(above {high} {low})" for low, high in zip(storeys, storeys[1:])]
+    facts += [f"(beside {p} {q}) (beside {q} {p})" for p, q in zip(spots, spots[1:])]
+    facts += [f"(lift-at {cabin} {drawn.choice(storeys)}) (shaft {cabin} {drawn.choice(spots)})" for cabin in cabins]
+    facts += [f"(gate {storey} {drawn.choice(spots)})" for storey in storeys[1:]]
+    facts += [f"(lies {coin} {drawn.choice(storeys)} {drawn.choice(spots)})" for coin in coins]
+    problem = f"(define (problem coins) (:domain lifts) (:objects {' '.join(storeys[1:])} - floor {' '.join(spots[1:])} - place " \
+        f"{' '.join(cabins)} - lift {' '.join(coins)} - coin)\n(:init (at f0 p0) {' '.join(facts)})\n" \
+        f"(:goal (and {' '.join(f'(have {coin})' for coin in coins)})))\n"
+    return domain, problem, ""
+
+
+def mines(count):
+    """The miner of examples/ with so many mines: each second nugget is wanted, and whoever digs in a mine without a beam may be buried."""
+    drawn = random.Random(count)
+    pits = numbered("m", count)
+    facts = [f"(path m{drawn.randrange(max(0, i - 3), i)} m{i})" for i in range(1, count)]
+    facts += [f"(vein n{i} {drawn.choice(pits)}) (beam-at b{i} {drawn.choice([*pits, 'hut'])})" for i in range(count)]
+    problem = f"(define (problem nuggets) (:domain miner) (:objects hut - camp {' '.join(pits)} - mine " \
+        f"{' '.join(numbered('n', count))} - nugget {' '.join(numbered('b', count))} - beam)\n" \
+        f"(:init (miner-at hut) (path hut m0) {' '.join(facts)})\n" \
+        f"(:goal (and (miner-at hut) (not (buried)) {' '.join(f'(have n{i})' for i in range(0, count, 2))})))\n"
+    return example_domain("miner"), problem, ""
+
+
+def flights(count):
+    """The travelers of examples/zeno: so many cities and travelers. A plane may be sent on to an alternate city."""
+    drawn = random.Random(count)
+    cities, planes, taxis = numbered("c", count), numbered("j", max(1, count // 4)), numbered("t", max(1, count // 4))
+    facts = ["(next empty half) (next half full) (pump c0)"]
+    facts += [f"(road c{drawn.randrange(i)} c{i})" for i in range(1, count)]
+    facts += [f"(at {plane} {drawn.choice(cities)}) (fuel {plane} half)" for plane in planes]
+    facts += [f"(at {taxi} {drawn.choice(cities)})" for taxi in taxis]
+    facts += [f"(alternate {city} {drawn.choice(cities)})" + f" (pump {city})" * (drawn.random() < 0.4) for city in cities]
+    facts += [f"(at {person} {drawn.choice(cities)})" for person in numbered("q", count)]
+    goals = [f"(at {person} {drawn.choice(cities)})" for person in numbered("q", count)]
+    problem = f"(define (problem travelers) (:domain zeno) (:objects {' '.join(cities)} - city {' '.join(planes)} - plane " \
+        f"{' '.join(taxis)} - taxi {' '.join(numbered('q', count))} - person half - level)\n" \
+        f"(:init {' '.join(facts)})\n(:goal (and {' '.join(goals)})))\n"
+    return example_domain("zeno"), problem, ""
+
+
+def chase(count, cops=2):
+    """A robber on a ring of so many places, who moves as an opponent likes, and cops, one of whom moves at a time: two catch him, one
+    does not."""
+    domain = """(define (domain chase) (:requirements :typing :negative-preconditions :disjunctive-preconditions :non-deterministic)
+(:types place cop)
+(:predicates (at ?c - cop ?p - place) (robber ?p - place) (next ?p ?q - place) (turn) (caught))
+(:action step :parameters (?c - cop ?p ?q - place) :precondition (and (turn) (at ?c ?p) (or (next ?p ?q) (next ?q ?p)))
+ :effect (and (not (at ?c ?p)) (at ?c ?q) (not (turn))))
+(:action grab :parameters (?c - cop ?p - place) :precondition (and (at ?c ?p) (robber ?p)) :effect (caught))
+(:action flee :parameters (?p ?q ?r - place) :precondition (and (not (turn)) (robber ?p) (next ?q ?p) (next ?p ?r))
+ :effect (and (turn) (not (robber ?p)) (oneof (robber ?q) (robber ?r)))))
+"""
+    ring = [f"(next p{i} p{(i + 1) % count})" for i in range(count)]
+    force = [f"(at k{i} p{i})" for i in range(cops)]
+    problem = f"(define (problem chase) (:domain chase) (:objects {' '.join(numbered('p', count))} - place " \
+        f"{' '.join(numbered('k', cops))} - cop)\n(:init (turn) (robber p{count // 2 + 1}) {' '.join(ring + force)}) (:goal (caught)))\n"
+    return domain, problem, "flee\n"
+
+
 @dataclasses.dataclass(frozen=True)
 class Task:
     """A task of a kind: how large it is, and what makes its texts."""
@@ -455,6 +549,11 @@ TASKS = [
     *sized("bridge", bridge, (4, 12, 40)),
     *sized("islands", islands, (3, 6, 9, 10)),
     *sized("beam", beam, (255, 1023, 2047)),
+    *sized("lifts", lifts, (8, 16, 24)),
+    *sized("mines", mines, (10, 20, 30)),
+    *sized("flights", flights, (6, 9, 12)),
+    *sized("chase", chase, (12, 30, 60)),
+    *sized("chase, refused", chase, (30, 60, 200), cops=1),
 ]
 
 
