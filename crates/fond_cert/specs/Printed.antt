@@ -18,7 +18,7 @@ abbrev pub atom_literal_text : Labels → Atom → Option Bool → List ℕ
 atom_literal_text labels atom None = []
 atom_literal_text labels atom (Some sign) = codes " " ++ (sign_text sign ++ atom_text labels atom)
 
--- the text of the value that stands for this
+-- the text that is printed for a datum
 abbrev pub datum_text : Task → Datum → List ℕ
 datum_text task d.Nothing = []
 datum_text task (d.Act act) = group_text (act_leaves task act)
@@ -28,14 +28,14 @@ datum_text task (d.Numbers numbers) = spaced (map decimal numbers.now)
 datum_text task (d.Targets targets) = spaced (map target_word targets.now)
 datum_text task (d.Cube cube) = literals_text (written_cube task cube.now)
 
--- a value can be printed: if it stands for an action, the task has it
-abbrev pub IsPrintable : Task → Datum → Type 0
-IsPrintable task (d.Act act) = act < length task.acts
-IsPrintable task datum = ⊤
+-- if the datum is the number of an action, the task has that action
+abbrev pub HasAct : Task → Datum → Type 0
+HasAct task (d.Act act) = act < length task.acts
+HasAct task datum = ⊤
 
--- the text of fields with values that stand for these
+-- the text of fields, each followed by the text of its datum; if one list is longer, its rest is left out
 abbrev pub values_text : Task → List Field → List Datum → List ℕ
-values_text task fields values = flat_map (λ item. text_of item.0.0 ++ datum_text task item.1) (zip fields values)
+values_text task fields datums = flat_map (λ item. text_of item.0.0 ++ datum_text task item.1) (zip fields datums)
 
 -- the text of a line with its line feed
 abbrev pub fed : Line → List ℕ

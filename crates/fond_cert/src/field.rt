@@ -1,7 +1,7 @@
 //! Printing lines. A line is printed as it is read, field by field of its form; so a new kind of line needs no printer. Each call takes
 //! time in the length of what it adds, and in the number of the task's atoms for each cube, and no memory but that of the destination.
 
-ghost use Rattle.fond_cert.specs.Printed.{IsPrintable, datum_text, values_text};
+ghost use Rattle.fond_cert.specs.Printed.{HasAct, datum_text, values_text};
 ghost use Rattle.fond_form.specs.Forms.{form};
 ghost use Rattle.std.specs.Prelude.{◌++◌, All, codes};
 
@@ -27,7 +27,7 @@ pub(crate) enum Datum<'a> {
 
 /// Adds a value that stands for this.
 fn put_datum<O: Out>(task: &Task, datum: &Datum, out: &mut O)
-    requires { IsPrintable task.now datum.now }
+    requires { HasAct task.now datum.now }
     ensures { O.adds out.old out.new (datum_text task.now datum.now) }
 {
     match datum {
@@ -43,7 +43,7 @@ fn put_datum<O: Out>(task: &Task, datum: &Datum, out: &mut O)
 
 /// Adds fields with values that stand for these.
 fn put_fields<O: Out>(task: &Task, fields: &[Field], values: &[Datum], out: &mut O)
-    requires { All (IsPrintable task.now) values.now }
+    requires { All (HasAct task.now) values.now }
     ensures { O.adds out.old out.new (values_text task.now fields.now values.now) }
 {
     let Some((field, fields)) = fields.split_first() else {
@@ -59,7 +59,7 @@ fn put_fields<O: Out>(task: &Task, fields: &[Field], values: &[Datum], out: &mut
 
 /// Adds the line of this kind with values that stand for these, one for each field.
 pub(crate) fn put_line<O: Out>(task: &Task, kind: LineKind, values: &[Datum], out: &mut O)
-    requires { All (IsPrintable task.now) values.now }
+    requires { All (HasAct task.now) values.now }
     ensures { O.adds out.old out.new (values_text task.now (form kind) values.now ++ codes "\n") }
 {
     put_fields(task, form(kind), values, out);

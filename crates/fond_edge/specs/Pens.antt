@@ -15,7 +15,7 @@ abbrev pub flow : Option (List ℕ) → ℕ → PenState → Flow
 flow written faults pen = record { written = written; faults = faults; pen = pen }
 
 -- all of `bytes` were put, and the pen has not failed: what was written in between, followed by what is pending after, is
--- what was pending before, followed by `bytes`
+-- what was pending before, followed by `bytes`; the number of faults is no smaller
 pub record IsPut (before after : Flow) (bytes : List ℕ) : Type 0 where
   pub front : List ℕ
   pub appended : Appended before.written after.written front
@@ -24,8 +24,8 @@ pub record IsPut (before after : Flow) (bytes : List ℕ) : Type 0 where
   pub is_sound : after.pen.failed ≡ false
   pub counted : before.faults ≤ after.faults
 
--- the pen has failed, so not all of `bytes` were put. If it had not failed before, a fault of the sink occurred, and a proper
--- prefix of what was pending before, followed by `bytes`, was written. If it had failed before, nothing was written
+-- the pen has failed. If it had not failed before, a fault of the sink occurred, and a proper prefix of what was pending before,
+-- followed by `bytes`, was written. If it had failed before, nothing was written. The number of faults is no smaller
 pub record IsLost (before after : Flow) (bytes : List ℕ) : Type 0 where
   pub failed : after.pen.failed ≡ true
   pub part : before.pen.failed ≡ false → AppendedPart before.written after.written (before.pen.pending ++ bytes)

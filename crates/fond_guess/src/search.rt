@@ -24,7 +24,7 @@ const GOALS_FROM: u32 = 200;
 
 const LANDMARKS_FROM: u32 = 300;
 
-const OPPOSED_FROM: u32 = 5_000;
+const OPPOSED_FROM: u32 = 2_000;
 
 /// The most outcomes of an unfair action whose states are estimated at once.
 const MOST_ASKED: u32 = 24;

@@ -1,4 +1,4 @@
--- Texts that are written part by part: the text so far, or `None` if it is lost because memory ran out.
+-- Texts that are written part by part: the text so far, or `None` if it is lost.
 use Rattle.std.specs.Prelude.{◌≡◌, ◌⊎◌, ℕ, List, ◌++◌, Option, None, option_map}
 
 -- a part was added at the end of a text that is not lost, or the text is lost now

@@ -5,9 +5,10 @@ ghost use Rattle.std.specs.Prelude.{◌≡◌, ℕ, Bool, List, [], ◌++◌, tr
 
 use crate::number::Digits;
 
-/// A destination of text, which is added part by part. It remembers a failure, so that what adds the parts need not answer for it.
+/// A destination of text, which is added part by part. What adds a part need not answer for a failure: the destination is asked once, after
+/// the last part. What it means that a text was added is for each destination to say; the laws below are all that is known of any.
 pub trait Out {
-    /// From a state to a later one, all of a text was added, or the destination has failed.
+    /// From a state to a later one, the text was added, or the destination has failed.
     ghost adds: { Self → Self → List ℕ → Type 0 };
 
     /// Whether adding has failed.
@@ -17,17 +18,17 @@ pub trait Out {
     fn add(&mut self, part: &[u8])
         ensures { adds self.old self.new part.now };
 
-    /// Whether adding has failed. Nothing is added after a failure.
+    /// Whether adding has failed.
     fn has_failed(&self) -> bool
         ensures { result ≡ failed self.now };
 
-    /// Nothing is added by doing nothing.
+    /// Doing nothing adds the empty text.
     ghost adds_nothing: { (now : Self) → adds now now [] };
 
     /// Texts that are added one after the other are added as a whole.
     ghost adds_then: { (before now after : Self) (text more : List ℕ) → adds before now text → adds now after more → adds before after (text ++ more) };
 
-    /// Whatever is added after a failure is lost.
+    /// After a failure, a destination that is left as it is counts as having been given any text.
     ghost adds_failed: { (now : Self) (text : List ℕ) → failed now ≡ true → adds now now text };
 }
 
