@@ -26,7 +26,7 @@ pub(crate) struct Agenda {
 }
 
 /// The first bit of the words, as a number.
-fn first_bit(words: &[u64]) -> Option<u32> {
+pub(crate) fn first_bit(words: &[u64]) -> Option<u32> {
     for i in 0..words.len() {
         if words[i] != 0 {
             let before = size(i).saturating_mul(64);

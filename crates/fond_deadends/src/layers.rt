@@ -126,7 +126,7 @@ impl View {
 }
 
 /// Makes all these atoms known.
-fn know_all(care: &mut [u64], atoms: u32) {
+pub(crate) fn know_all(care: &mut [u64], atoms: u32) {
     for i in 0..care.len() {
         let before = size(i).saturating_mul(64);
         care[i] = low_bits(atoms.saturating_sub(before));
@@ -200,6 +200,11 @@ impl LayerSearch {
         }
         self.add_node(facts)?;
         Ok(())
+    }
+
+    /// Lets the search take this much more.
+    pub fn allow(&mut self, work: u64) {
+        self.left = self.left.saturating_add(work);
     }
 
     /// The node in whose cube the image lies: the one that is looked at, or else the first one, if the others are asked.

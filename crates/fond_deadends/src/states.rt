@@ -16,14 +16,19 @@ pub struct StateSet {
     count: u32,
 }
 
+/// Mixes the bits of a word. It takes two steps: one alone brings the high bits of a word only to the middle.
+fn mix(word: u64) -> u64 {
+    let product = word.wrapping_mul(0xd6e8_feb8_6659_fd93);
+    product ^ (product >> 32)
+}
+
 /// A hash of the words.
 fn hash_of(words: &[u64]) -> usize {
     let mut hash: u64 = 0x9e37_79b9_7f4a_7c15;
     for word in words {
-        hash = (hash ^ *word).wrapping_mul(0xd6e8_feb8_6659_fd93);
-        hash ^= hash >> 32;
+        hash = mix(hash ^ *word);
     }
-    hash as usize
+    mix(hash) as usize
 }
 
 impl StateSet {
@@ -52,6 +57,12 @@ impl StateSet {
         self.words.clear();
         self.count = 0;
         Ok(())
+    }
+
+    /// Drops all states, and takes those of this many words from now on.
+    pub fn reset(&mut self, width: u32) -> Result<(), NoMemory> {
+        self.width = width as usize;
+        self.clear()
     }
 
     /// The words of a state.

@@ -6,6 +6,7 @@ use crate::search::{Ended, Limits, Search};
 use fond_deadends::cubes::{Masks, masks_of};
 use fond_deadends::dead::Prover;
 use fond_deadends::layers::{LayerSearch, Limits as LayerLimits, Stage};
+use fond_deadends::project::Projector;
 use fond_moves::index::{clear_words, copy_words, put_bit, size};
 use fond_moves::part::Part;
 use fond_state::cube::Cube;
@@ -20,6 +21,12 @@ use std::alloc::Global;
 /// The most states of a search with a local aim.
 const LOCAL_STATES: u32 = 300;
 
+/// What a search for layers may do before the projector.
+const FIRST_WORK: u64 = 500_000;
+
+/// What the projector may do whatever else was done.
+const BANK: u64 = 8_000_000;
+
 /// A searching engine.
 #[derive(Drop)]
 pub struct Engine {
@@ -27,7 +34,12 @@ pub struct Engine {
     search: Box<Search>,
     prover: Box<Prover>,
     layers: Box<LayerSearch>,
+    projector: Box<Projector>,
     aim: Box<Aim>,
+    /// What the projector may do for the state around which layers are sought.
+    share: u64,
+    /// What the search for layers may do after the projector.
+    rest: u64,
     /// The state and the cube that were read last.
     start: Vec<u64>,
     cube: Part,
@@ -72,6 +84,7 @@ impl Engine {
         let search = Search::new(alloc, &known)?;
         let prover = Prover::new(alloc, width)?;
         let layers = LayerSearch::new(alloc, &known.facts())?;
+        let projector = Projector::new(alloc, known.moves.atoms, width)?;
         let aim = Aim::new(alloc, width)?;
         let start = vec![in alloc; 0; width as usize]?;
         let cube = Part::new(alloc, width)?;
@@ -80,7 +93,10 @@ impl Engine {
             search,
             prover,
             layers,
+            projector,
             aim,
+            share: 0,
+            rest: 0,
             start,
             cube,
         })
@@ -140,6 +156,26 @@ impl Engine {
             .work()
             .saturating_add(self.prover.work)
             .saturating_add(self.layers.work())
+            .saturating_add(self.projector.work())
+    }
+
+    /// What the projector may do, of this work: a part of it, and not much more than it may have done by now.
+    fn share_of(&self, work: u64) -> u64 {
+        let done = self.projector.work();
+        let others = self.work().saturating_sub(done);
+        let bank = BANK.saturating_add(others / 2).saturating_sub(done);
+        (work / 4).min(bank / 2)
+    }
+
+    /// The limits of a search for layers at first: it stops early for the projector.
+    fn limits_of(&mut self, states: u32, work: u64) -> LayerLimits {
+        let first = work.min(FIRST_WORK);
+        self.share = self.share_of(work);
+        self.rest = work.saturating_sub(first);
+        LayerLimits {
+            states,
+            work: first,
+        }
     }
 
     /// Searches with the local aim, if the state has one. Returns whether a plan was found.
@@ -215,7 +251,7 @@ impl Engine {
     /// Begins to look for layers around a state. Visits at most `states` states, and does not much more than `work` work.
     pub fn begin_layers(&mut self, state: &State, states: u32, work: u64) -> Result<(), NoMemory> {
         read(&mut self.start, state);
-        let limits = LayerLimits { states, work };
+        let limits = self.limits_of(states, work);
         self.layers.begin(&self.known.facts(), &self.start, limits)
     }
 
@@ -223,7 +259,7 @@ impl Engine {
     pub fn begin_layers_in(&mut self, cube: &Cube, states: u32, work: u64) -> Result<(), NoMemory> {
         read_cube(&mut self.cube, cube);
         copy_words(&mut self.start, &self.cube.value);
-        let limits = LayerLimits { states, work };
+        let limits = self.limits_of(states, work);
         self.layers.begin(&self.known.facts(), &self.start, limits)
     }
 
@@ -239,34 +275,77 @@ impl Engine {
     }
 
     /// The next layer, given the dead cubes so far: cubes that no action surely leaves. The last one has the state around which it
-    /// was to be.
+    /// was to be. A short search for layers comes first, which finds small ones; then a projection, and then the rest of the search.
     pub fn next_layer(&mut self, alloc: Global) -> Result<LayerHint, NoMemory> {
         if self.known.dead.holds(&self.start) {
             return Ok(LayerHint::Found);
         }
-        let layer = match self.layers.run(&self.known.facts())? {
-            Stage::Cube => self.layer_of_cube(alloc)?,
-            Stage::Layer => self.layer_of_nodes(alloc)?,
-            Stage::Open | Stage::Failed => return Ok(LayerHint::Nothing),
+        let mut stage = self.layers.run(&self.known.facts())?;
+        if stage == Stage::Failed {
+            match self.project(alloc)? {
+                Stage::Cube => return self.hint_of_part(alloc, &self.prover.best),
+                Stage::Layer => return self.hint_of_projection(alloc),
+                Stage::Open | Stage::Failed => {}
+            }
+            self.layers.allow(self.rest);
+            self.rest = 0;
+            stage = self.layers.run(&self.known.facts())?;
+        }
+        match stage {
+            Stage::Cube => self.hint_of_part(alloc, self.layers.dead_cube()),
+            Stage::Layer => self.hint_of_nodes(alloc),
+            Stage::Open | Stage::Failed => Ok(LayerHint::Nothing),
+        }
+    }
+
+    /// Looks for a layer over few atoms.
+    fn project(&mut self, alloc: Global) -> Result<Stage, NoMemory> {
+        if self.share == 0 {
+            return Ok(Stage::Failed);
+        }
+        let before = self.work();
+        let stage = self.projector.find(
+            alloc,
+            &self.known.facts(),
+            &mut self.prover,
+            &self.start,
+            self.share,
+        )?;
+        let done = self.work().saturating_sub(before);
+        self.share = if stage == Stage::Cube {
+            self.share.saturating_sub(done)
+        } else {
+            0
         };
+        Ok(stage)
+    }
+
+    /// The cubes over few atoms.
+    fn hint_of_projection(&mut self, alloc: Global) -> Result<LayerHint, NoMemory> {
+        let mut layer = List::new(alloc);
+        self.cube.clear();
+        for number in 0..self.projector.len() {
+            self.projector.load(number, &mut self.cube);
+            layer.push(cube_of(alloc, &self.cube, self.known.moves.atoms)?)?;
+        }
         Ok(LayerHint::Layer(layer))
     }
 
-    /// The cube that is dead by itself, as a layer.
-    fn layer_of_cube(&self, alloc: Global) -> Result<List<Cube>, NoMemory> {
+    /// A cube that is dead by itself, as a layer.
+    fn hint_of_part(&self, alloc: Global, part: &Part) -> Result<LayerHint, NoMemory> {
         let mut layer = List::new(alloc);
-        layer.push(cube_of(alloc, self.layers.dead_cube(), self.known.moves.atoms)?)?;
-        Ok(layer)
+        layer.push(cube_of(alloc, part, self.known.moves.atoms)?)?;
+        Ok(LayerHint::Layer(layer))
     }
 
     /// The cubes of the nodes, but for those that lie in others.
-    fn layer_of_nodes(&mut self, alloc: Global) -> Result<List<Cube>, NoMemory> {
+    fn hint_of_nodes(&mut self, alloc: Global) -> Result<LayerHint, NoMemory> {
         let mut layer = List::new(alloc);
         for node in 0..self.layers.len() {
             if self.layers.load(node, &mut self.cube) {
                 layer.push(cube_of(alloc, &self.cube, self.known.moves.atoms)?)?;
             }
         }
-        Ok(layer)
+        Ok(LayerHint::Layer(layer))
     }
 }

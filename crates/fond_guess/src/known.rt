@@ -184,6 +184,7 @@ impl Known {
             moves: &self.moves,
             weights: &self.weights,
             net: &self.net,
+            together: self.givers.together(),
             dead: &self.dead,
         }
     }

@@ -137,6 +137,11 @@ impl Givers {
         boxed(alloc, givers)
     }
 
+    /// Which atoms may be true together.
+    pub fn together(&self) -> &Together {
+        &self.together
+    }
+
     /// Adds the steps that give a literal of the mask to those found.
     fn find_mask(&mut self, mask: &Mask) -> Result<(), NoMemory> {
         let mut bits = mask.care;
