@@ -281,7 +281,7 @@ impl<S: Source> Planner<S> {
         if let Some(found) = self.find_known(alloc, t, state)? {
             return Ok(Some(found));
         }
-        let first = first_stage(self.quick, budget);
+        let first = first_stage(self.quick, budget, t.acts.len());
         self.quick = next_quick(self.quick);
         if let Some(found) = self.find_in_stage(alloc, t, state, first)? {
             return Ok(Some(found));

@@ -18,6 +18,10 @@ const OPPOSED_STATES: u32 = 1000;
 /// How many states are opened if the searches of the first stage found nothing.
 const MORE_STATES: u32 = 50000;
 
+/// What the searches of a first stage may do for each action: an evaluation takes longer with more actions, and some hundred of them
+/// come before goals are counted.
+const WORK_OF_ACT: u64 = 4000;
+
 /// The most rules that a first search may make where an opponent picks: with more, opened states are tried before it goes on.
 const FEW_RULES: u32 = 200;
 
@@ -56,16 +60,17 @@ pub(crate) fn next_quick(quick: u32) -> u32 {
     }
 }
 
-/// The first stage, in which this many states are opened. If an opponent picks, searches may do as much as opening the states of the
-/// second stage takes.
-pub(crate) fn first_stage(quick: u32, budget: u32) -> Stage
+/// The first stage, in which this many states are opened, of a task with so many actions. If an opponent picks, searches may do as much
+/// as opening the states of the second stage takes.
+pub(crate) fn first_stage(quick: u32, budget: u32, acts: usize) -> Stage
     ensures { result.states ≤ budget }
 {
     let is_short = FAIR_STATES < quick && quick < MORE_STATES;
     let (rules, work, layers) = if is_short {
         (FEW_RULES, 10000000, 5000000)
     } else {
-        (u32::MAX, 30000000, 20000000)
+        let work = (acts as u64).saturating_mul(WORK_OF_ACT).max(30000000);
+        (u32::MAX, work, 20000000)
     };
     Stage {
         states: quick.min(budget),
