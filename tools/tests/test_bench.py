@@ -152,6 +152,16 @@ class Runs(Folder):
         self.assertEqual([(row["name"], row["answer"]) for row in peer], [("doors-12", "policy"), ("doors-12-unfair", "policy")])
         self.assertEqual([row["answer"] for row in rows_of(self.path("tables/plan.csv"))], ["policy", "policy"])
         self.assertEqual(bench("compare", *words, "doors 12"), table)
+        self.assertIn("| doors 12, unfair | PRP-like | 0.02 | 1.0 |\n\nplan takes 1.00 times as long as the best peer", table)
+
+    def test_compare_with_a_task_that_is_lost(self):
+        """The other planner decides both tasks at once, and the program is stopped at the first."""
+        os.mkdir(self.path("peers"))
+        self.path("peers/prp", PRP, is_program=True)
+        words = ["--peers", self.path("peers"), "--ground", self.path("ground", GROUND), "--seconds", "0.1"]
+        table = bench("compare", *words, "counter 16", "doors 40, unfair")
+        self.assertIn("|---|---|---|---|\n| counter 16 | PRP-like | 0.02 | lost |\n", table)
+        self.assertIn("(geometric mean of 2 tasks, 0.02 s at least), on 0 of them more than 3 times; 1 that a peer decides are lost\n", table)
 
     def agree(self, new, *words):
         """The lines that bench/agree prints for the example coin, and its status."""
