@@ -89,8 +89,9 @@ def lamps(count):
     return domain, problem, "carry\n"
 
 
-def blocks(count):
-    """Blocks in towers of two that become one tower, with a hand that may drop what it takes or puts down."""
+def blocks(count, goal_in_reach=True):
+    """Blocks in towers of two that become one tower, with a hand that may drop what it takes or puts down. Out of reach: two blocks on
+    the same one."""
     domain = """(define (domain blocks)
 (:requirements :non-deterministic :negative-preconditions :equality :typing)
 (:types block)
@@ -113,7 +114,7 @@ def blocks(count):
     lower = range(0, count, 2)
     facts = [f"(on-table b{i})" for i in lower] + [f"(on b{i + 1} b{i}) (clear b{i + 1})" for i in lower if i + 1 < count]
     facts += [f"(clear b{count - 1})"] if count % 2 else []
-    goal = " ".join(f"(on b{i} b{i + 1})" for i in range(count - 1))
+    goal = " ".join(f"(on b{i} b{i + 1})" for i in range(count - 1)) if goal_in_reach else "(on b0 b1) (on b2 b1)"
     problem = f"(define (problem tower) (:domain blocks) (:objects {names} - block)\n(:init (emptyhand) {' '.join(facts)})\n(:goal (and {goal})))\n"
     return domain, problem, ""
 
@@ -441,16 +442,19 @@ def lifts(floors):
     return domain, problem, ""
 
 
-def mines(count):
-    """The miner of examples/ with so many mines: each second nugget is wanted, and whoever digs in a mine without a beam may be buried."""
+def mines(count, beams=None):
+    """The miner of examples/ with so many mines: each second nugget is wanted, and whoever digs in a mine without a beam may be buried.
+    With fewer beams, each mine has a nugget, and all are wanted."""
     drawn = random.Random(count)
     pits = numbered("m", count)
+    wanted = range(0, count, 2) if beams is None else range(count)
     facts = [f"(path m{drawn.randrange(max(0, i - 3), i)} m{i})" for i in range(1, count)]
-    facts += [f"(vein n{i} {drawn.choice(pits)}) (beam-at b{i} {drawn.choice([*pits, 'hut'])})" for i in range(count)]
+    facts += [f"(vein n{i} {drawn.choice(pits) if beams is None else pits[i]})" for i in range(count)]
+    facts += [f"(beam-at b{i} {drawn.choice([*pits, 'hut'])})" for i in range(count if beams is None else beams)]
     problem = f"(define (problem nuggets) (:domain miner) (:objects hut - camp {' '.join(pits)} - mine " \
         f"{' '.join(numbered('n', count))} - nugget {' '.join(numbered('b', count))} - beam)\n" \
         f"(:init (miner-at hut) (path hut m0) {' '.join(facts)})\n" \
-        f"(:goal (and (miner-at hut) (not (buried)) {' '.join(f'(have n{i})' for i in range(0, count, 2))})))\n"
+        f"(:goal (and (miner-at hut) (not (buried)) {' '.join(f'(have n{i})' for i in wanted)})))\n"
     return example_domain("miner"), problem, ""
 
 
@@ -532,6 +536,7 @@ TASKS = [
     *sized("wide", wide, ((8, 50), (14, 50), (14, 5000)), " with "),
     *sized("lamps", lamps, (6, 12, 40, 100)),
     *sized("blocks", blocks, (6, 8, 12, 20, 40, 60)),
+    *sized("blocks, refused", blocks, (6, 7, 8), goal_in_reach=False),
     *sized("roads", roads, (3, 5, 6, 10, 20, 40)),
     *sized("roads, unfair", roads, (3, 5, 10, 20), unfair=True),
     *sized("rescue", rescue, (2, 4, 6, 8, 10)),
@@ -551,6 +556,7 @@ TASKS = [
     *sized("beam", beam, (255, 1023, 2047)),
     *sized("lifts", lifts, (8, 16, 24)),
     *sized("mines", mines, (10, 20, 30)),
+    *sized("mines, refused", lambda count: mines(count, count - 1), (4, 6, 8)),
     *sized("flights", flights, (6, 9, 12)),
     *sized("chase", chase, (12, 30, 60)),
     *sized("chase, refused", chase, (30, 60, 200), cops=1),
