@@ -413,19 +413,20 @@ impl Projector {
         })
     }
 
-    /// Looks for a layer around the state, and does not much more than five times this work. A cube that is dead by itself comes
-    /// first: it is the prover's.
+    /// Looks for a layer of at most so many cubes around the state, and does not much more than five times this work. A cube that is
+    /// dead by itself comes first: it is the prover's.
     pub fn find(
         &mut self,
         alloc: Global,
         facts: &Facts,
         prover: &mut Prover,
         state: &[u64],
+        cubes: u32,
         work: u64,
     ) -> Result<Stage, NoMemory> {
         self.begin(alloc, facts, state)?;
         self.space.left = work;
-        let stage = self.search(facts, prover, CUBES)?;
+        let stage = self.search(facts, prover, cubes.min(CUBES))?;
         if stage != Stage::Layer {
             return Ok(stage);
         }

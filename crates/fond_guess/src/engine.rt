@@ -21,6 +21,9 @@ use std::alloc::Global;
 /// The most states of a search with a local aim.
 const LOCAL_STATES: u32 = 300;
 
+/// If a search may expand fewer states than this, the projector looks at no more cubes, so that a budget too small stays one.
+const FEW_STATES: u32 = 1_000;
+
 /// What a search for layers may do before the projector.
 const FIRST_WORK: u64 = 500_000;
 
@@ -36,8 +39,9 @@ pub struct Engine {
     layers: Box<LayerSearch>,
     projector: Box<Projector>,
     aim: Box<Aim>,
-    /// What the projector may do for the state around which layers are sought.
+    /// What the projector may do for the state around which layers are sought, and how many cubes it may look at.
     share: u64,
+    most: u32,
     /// What the search for layers may do after the projector.
     rest: u64,
     /// The state and the cube that were read last.
@@ -96,6 +100,7 @@ impl Engine {
             projector,
             aim,
             share: 0,
+            most: 0,
             rest: 0,
             start,
             cube,
@@ -171,6 +176,11 @@ impl Engine {
     fn limits_of(&mut self, states: u32, work: u64) -> LayerLimits {
         let first = work.min(FIRST_WORK);
         self.share = self.share_of(work);
+        self.most = if states < FEW_STATES {
+            states
+        } else {
+            u32::MAX
+        };
         self.rest = work.saturating_sub(first);
         LayerLimits {
             states,
@@ -309,6 +319,7 @@ impl Engine {
             &self.known.facts(),
             &mut self.prover,
             &self.start,
+            self.most,
             self.share,
         )?;
         let done = self.work().saturating_sub(before);
