@@ -12,7 +12,7 @@ ghost use Rattle.fond_task.specs.Certificates.{LiesInLayers};
 ghost use Rattle.fond_task.specs.Policies.{IsGoal};
 ghost use Rattle.std.specs.Prelude.{◌≡◌, ◌≤◌, None, true, length, IfOk, IfSome, OnOk};
 
-use crate::limits::{Stage, first_stage, last_stage, next_quick, second_stage};
+use crate::limits::{MORE_STATES, Stage, first_stage, last_stage, next_quick, second_stage};
 use crate::planner::Planner;
 use fond_draft::draft::Draft;
 use fond_draft::make::make_rules;
@@ -260,8 +260,8 @@ impl<S: Source> Planner<S> {
     }
 
     /// Finds out about a state that is no goal: by what is known, and then in stages, each of which opens more states and searches
-    /// for longer. Rules are added until one holds in the state, or it lies in a layer afterwards. None only if more than `budget`
-    /// states are reachable.
+    /// for longer; a short first one is followed by a longer one. Rules are added until one holds in the state, or it lies in a layer
+    /// afterwards. None only if more than `budget` states are reachable.
     pub(crate) fn find(
         &mut self,
         alloc: Global,
@@ -285,6 +285,12 @@ impl<S: Source> Planner<S> {
         self.quick = next_quick(self.quick);
         if let Some(found) = self.find_in_stage(alloc, t, state, first)? {
             return Ok(Some(found));
+        }
+        if first.rules != u32::MAX {
+            let longer = first_stage(MORE_STATES, budget, t.acts.len());
+            if let Some(found) = self.find_in_stage(alloc, t, state, longer)? {
+                return Ok(Some(found));
+            }
         }
         if let Some(found) = self.find_in_stage(alloc, t, state, second_stage(budget))? {
             return Ok(Some(found));

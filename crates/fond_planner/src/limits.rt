@@ -16,7 +16,7 @@ const FAIR_STATES: u32 = 100;
 const OPPOSED_STATES: u32 = 1000;
 
 /// How many states are opened if the searches of the first stage found nothing.
-const MORE_STATES: u32 = 50000;
+pub(crate) const MORE_STATES: u32 = 50000;
 
 /// What the searches of a first stage may do for each action: an evaluation takes longer with more actions, and some hundred of them
 /// come before goals are counted.
