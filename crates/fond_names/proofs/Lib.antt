@@ -15,3 +15,4 @@ pub mod Positions
 pub mod Differs
 pub mod SiteLemmas
 pub mod ScopeLemmas
+pub mod Told

@@ -8,3 +8,4 @@ pub mod Files
 pub mod Same
 pub mod Subtypes
 pub mod Unknown
+pub mod Fits

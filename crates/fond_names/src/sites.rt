@@ -4,10 +4,11 @@ ghost use Rattle.fond_ast.specs.Read.{condition_variables, effect_variables, has
 ghost use Rattle.fond_text.specs.declared.code.TheConstants.{LONGEST_TEXT};
 ghost use Rattle.fond_names.specs.Faults.{IsFirstIn, IsFirstWithin};
 ghost use Rattle.fond_names.specs.Files.{declarations_of};
+ghost use Rattle.fond_names.specs.Fits.{AreTold};
 ghost use Rattle.fond_names.specs.Sites.{condition_sites, effect_sites, schema_sites, domain_sites, problem_sites, initial_sites, sites_of};
-ghost use Rattle.std.specs.Prelude.{◌≡◌, ◌≤◌, ◌+◌, IfOk, length, map, sum, true};
+ghost use Rattle.std.specs.Prelude.{◌≡◌, ◌≤◌, ◌+◌, IfOk, OnOk, length, map, sum, true};
 
-use crate::atoms::{atom_fault, equality_fault, list_fault};
+use crate::atoms::{Fits, atom_fault, equality_fault, list_fault};
 use crate::files::Files;
 use crate::scope::{Around, Variables, inside, outside};
 use fond_ast::files::Schema;
@@ -24,19 +25,22 @@ fn condition_fault(
     files: &Files,
     condition: &Cond,
     around: &Around,
+    fits: &mut Fits,
 ) -> Result<Option<Found>, NoMemory>
-    requires { condition_variables condition.now ≤ LONGEST_TEXT }
-    ensures { IfOk result (IsFirstIn (declarations_of files.now) (condition_sites condition.now around.now)) }
+    requires few { condition_variables condition.now ≤ LONGEST_TEXT }
+    requires told { AreTold (declarations_of files.now) around.now fits.old }
+    ensures first { IfOk result (IsFirstIn (declarations_of files.now) (condition_sites condition.now around.now)) }
+    ensures told { OnOk result (AreTold (declarations_of files.now) around.now fits.new) }
 {
     match condition {
         Cond::Truth => Ok(None),
-        Cond::Holds(atom) => atom_fault(alloc, files, around, atom),
+        Cond::Holds(atom) => atom_fault(alloc, files, around, fits, atom),
         Cond::Equal(term, other) => Ok(equality_fault(files, around, term, other)),
-        Cond::And(parts) | Cond::Or(parts) => conditions_fault(alloc, files, parts, around),
-        Cond::Not(part) => condition_fault(alloc, files, part, around),
+        Cond::And(parts) | Cond::Or(parts) => conditions_fault(alloc, files, parts, around, fits),
+        Cond::Not(part) => condition_fault(alloc, files, part, around, fits),
         Cond::Imply(part, other) => {
-            let first = condition_fault(alloc, files, part, around)?;
-            Ok(earlier(first, condition_fault(alloc, files, other, around)?))
+            let first = condition_fault(alloc, files, part, around, fits)?;
+            Ok(earlier(first, condition_fault(alloc, files, other, around, fits)?))
         }
         Cond::Forall(names, part) | Cond::Exists(names, part) => {
             quantified_fault(alloc, files, names, part, around)
@@ -51,13 +55,19 @@ fn conditions_fault(
     files: &Files,
     conditions: &[Cond],
     around: &Around,
+    fits: &mut Fits,
 ) -> Result<Option<Found>, NoMemory>
-    requires { sum (map condition_variables conditions.now) ≤ LONGEST_TEXT }
-    ensures { IfOk result (IsFirstIn (declarations_of files.now) (sites_of condition_sites conditions.now around.now)) }
+    requires few { sum (map condition_variables conditions.now) ≤ LONGEST_TEXT }
+    requires told { AreTold (declarations_of files.now) around.now fits.old }
+    ensures first { IfOk result (IsFirstIn (declarations_of files.now) (sites_of condition_sites conditions.now around.now)) }
+    ensures told { OnOk result (AreTold (declarations_of files.now) around.now fits.new) }
 {
     let mut first = None;
     for condition in conditions {
-        first = earlier(first, condition_fault(alloc, files, condition, around)?);
+        first = earlier(
+            first,
+            condition_fault(alloc, files, condition, around, fits)?,
+        );
     }
     Ok(first)
 }
@@ -93,7 +103,9 @@ fn quantified_inside(
 {
     let first = list_fault(files, variables);
     let within = inside(&*variables, &*around);
-    Ok(earlier(first, condition_fault(alloc, files, part, &within)?))
+    let mut fits = Fits::new(alloc);
+    let inner = condition_fault(alloc, files, part, &within, &mut fits)?;
+    Ok(earlier(first, inner))
 }
 
 /// The first fault of names in an effect.
@@ -103,18 +115,23 @@ fn effect_fault(
     files: &Files,
     effect: &Effect,
     around: &Around,
+    fits: &mut Fits,
 ) -> Result<Option<Found>, NoMemory>
-    requires { effect_variables effect.now ≤ LONGEST_TEXT }
-    ensures { IfOk result (IsFirstIn (declarations_of files.now) (effect_sites effect.now around.now)) }
+    requires few { effect_variables effect.now ≤ LONGEST_TEXT }
+    requires told { AreTold (declarations_of files.now) around.now fits.old }
+    ensures first { IfOk result (IsFirstIn (declarations_of files.now) (effect_sites effect.now around.now)) }
+    ensures told { OnOk result (AreTold (declarations_of files.now) around.now fits.new) }
 {
     match effect {
         Effect::Nothing => Ok(None),
-        Effect::Add(atom) | Effect::Delete(atom) => atom_fault(alloc, files, around, atom),
-        Effect::And(parts) | Effect::OneOf(parts) => effects_fault(alloc, files, parts, around),
+        Effect::Add(atom) | Effect::Delete(atom) => atom_fault(alloc, files, around, fits, atom),
+        Effect::And(parts) | Effect::OneOf(parts) => effects_fault(
+            alloc, files, parts, around, fits,
+        ),
         Effect::Forall(names, part) => universal_fault(alloc, files, names, part, around),
         Effect::When(condition, part) => {
-            let first = condition_fault(alloc, files, condition, around)?;
-            Ok(earlier(first, effect_fault(alloc, files, part, around)?))
+            let first = condition_fault(alloc, files, condition, around, fits)?;
+            Ok(earlier(first, effect_fault(alloc, files, part, around, fits)?))
         }
     }
 }
@@ -126,13 +143,16 @@ fn effects_fault(
     files: &Files,
     effects: &[Effect],
     around: &Around,
+    fits: &mut Fits,
 ) -> Result<Option<Found>, NoMemory>
-    requires { sum (map effect_variables effects.now) ≤ LONGEST_TEXT }
-    ensures { IfOk result (IsFirstIn (declarations_of files.now) (sites_of effect_sites effects.now around.now)) }
+    requires few { sum (map effect_variables effects.now) ≤ LONGEST_TEXT }
+    requires told { AreTold (declarations_of files.now) around.now fits.old }
+    ensures first { IfOk result (IsFirstIn (declarations_of files.now) (sites_of effect_sites effects.now around.now)) }
+    ensures told { OnOk result (AreTold (declarations_of files.now) around.now fits.new) }
 {
     let mut first = None;
     for effect in effects {
-        first = earlier(first, effect_fault(alloc, files, effect, around)?);
+        first = earlier(first, effect_fault(alloc, files, effect, around, fits)?);
     }
     Ok(first)
 }
@@ -167,7 +187,9 @@ fn universal_inside(
 {
     let first = list_fault(files, variables);
     let within = inside(&*variables, &*around);
-    Ok(earlier(first, effect_fault(alloc, files, part, &within)?))
+    let mut fits = Fits::new(alloc);
+    let inner = effect_fault(alloc, files, part, &within, &mut fits)?;
+    Ok(earlier(first, inner))
 }
 
 /// The first fault of names in a schema with these parameters.
@@ -184,8 +206,12 @@ fn fault_inside(
     let list = list_fault(files, parameters);
     let outside = outside();
     let within = inside(&*parameters, &outside);
-    let first = condition_fault(alloc, files, &schema.pre, &within)?;
-    let body = earlier(first, effect_fault(alloc, files, &schema.effect, &within)?);
+    let mut fits = Fits::new(alloc);
+    let first = condition_fault(alloc, files, &schema.pre, &within, &mut fits)?;
+    let body = earlier(
+        first,
+        effect_fault(alloc, files, &schema.effect, &within, &mut fits)?,
+    );
     Ok(earlier(list, body))
 }
 
@@ -215,10 +241,14 @@ fn init_fault(alloc: Global, files: &Files) -> Result<Option<Found>, NoMemory>
     ensures { IfOk result (IsFirstIn (declarations_of files.now) (initial_sites files.now.problem.now)) }
 {
     let outside = outside();
+    let mut fits = Fits::new(alloc);
     let mut first = None;
     for i in 0..files.problem.init.len() {
         let initial = files.problem.init.get(i);
-        first = earlier(first, atom_fault(alloc, files, &outside, &initial.atom)?);
+        first = earlier(
+            first,
+            atom_fault(alloc, files, &outside, &mut fits, &initial.atom)?,
+        );
     }
     Ok(first)
 }
@@ -228,9 +258,10 @@ pub(crate) fn problem_site_fault(alloc: Global, files: &Files) -> Result<Option<
     ensures { IfOk result (IsFirstIn (declarations_of files.now) (problem_sites files.now.problem.now)) }
 {
     let outside = outside();
+    let mut fits = Fits::new(alloc);
     let first = init_fault(alloc, files)?;
     Ok(earlier(
         first,
-        condition_fault(alloc, files, &files.problem.goal, &outside)?,
+        condition_fault(alloc, files, &files.problem.goal, &outside, &mut fits)?,
     ))
 }

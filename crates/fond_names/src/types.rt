@@ -12,7 +12,7 @@ use fond_text::name::Name;
 use std::alloc::Global;
 
 /// If one of two lists is at most this long, each pair of their types is compared.
-const FEW: usize = 8;
+pub(crate) const FEW: usize = 8;
 
 /// Whether a type is declared.
 pub(crate) fn is_type(types: &TypeTable, name: &Name) -> bool

@@ -1,4 +1,4 @@
-use Rattle.std.proofs.Common.{◌≡◌, true, Some, sym, ap, ◌∙◌, subst}
+use Rattle.std.proofs.Common.{◌≡◌, true, Some, sym, ◌∙◌, subst}
 use Rattle.fond_ast.specs.declared.names.TypedName.{TypedName}
 use Rattle.fond_kinds.specs.Kinds.{are_types, Fit}
 use Rattle.fond_text.proofs.Earliest.{first_along}
@@ -10,8 +10,8 @@ use Rattle.fond_names.specs.Unknown.{IsMisfit}
 use Rattle.fond_names.proofs.Fits.{misfits_decide}
 use Rattle.fond_names.proofs.atoms.misfit.Goals as goal
 
-pub returns-in_ok-bad-in-Some : goal.returns-in_ok-bad-in-Some
-returns-in_ok-bad-in-Some c =
+pub returns-in_ok-bad-in-Some-clause-first : goal.returns-in_ok-bad-in-Some-clause-first
+returns-in_ok-bad-in-Some-clause-first c =
     let files = c.args.files.now in
     let lists = c.args.around.now in
     let argument = c.args.argument.now in
@@ -20,7 +20,7 @@ returns-in_ok-bad-in-Some c =
     let declared = c.in-Some.declared.now in
     let bad = c.in_ok-bad-in-Some.bad in
     let known : declaration_of (declarations_of files) lists argument ≡ Some declared = sym c.in-Some.ensures in
-    let told : bad ≡ are_misfits types declared.kinds parameter.kinds = c.in_ok-bad-in-Some.ensures ∙ ap (λ some. are_misfits some declared.kinds parameter.kinds) files.types_declared in
+    let told : bad ≡ are_misfits types declared.kinds parameter.kinds = c.in_ok-bad-in-Some.ensures.bad in
     let decides = misfits_decide types declared.kinds parameter.kinds in
     first_along (λ place code. (bad ≡ true) × (place ≡ argument.place) × (code ≡ TYPE_MISMATCH)) (IsMisfit (declarations_of files) lists argument parameter)
     (λ place code h.

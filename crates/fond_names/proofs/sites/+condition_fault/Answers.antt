@@ -15,22 +15,22 @@ use Rattle.fond_names.specs.Sites.{Site, AnAtom, AnEquality, AList, condition_si
 use Rattle.fond_names.proofs.SiteLemmas.{condition_sites_by, condition_variables_by, site_one, site_alone, sites_both, site_then, sites_next, fewer_left}
 use Rattle.fond_names.proofs.sites.+condition_fault.Goals as goal
 
-pub condition_fault-returns-in-Holds : goal.condition_fault-returns-in-Holds
-condition_fault-returns-in-Holds t c =
+pub condition_fault-returns-in-Holds-clause-first : goal.condition_fault-returns-in-Holds-clause-first
+condition_fault-returns-in-Holds-clause-first t c =
     let files = declarations_of c.args.files.now in
     let around = c.args.around.now in
     let same = condition_sites_by c.args.condition.now (open_condition.Holds c.in-Holds.atom) (ap out-Cond c.in-Holds.is ∙ made.outs-Holds c.in-Holds.atom) around in
-    subst (λ (sites : List Site). IfOk c.atom_fault.result (IsFirst (OccursAmong files sites))) (sym same) (site_alone files (AnAtom around c.in-Holds.atom) c.atom_fault.result c.atom_fault.ensures)
+    subst (λ (sites : List Site). IfOk c.atom_fault.result (IsFirst (OccursAmong files sites))) (sym same) (site_alone files (AnAtom around c.in-Holds.atom) c.atom_fault.result c.atom_fault.ensures.first)
 
-pub condition_fault-returns-in-Equal : goal.condition_fault-returns-in-Equal
-condition_fault-returns-in-Equal t c =
+pub condition_fault-returns-in-Equal-clause-first : goal.condition_fault-returns-in-Equal-clause-first
+condition_fault-returns-in-Equal-clause-first t c =
     let files = declarations_of c.args.files.now in
     let around = c.args.around.now in
     let same = condition_sites_by c.args.condition.now (open_condition.Equal c.in-Equal.term c.in-Equal.other) (ap out-Cond c.in-Equal.is ∙ made.outs-Equal c.in-Equal.term c.in-Equal.other) around in
     subst (λ (sites : List Site). IsFirst (OccursAmong files sites) c.equality_fault.result) (sym same) (site_one files (AnEquality around c.in-Equal.term c.in-Equal.other) c.equality_fault.result c.equality_fault.ensures)
 
-pub condition_fault-returns-in_ok-condition_fault-in-Imply : goal.condition_fault-returns-in_ok-condition_fault-in-Imply
-condition_fault-returns-in_ok-condition_fault-in-Imply t c =
+pub condition_fault-returns-in_ok-condition_fault-in-Imply-clause-first : goal.condition_fault-returns-in_ok-condition_fault-in-Imply-clause-first
+condition_fault-returns-in_ok-condition_fault-in-Imply-clause-first t c =
     let files = declarations_of c.args.files.now in
     let around = c.args.around.now in
     let same = condition_sites_by c.args.condition.now (open_condition.Imply c.in-Imply.part c.in-Imply.other) (ap out-Cond c.in-Imply.is ∙ made.outs-Imply c.in-Imply.part c.in-Imply.other) around in
@@ -38,10 +38,10 @@ condition_fault-returns-in_ok-condition_fault-in-Imply t c =
     λ i. condition_sites (c.deref-in-Imply.ensures i) around ++ condition_sites (c.deref-in-Imply-2.ensures i) around in
     subst (λ (sites : List Site). IsFirst (OccursAmong files sites) c.earlier.result) (parts ∙ sym same)
     (sites_both files (condition_sites c.deref-in-Imply.result.now around) (condition_sites c.deref-in-Imply-2.result.now around) c.in_ok-first-in-Imply.first c.in_ok-condition_fault-in-Imply.field-0 c.earlier.result
-    c.in_ok-first-in-Imply.ensures c.in_ok-condition_fault-in-Imply.ensures c.earlier.ensures)
+    c.in_ok-first-in-Imply.ensures.first c.in_ok-condition_fault-in-Imply.ensures.first c.earlier.ensures)
 
-pub condition_fault-returns-in-Forall : goal.condition_fault-returns-in-Forall
-condition_fault-returns-in-Forall t c =
+pub condition_fault-returns-in-Forall-clause-first : goal.condition_fault-returns-in-Forall-clause-first
+condition_fault-returns-in-Forall-clause-first t c =
     let files = declarations_of c.args.files.now in
     let around = c.args.around.now in
     let names = c.in-Forall.names in
@@ -64,9 +64,9 @@ quantified_inside-returns t c =
     let files = declarations_of c.args.files.now in
     let around = c.args.around.now in
     let names = c.args.variables.now in
-    let found = c.in_ok-condition_fault.field-0 in
+    let found = c.in_ok-inner.inner in
     site_then files (AList names) (condition_sites c.args.part.now (names ∷ around)) c.list_fault-first.result found c.earlier.result c.list_fault-first.ensures
-    (subst (λ (sites : List Site). IsFirst (OccursAmong files sites) found) (ap (condition_sites c.args.part.now) c.inside-within.ensures) c.in_ok-condition_fault.ensures)
+    (subst (λ (sites : List Site). IsFirst (OccursAmong files sites) found) (ap (condition_sites c.args.part.now) c.inside-within.ensures) c.in_ok-inner.ensures.first)
     c.earlier.ensures
 
 pub conditions_fault-loop-condition-preserved : goal.conditions_fault-loop-condition-preserved
@@ -75,19 +75,20 @@ conditions_fault-loop-condition-preserved t c =
     let part = c.condition-item.result in
     record {
       first = sites_next (declarations_of c.args.files.now) condition_sites c.args.around.now parts c.loop-condition.condition-index part c.loop-condition.first c.in_ok-condition_fault.field-0 c.earlier-first.result
-          c.loop-condition-test.true c.condition-item.is c.loop-condition.invariant.first c.in_ok-condition_fault.ensures c.earlier-first.ensures;
+          c.loop-condition-test.true c.condition-item.is c.loop-condition.invariant.first c.in_ok-condition_fault.ensures.first c.earlier-first.ensures;
       few = fewer_left condition_variables parts c.loop-condition.condition-index LONGEST_TEXT part c.loop-condition-test.true c.condition-item.is c.loop-condition.invariant.few;
+      told = c.in_ok-condition_fault.ensures.told;
     }
 
-pub conditions_fault-returns : goal.conditions_fault-returns
-conditions_fault-returns t c =
+pub conditions_fault-returns-clause-first : goal.conditions_fault-returns-clause-first
+conditions_fault-returns-clause-first t c =
     let files = declarations_of c.args.files.now in
     let parts = c.args.conditions.now in
     let all = take_all c.loop-condition.condition-index parts (omega arith) in
     subst (λ (some : List Cond). IsFirst (OccursAmong files (flat_map (λ part. part c.args.around.now) (map condition_sites some))) c.loop-condition.first) all c.loop-condition.invariant.first
 
-pub condition_fault-returns-in-And : goal.condition_fault-returns-in-And
-condition_fault-returns-in-And t c =
+pub condition_fault-returns-in-And-clause-first : goal.condition_fault-returns-in-And-clause-first
+condition_fault-returns-in-And-clause-first t c =
     let files = declarations_of c.args.files.now in
     let around = c.args.around.now in
     let parts = c.in-And.parts in
@@ -98,7 +99,7 @@ condition_fault-returns-in-And t c =
     ] in
     let inner : flat_map (λ part. part around) (map condition_sites c.deref-in-And.result.now) ≡ flat_map (λ part. part around) (map condition_sites parts.items) =
     ap (λ (some : List Cond). flat_map (λ part. part around) (map condition_sites some)) c.deref-in-And.ensures.value in
-    subst (λ (sites : List Site). IfOk c.conditions_fault.result (IsFirst (OccursAmong files sites))) (inner ∙ sym same) c.conditions_fault.ensures
+    subst (λ (sites : List Site). IfOk c.conditions_fault.result (IsFirst (OccursAmong files sites))) (inner ∙ sym same) c.conditions_fault.ensures.first
 
 pub condition_fault-condition_fault-requires : goal.condition_fault-condition_fault-requires
 condition_fault-condition_fault-requires t c =
@@ -106,8 +107,8 @@ condition_fault-condition_fault-requires t c =
     let counted : condition_variables c.args.condition.now ≡ condition_variables part.value = condition_variables_by c.args.condition.now (open_condition.Not part) (ap out-Cond c.in-Not.is ∙ made.outs-Not part) in
     let deep = ap (λ (one : Cond). size-Cond one) c.in-Not.is ∙ sized-Not part in
     let same = ap condition_variables c.deref.ensures in
-    let few = c.requires in
-    (grind (arith, c.decreases, deep, c.deref.ensures), omega (arith, few, counted, same))
+    let few = c.requires.few in
+    (grind (arith, c.decreases, deep, c.deref.ensures), (omega (arith, few, counted, same), c.requires.told))
 
 pub condition_fault-condition_fault-requires-in-Imply : goal.condition_fault-condition_fault-requires-in-Imply
 condition_fault-condition_fault-requires-in-Imply t c =
@@ -117,8 +118,8 @@ condition_fault-condition_fault-requires-in-Imply t c =
     condition_variables_by c.args.condition.now (open_condition.Imply part other) (ap out-Cond c.in-Imply.is ∙ made.outs-Imply part other) in
     let deep = ap (λ (one : Cond). size-Cond one) c.in-Imply.is ∙ sized-Imply part other in
     let same = ap condition_variables c.deref-in-Imply.ensures in
-    let few = c.requires in
-    (grind (arith, c.decreases, deep, c.deref-in-Imply.ensures), omega (arith, few, counted, same))
+    let few = c.requires.few in
+    (grind (arith, c.decreases, deep, c.deref-in-Imply.ensures), (omega (arith, few, counted, same), c.requires.told))
 
 pub condition_fault-condition_fault-requires-in-Imply-2 : goal.condition_fault-condition_fault-requires-in-Imply-2
 condition_fault-condition_fault-requires-in-Imply-2 t c =
@@ -128,14 +129,14 @@ condition_fault-condition_fault-requires-in-Imply-2 t c =
     condition_variables_by c.args.condition.now (open_condition.Imply part other) (ap out-Cond c.in-Imply.is ∙ made.outs-Imply part other) in
     let deep = ap (λ (one : Cond). size-Cond one) c.in-Imply.is ∙ sized-Imply part other in
     let same = ap condition_variables c.deref-in-Imply-2.ensures in
-    let few = c.requires in
-    (grind (arith, c.decreases, deep, c.deref-in-Imply-2.ensures), omega (arith, few, counted, same))
+    let few = c.requires.few in
+    (grind (arith, c.decreases, deep, c.deref-in-Imply-2.ensures), (omega (arith, few, counted, same), c.in_ok-first-in-Imply.ensures.told))
 
 pub condition_fault-quantified_fault-requires : goal.condition_fault-quantified_fault-requires
 condition_fault-quantified_fault-requires t c =
     let names = c.in-Forall.names in
     let part = c.in-Forall.part in
-    let few = c.requires in
+    let few = c.requires.few in
     let same = ap condition_variables c.deref-in-Forall.ensures in
     elim c.in-Forall.is [
       | inl e ↦
@@ -151,15 +152,15 @@ condition_fault-quantified_fault-requires t c =
 pub condition_fault-conditions_fault-requires : goal.condition_fault-conditions_fault-requires
 condition_fault-conditions_fault-requires t c =
     let parts = c.in-And.parts in
-    let few = c.requires in
+    let few = c.requires.few in
     let same = ap (λ (some : List Cond). sum (map condition_variables some)) c.deref-in-And.ensures.value in
     elim c.in-And.is [
       | inl e ↦
           let deep = ap (λ (one : Cond). size-Cond one) e ∙ sized-And parts in
           let counted : condition_variables c.args.condition.now ≡ sum (map condition_variables parts.items) = condition_variables_by c.args.condition.now (open_condition.And parts) (ap out-Cond e ∙ made.outs-And parts) in
-          (grind (arith, c.decreases, deep, c.deref-in-And.ensures.value), omega (arith, few, counted, same))
+          (grind (arith, c.decreases, deep, c.deref-in-And.ensures.value), (omega (arith, few, counted, same), c.requires.told))
       | inr e ↦
           let deep = ap (λ (one : Cond). size-Cond one) e ∙ sized-Or parts in
           let counted : condition_variables c.args.condition.now ≡ sum (map condition_variables parts.items) = condition_variables_by c.args.condition.now (open_condition.Or parts) (ap out-Cond e ∙ made.outs-Or parts) in
-          (grind (arith, c.decreases, deep, c.deref-in-And.ensures.value), omega (arith, few, counted, same))
+          (grind (arith, c.decreases, deep, c.deref-in-And.ensures.value), (omega (arith, few, counted, same), c.requires.told))
     ]

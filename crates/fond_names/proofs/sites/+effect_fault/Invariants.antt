@@ -5,6 +5,7 @@ use Rattle.fond_text.specs.declared.code.TheConstants.{LONGEST_TEXT}
 use Rattle.fond_text.specs.Firsts.{IsFirst}
 use Rattle.fond_names.specs.Faults.{OccursAmong}
 use Rattle.fond_names.specs.Files.{declarations_of}
+use Rattle.fond_names.specs.Fits.{AreTold}
 use Rattle.fond_names.specs.Sites.{effect_sites}
 use Rattle.fond_names.proofs.sites.+effect_fault.Given as goal
 
@@ -13,4 +14,5 @@ abbrev pub invariant-effects_fault-loop-effect : goal.invariant-effects_fault-lo
 invariant-effects_fault-loop-effect l = record {
   first : IsFirst (OccursAmong (declarations_of l.files) (flat_map (λ part. part l.around) (map effect_sites (take l.effect-index l.effects)))) l.first;
   few : sum (map effect_variables (drop l.effect-index l.effects)) ≤ LONGEST_TEXT;
+  told : AreTold (declarations_of l.files) l.around l.fits;
 }

@@ -18,6 +18,6 @@ returns c =
     site_then files (AList schema.parameters) (conditions ++ effects) c.list_fault-list.result c.earlier-body.result c.earlier.result
     (subst (λ (list : List TypedName). IsFirst (λ place code. OccursAt files place code (AList list)) c.list_fault-list.result) named c.list_fault-list.ensures)
     (sites_both files conditions effects c.in_ok-first.first c.in_ok-effect_fault.field-0 c.earlier-body.result
-    (subst (λ (around : Scope). IsFirst (OccursAmong files (condition_sites schema.pre around)) c.in_ok-first.first) lists c.in_ok-first.ensures)
-    (subst (λ (around : Scope). IsFirst (OccursAmong files (effect_sites schema.effect around)) c.in_ok-effect_fault.field-0) lists c.in_ok-effect_fault.ensures)
+    (subst (λ (around : Scope). IsFirst (OccursAmong files (condition_sites schema.pre around)) c.in_ok-first.first) lists c.in_ok-first.ensures.first)
+    (subst (λ (around : Scope). IsFirst (OccursAmong files (effect_sites schema.effect around)) c.in_ok-effect_fault.field-0) lists c.in_ok-effect_fault.ensures.first)
     c.earlier-body.ensures) c.earlier.ensures

@@ -11,5 +11,8 @@ pub loop-i-preserved : goal.loop-i-preserved
 loop-i-preserved c =
     let files = declarations_of c.args.files.now in
     let initial = c.get-initial.result.now in
-    site_more files (λ (one : InitAtom). AnAtom [] one.atom) c.args.files.now.problem.now.init c.loop-i.i initial c.loop-i.first c.in_ok-atom_fault.field-0 c.earlier-first.result c.get-initial.ensures c.loop-i.invariant
-    (subst (λ (around : Scope). IsFirst (λ place code. OccursAt files place code (AnAtom around initial.atom)) c.in_ok-atom_fault.field-0) c.outside-outside.ensures c.in_ok-atom_fault.ensures) c.earlier-first.ensures
+    record {
+      first = site_more files (λ (one : InitAtom). AnAtom [] one.atom) c.args.files.now.problem.now.init c.loop-i.i initial c.loop-i.first c.in_ok-atom_fault.field-0 c.earlier-first.result c.get-initial.ensures c.loop-i.invariant.first
+          (subst (λ (around : Scope). IsFirst (λ place code. OccursAt files place code (AnAtom around initial.atom)) c.in_ok-atom_fault.field-0) c.outside-outside.ensures c.in_ok-atom_fault.ensures.first) c.earlier-first.ensures;
+      told = c.in_ok-atom_fault.ensures.told;
+    }

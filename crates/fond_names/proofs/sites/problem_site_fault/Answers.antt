@@ -12,4 +12,4 @@ returns c =
     let files = declarations_of c.args.files.now in
     let problem = c.args.files.now.problem.now in
     sites_both files (map (λ (one : InitAtom). AnAtom [] one.atom) problem.init) (condition_sites problem.goal []) c.in_ok-first.first c.in_ok-condition_fault.field-0 c.earlier.result c.in_ok-first.ensures
-    (subst (λ (around : Scope). IsFirst (OccursAmong files (condition_sites problem.goal around)) c.in_ok-condition_fault.field-0) c.outside-outside.ensures c.in_ok-condition_fault.ensures) c.earlier.ensures
+    (subst (λ (around : Scope). IsFirst (OccursAmong files (condition_sites problem.goal around)) c.in_ok-condition_fault.field-0) c.outside-outside.ensures c.in_ok-condition_fault.ensures.first) c.earlier.ensures
