@@ -1,5 +1,7 @@
 -- Patterns of ground actions, and which actions of a schema are unfair.
-use Rattle.std.specs.Prelude.{◌≡◌, ◌⊎◌, ℕ, true, List, Some, Contains, length, slice_get}
+use Rattle.std.specs.Prelude.{◌≡◌, ◌⊎◌, ◌==◌, ◌&&◌, ℕ, nat_lt, Bool, true, false, List, Some, Contains, length, slice_get}
+use Rattle.std.specs.List.{list_all}
+use Rattle.std.specs.Option.{option_map_or}
 use Rattle.fond_ast.specs.declared.form.LTerm.{LTerm}
 use Rattle.fond_ast.specs.declared.form.LTerm.TheVariants.{Object, Variable}
 use Rattle.fond_ast.specs.declared.task.LSchema.{LSchema}
@@ -15,3 +17,23 @@ pub record Fits (pattern : List LTerm) (objects : List ℕ) : Type 0 where
 -- one of the schema's patterns fits the objects
 abbrev pub IsUnfairWith : LSchema → List ℕ → Type 0
 IsUnfairWith schema objects = (schema.unfair ≡ true) ⊎ ((pattern : List LTerm) × Contains schema.patterns pattern × Fits pattern objects)
+
+-- whether a term is the variable of this number
+abbrev pub is_variable : ℕ → LTerm → Bool
+is_variable number (Object other) = false
+is_variable number (Variable other) = other == number
+
+-- whether a term of a pattern is one of this many objects, or a variable that stands at the position that is its number
+abbrev pub is_pattern_term_within : ℕ → List LTerm → LTerm → Bool
+is_pattern_term_within count pattern (Object number) = nat_lt number count
+is_pattern_term_within count pattern (Variable number) = option_map_or (is_variable number) (slice_get pattern number) false
+
+-- whether a pattern has this many terms, and each is one of this many objects, or a variable that stands at the position that
+-- is its number
+abbrev pub is_pattern_within : ℕ → ℕ → List LTerm → Bool
+is_pattern_within count places pattern = (length pattern == places) && list_all (is_pattern_term_within count pattern) pattern
+
+-- whether each pattern of a schema has a term for each parameter, and each term is one of this many objects, or a variable that
+-- stands at the position that is its number
+abbrev pub are_patterns_within : ℕ → LSchema → Bool
+are_patterns_within count schema = list_all (is_pattern_within count (length schema.ranges)) schema.patterns

@@ -1,5 +1,6 @@
 //! Tasks whose names are resolved to numbers.
 
+ghost use Rattle.fond_ast.specs.Patterns.{are_patterns_within};
 ghost use Rattle.fond_ast.specs.Within.{are_ranges_within, is_condition_within, is_initial_within, is_schema_fluent, is_schema_within};
 ghost use Rattle.fond_text.specs.Lists.{are_distinct_texts};
 ghost use Rattle.std.specs.List.{list_all};
@@ -43,7 +44,8 @@ pub type LSchemas = List<LSchema>;
 /// By its facts, there are fewer than 2^32 objects, predicates and schemas, and no two of one sort have the same name.
 /// Every number names something, every range lists objects in rising order, every argument lies in the range of its
 /// parameter, every literal of an effect has a fluent predicate, and every `OneOf` has a member. Around each term are
-/// fewer than 2^32 variables.
+/// fewer than 2^32 variables. Every pattern has a term for each parameter of its schema, and a variable of it stands at the
+/// position that is its number.
 #[derive(Drop)]
 pub struct LiftedTask {
     pub place: Place,
@@ -61,6 +63,7 @@ pub struct LiftedTask {
     pub ghost predicates_within: { IsTrue (list_all (λ predicate. are_ranges_within (length objects) predicate.ranges) predicates) },
     pub ghost effects_fluent: { IsTrue (list_all (is_schema_fluent predicates) schemas) },
     pub ghost schemas_within: { IsTrue (list_all (is_schema_within (length objects) predicates) schemas) },
+    pub ghost patterns_within: { IsTrue (list_all (are_patterns_within (length objects)) schemas) },
     pub ghost init_within: { IsTrue (list_all (is_initial_within predicates) init) },
     pub ghost goal_within: { IsTrue (is_condition_within (length objects) predicates goal []) },
 }

@@ -15,3 +15,4 @@ pub mod Numbering
 pub mod PlaceLemmas
 pub mod FilingLemmas
 pub mod SoundLemmas
+pub mod PatternLemmas

@@ -21,7 +21,7 @@ use Rattle.fond_types.proofs.TermLemmas.{some_found, among_names}
 use Rattle.fond_names.specs.Unknown.{is_sound_term}
 use Rattle.fond_types.specs.Patterns.{is_sound_pattern}
 
-contains_mapped : {X Y : Type 0} (f : X → Y) (xs : List X) (x : X) → Contains xs x → Contains (map f xs) (f x)
+pub contains_mapped : {X Y : Type 0} (f : X → Y) (xs : List X) (x : X) → Contains xs x → Contains (map f xs) (f x)
 contains_mapped f [] x within = let low = within.1 in absurd (omega (arith, low))
 contains_mapped {X} {Y} f (y ∷ xs) x within =
     elim (here_or_there y xs x within) [

@@ -4,6 +4,7 @@ use Rattle.std.proofs.lemmas.Slice.Zip.{AllZip-long}
 use Rattle.fond_ast.specs.declared.files.Declared.{Declared}
 use Rattle.fond_ast.specs.declared.files.Domain.{Domain}
 use Rattle.fond_ast.specs.declared.names.TypedName.{TypedName}
+use Rattle.fond_ast.specs.Patterns.{are_patterns_within}
 use Rattle.fond_ast.specs.Within.{is_condition_within, is_schema_within, are_ranges_within}
 use Rattle.fond_ast.specs.declared.task.LPredicate.{LPredicate}
 use Rattle.fond_text.specs.Lists.{are_distinct_texts}
@@ -13,6 +14,7 @@ use Rattle.fond_types.specs.Resolves.{IsResolvedPredicate, IsResolvedSchema}
 use Rattle.fond_names.specs.Subtypes.{is_subtype}
 use Rattle.fond_names.proofs.Ancestors.{subtype_decides}
 use Rattle.fond_types.proofs.Firsts.{names_of_firsts, distinct_names}
+use Rattle.fond_types.proofs.PatternLemmas.{patterns_within}
 use Rattle.fond_types.proofs.RangeLemmas.{length-names}
 use Rattle.fond_types.proofs.TaskLemmas.{resolved_predicates, predicate_names, predicates_rise, numbered_names}
 use Rattle.fond_types.proofs.task.assembled.Goals as goal
@@ -44,6 +46,8 @@ invariant_of-result c =
       predicates_within = ap (λ count. list_all (λ (number : LPredicate). are_ranges_within count number.ranges) predicates) counted ∙ predicates_rise files (predicates_declared files.domain) predicates zip;
       effects_fluent = parts.schemas_fluent;
       schemas_within = ap (λ count. list_all (is_schema_within count predicates) c.args.parts.schemas) counted ∙ parts.schemas_within;
+      patterns_within = ap (λ count. list_all (are_patterns_within count) c.args.parts.schemas) counted
+          ∙ patterns_within files c.is_well_named.ensures.schemas_distinct c.is_well_named.ensures.patterns_sound files.domain.schemas c.args.parts.schemas (λ schema within. within) parts.schemas;
       init_within = parts.init_within;
       goal_within = ap (λ count. is_condition_within count predicates c.args.parts.goal []) counted ∙ parts.goal_within;
     }
