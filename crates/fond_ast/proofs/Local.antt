@@ -14,7 +14,8 @@ use Rattle.fond_ast.specs.declared.form.LTerm.TheVariants.{Object, Variable}
 use Rattle.fond_ast.specs.declared.form.LCond.{LCond, Truth, Holds as HoldsAtom, Equal, And', Or', Not', Imply', Forall', Exists', Row_of-LCond, end_of-LCond, more_of-LCond}
 use Rattle.fond_ast.specs.States.{State}
 use Rattle.fond_ast.specs.Conditions.{object_of, ground_atom, Holds, HoldsEach, HoldsSome}
-use Rattle.fond_ast.specs.Laws.{is_variable, has_variable, has_variable_step, has_predicate, has_predicate_step, TruthIsLocal}
+use Rattle.fond_ast.specs.Laws.{has_variable, has_variable_step, has_predicate, has_predicate_step, TruthIsLocal}
+use Rattle.fond_ast.specs.Patterns.{is_variable}
 use Rattle.fond_ast.proofs.Bools.{or-left, or-right}
 use Rattle.fond_ast.proofs.Occurs.{some_passes, of-And', of-Or', of-Not', of-Imply'-left, of-Imply'-right, of-Forall', of-Exists', variables-search, predicates-search, variable-Holds, variable-Equal, predicate-Holds}
 

@@ -11,7 +11,8 @@ use Rattle.fond_ast.specs.declared.form.LCond.TheOpen as open_condition
 use Rattle.fond_ast.specs.declared.form.LCond.TheOpen.{LCond-F}
 use Rattle.fond_ast.specs.declared.form.LCond.TheViews.{out-LCond, outs-Holds, outs-Equal, outs-And', outs-Or', outs-Not', outs-Imply', outs-Forall', outs-Exists'}
 use Rattle.fond_ast.specs.declared.form.LCond.TheFolds.{fold-LCond, fold_out-LCond, map-LCond}
-use Rattle.fond_ast.specs.Laws.{is_variable, has_variable, has_variable_step, has_predicate, has_predicate_step}
+use Rattle.fond_ast.specs.Laws.{has_variable, has_variable_step, has_predicate, has_predicate_step}
+use Rattle.fond_ast.specs.Patterns.{is_variable}
 use Rattle.fond_ast.proofs.Bools.{or-left, or-right}
 
 -- a fold into tests by the form of the condition

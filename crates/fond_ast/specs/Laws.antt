@@ -6,8 +6,6 @@ use Rattle.fond_text.specs.Lists.{AreDistinct, each_passes}
 use Rattle.fond_text.specs.declared.atom.Atom.{Atom}
 use Rattle.fond_text.specs.declared.atom.GroundAction.{GroundAction}
 use Rattle.fond_ast.specs.Ranges.{is_among}
-use Rattle.fond_ast.specs.declared.form.LTerm.{LTerm}
-use Rattle.fond_ast.specs.declared.form.LTerm.TheVariants.{Object, Variable}
 use Rattle.fond_ast.specs.declared.form.LCond.{LCond}
 use Rattle.fond_ast.specs.declared.form.LCond.TheOpen.{LCond-F, Truth, Holds as HoldsAtom, Equal, And, Or, Not, Imply, Forall, Exists}
 use Rattle.fond_ast.specs.declared.form.LCond.TheFolds.{fold-LCond}
@@ -18,12 +16,8 @@ use Rattle.fond_ast.specs.States.{State}
 use Rattle.fond_ast.specs.Conditions.{tuples, Holds}
 use Rattle.fond_ast.specs.Truths.{holds}
 use Rattle.fond_ast.specs.Outcomes.{outcomes, state_after, successors}
+use Rattle.fond_ast.specs.Patterns.{is_variable}
 use Rattle.fond_ast.specs.Solutions.{IsApplicable, IsNext}
-
--- whether a term is the variable of this number
-abbrev pub is_variable : ℕ → LTerm → Bool
-is_variable number (Object object) = false
-is_variable number (Variable other) = other == number
 
 abbrev pub has_variable_step : ℕ → LCond-F Bool → Bool
 has_variable_step number Truth = false

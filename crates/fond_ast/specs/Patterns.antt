@@ -23,17 +23,21 @@ abbrev pub is_variable : ℕ → LTerm → Bool
 is_variable number (Object other) = false
 is_variable number (Variable other) = other == number
 
--- whether a term of a pattern is one of this many objects, or a variable that stands at the position that is its number
+-- whether the variable of this number stands at the position of this number
+abbrev pub leads : List LTerm → ℕ → Bool
+leads pattern number = option_map_or (is_variable number) (slice_get pattern number) false
+
+-- whether a term of a pattern is one of this many objects, or a variable that stands, here or elsewhere, at the position of its number
 abbrev pub is_pattern_term_within : ℕ → List LTerm → LTerm → Bool
 is_pattern_term_within count pattern (Object number) = nat_lt number count
-is_pattern_term_within count pattern (Variable number) = option_map_or (is_variable number) (slice_get pattern number) false
+is_pattern_term_within count pattern (Variable number) = leads pattern number
 
--- whether a pattern has this many terms, and each is one of this many objects, or a variable that stands at the position that
--- is its number
+-- whether a pattern has this many terms, and each is one of this many objects, or a variable that stands at the position of its
+-- number, so that it is numbered by one of its positions
 abbrev pub is_pattern_within : ℕ → ℕ → List LTerm → Bool
 is_pattern_within count places pattern = (length pattern == places) && list_all (is_pattern_term_within count pattern) pattern
 
--- whether each pattern of a schema has a term for each parameter, and each term is one of this many objects, or a variable that
--- stands at the position that is its number
+-- whether each pattern of a schema has a term for each parameter, and its terms are among this many objects, or variables that
+-- are numbered by one of their positions
 abbrev pub are_patterns_within : ℕ → LSchema → Bool
 are_patterns_within count schema = list_all (is_pattern_within count (length schema.ranges)) schema.patterns

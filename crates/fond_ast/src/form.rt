@@ -4,7 +4,8 @@ use fond_text::atom::Objects;
 use fond_text::list::List;
 use std::rc::Rc;
 
-/// An object, or a variable by its position among the variables around it, the outermost first.
+/// An object, or a variable: by its position among the variables around it, the outermost first, or in a pattern by one of its positions
+/// there.
 #[derive(Clone, Copy)]
 pub enum LTerm {
     Object(u32),
@@ -14,7 +15,7 @@ pub enum LTerm {
 /// The terms of an atom, in order.
 pub type LTerms = List<LTerm>;
 
-/// A pattern of ground actions: a term for each object. Equal variables have the same number, and different ones
+/// A pattern of ground actions: a term for each parameter. Equal variables have the same number, and different ones
 /// different numbers.
 pub type LPattern = List<LTerm>;
 

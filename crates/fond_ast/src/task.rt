@@ -44,8 +44,8 @@ pub type LSchemas = List<LSchema>;
 /// By its facts, there are fewer than 2^32 objects, predicates and schemas, and no two of one sort have the same name.
 /// Every number names something, every range lists objects in rising order, every argument lies in the range of its
 /// parameter, every literal of an effect has a fluent predicate, and every `OneOf` has a member. Around each term are
-/// fewer than 2^32 variables. Every pattern has a term for each parameter of its schema, and a variable of it stands at the
-/// position that is its number.
+/// fewer than 2^32 variables. Every pattern has a term for each parameter of its schema, and its variables are numbered
+/// by one of their positions.
 #[derive(Drop)]
 pub struct LiftedTask {
     pub place: Place,

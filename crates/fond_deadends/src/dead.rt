@@ -70,7 +70,7 @@ impl Prover {
         if facts.dead.is_empty() {
             return None;
         }
-        for effect in &one.effects {
+        for effect in one.effects.iter() {
             effect.image(&self.part, &mut self.image);
             let cube = facts.dead.cover(&self.image);
             if cube.is_some() {
@@ -173,7 +173,7 @@ impl Prover {
         if let Some(cube) = blocked {
             facts.dead.mention(cube, &self.best, &mut self.part);
         }
-        for effect in &one.effects {
+        for effect in one.effects.iter() {
             effect.mention(&self.best, &mut self.part);
         }
     }

@@ -202,6 +202,17 @@ impl LayerSearch {
         Ok(())
     }
 
+    /// Whether the work that was allowed ran out, so that the search can go on if it is allowed more.
+    pub fn is_spent(&self) -> bool {
+        self.left == 0 && self.nodes.len() > 0
+    }
+
+    /// Goes on with a search whose work ran out, and lets it take this much more.
+    pub fn go_on(&mut self, limits: Limits) {
+        self.most = limits.states.min(NODES);
+        self.left = limits.work;
+    }
+
     /// Lets the search take this much more.
     pub fn allow(&mut self, work: u64) {
         self.left = self.left.saturating_add(work);
@@ -229,7 +240,7 @@ impl LayerSearch {
         others: bool,
     ) -> Result<bool, NoMemory> {
         self.inside.clear();
-        for effect in &one.effects {
+        for effect in one.effects.iter() {
             let view = &mut *self.view;
             effect.image(&view.part, &mut view.image);
             if facts.dead.cover(&self.view.image).is_some() {
@@ -363,7 +374,7 @@ impl LayerSearch {
 
     /// Goes into the next states by all outcomes.
     fn enter_all(&mut self, facts: &Facts, one: &Move, look: Look) -> Result<Stage, NoMemory> {
-        for effect in &one.effects {
+        for effect in one.effects.iter() {
             let stage = self.enter(facts, effect, look)?;
             if stage != Stage::Open {
                 return Ok(stage);

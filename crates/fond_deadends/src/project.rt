@@ -136,7 +136,7 @@ impl Trace {
         prover: &mut Prover,
         one: &Move,
     ) -> Result<bool, NoMemory> {
-        for effect in &one.effects {
+        for effect in one.effects.iter() {
             effect.apply(&self.whole.value, &mut self.next);
             let cube = facts.dead.first(&self.next);
             if cube != NONE {

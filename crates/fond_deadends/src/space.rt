@@ -62,7 +62,7 @@ pub(crate) struct Space {
 
 /// Whether an action may change one of the atoms.
 fn touches(one: &Move, masks: &[Mask]) -> bool {
-    for effect in &one.effects {
+    for effect in one.effects.iter() {
         for mask in masks {
             if effect.needed_before(mask) != Some(mask.care) {
                 return true;
@@ -221,7 +221,7 @@ impl Space {
         if facts.dead.is_empty() {
             return false;
         }
-        for effect in &one.effects {
+        for effect in one.effects.iter() {
             effect.image(&self.part, &mut self.image);
             if facts.dead.cover(&self.image).is_some() {
                 return true;

@@ -1,5 +1,5 @@
 -- Ground actions, their outcomes, and lists of them.
-use Rattle.std.proofs.Common.{◌≡◌, ℕ, zero, suc, ◌+◌, ◌<◌, ◌≤◌, ◌∙◌, ◌&&◌, nat_le, nat_lt, Bool, true, List, [], ◌∷◌, ◌++◌, Some, Result, Ok, Err, IfErr, IsErrAnd, length, get_or, slice_get, take, map, refl, sym, ap, subst, arith}
+use Rattle.std.proofs.Common.{◌≡◌, ℕ, zero, suc, ◌+◌, ◌-◌, ◌<◌, ◌≤◌, ◌∙◌, ◌&&◌, nat_le, nat_lt, Bool, true, List, [], ◌∷◌, ◌++◌, Some, Result, Ok, Err, IfErr, IsErrAnd, length, length-append, get_or, slice_get, take, map, refl, sym, ap, subst, arith}
 use Rattle.std.specs.List.{AllZip, list_all}
 use Rattle.std.proofs.lemmas.Bool.Decides.{nat_tests}
 use Rattle.std.proofs.lemmas.List.Folds.{list_all-append}
@@ -88,3 +88,14 @@ take_item xs i x at = ap (λ n. take n xs) (let e : i + 1 ≡ suc i = omega arit
 pub handed_on : {T E : Type 0} (r : Result T E) (error : E) (P : E → Type 0) → IsErrAnd r (λ e. e ≡ error) → P error → IfErr r P
 handed_on (Ok x) error P same holds = tt
 handed_on (Err e) error P same holds = subst P (sym same) holds
+
+-- the last item after a push is the one that was pushed
+pub last_pushed : {X : Type 0} (xs : List X) (x y : X) → slice_get (xs ++ x ∷ []) (length (xs ++ x ∷ []) - 1) ≡ Some y → x ≡ y
+last_pushed xs x y there = here xs (ap (λ n. slice_get (xs ++ x ∷ []) n) (count xs) ∙ there)
+  where
+    count : (xs : List _) → length xs ≡ length (xs ++ x ∷ []) - 1
+    count xs = let long = length-append xs (x ∷ []) in omega (arith, long)
+
+    here : (xs : List _) → slice_get (xs ++ x ∷ []) (length xs) ≡ Some y → x ≡ y
+    here [] at = cc
+    here (z ∷ zs) at = here zs at

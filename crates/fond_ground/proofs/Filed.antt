@@ -18,9 +18,9 @@ use Rattle.fond_ast.specs.declared.form.LTerm.{LTerm}
 use Rattle.fond_ast.specs.declared.form.LTerm.TheVariants.{Object, Variable}
 use Rattle.fond_store.specs.Texts.{number_beside, InsertsText}
 use Rattle.fond_join.proofs.Rowed.{below_next}
-use Rattle.fond_ast.specs.Patterns.{Fits}
+use Rattle.fond_ast.specs.Patterns.{is_variable, leads, Fits}
 use Rattle.fond_ground.proofs.Counts.{drop_item}
-use Rattle.fond_ground.specs.Patterns.{is_variable, leads, leader, Follows, Agrees, term_code, code, blank, shape, with_object, renamed, HasShape, HasShapeAt, AreKept, AreFiled, AreSeen, Fit}
+use Rattle.fond_ground.specs.Patterns.{leader, Follows, Agrees, term_code, code, blank, shape, with_object, renamed, HasShape, HasShapeAt, AreKept, AreFiled, AreSeen, Fit}
 
 none-is-not-some : (number : ℕ) → None ≡ Some number → ⊥
 none-is-not-some number e = cc

@@ -16,3 +16,4 @@ pub mod Distincts
 pub mod Empties
 pub mod Named
 pub mod Refusals
+pub mod Shared

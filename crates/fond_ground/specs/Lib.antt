@@ -9,3 +9,4 @@ pub mod Effects
 pub mod Limits
 pub mod Patterns
 pub mod Parts
+pub mod Shares

@@ -1,20 +1,10 @@
 -- The patterns of a schema as they are filed: by what they are, and by their shapes.
-use Rattle.std.specs.Prelude.{◌≡◌, ◌<◌, ◌==◌, ℕ, Bool, true, false, List, [], ◌∷◌, Option, Some, Contains, is_some, length, map, position, slice_get, if◌then◌else◌}
+use Rattle.std.specs.Prelude.{◌≡◌, ◌<◌, ℕ, true, List, [], ◌∷◌, Option, Some, Contains, is_some, length, map, position, slice_get, if◌then◌else◌}
 use Rattle.std.specs.List.{flat_map}
-use Rattle.std.specs.Option.{option_map_or}
 use Rattle.fond_ast.specs.declared.form.LTerm.{LTerm}
 use Rattle.fond_ast.specs.declared.form.LTerm.TheVariants.{Object, Variable}
 use Rattle.fond_store.specs.Texts.{number_beside}
-use Rattle.fond_ast.specs.Patterns.{Fits}
-
--- whether a term is the variable of this number
-abbrev pub is_variable : ℕ → LTerm → Bool
-is_variable number (Object other) = false
-is_variable number (Variable other) = other == number
-
--- whether a variable stands at the position that is its number
-abbrev pub leads : List LTerm → ℕ → Bool
-leads pattern number = option_map_or (is_variable number) (slice_get pattern number) false
+use Rattle.fond_ast.specs.Patterns.{is_variable, leads, Fits}
 
 -- a position of a variable: its number if it stands there, and otherwise the first one
 abbrev pub leader : List LTerm → ℕ → Option ℕ

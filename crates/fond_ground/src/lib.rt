@@ -9,6 +9,7 @@ mod forms;
 pub mod ground;
 mod junction;
 mod limits;
+mod parameters;
 mod patterns;
 mod table;
 mod tuples;

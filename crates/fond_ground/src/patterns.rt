@@ -1,9 +1,9 @@
 //! Which actions of a schema are unfair. The patterns of a schema are found by a hash, one look for each shape that they
 //! have, so that many of them cost an action no more than one.
 
-ghost use Rattle.fond_ground.specs.Patterns.{blank, code, is_variable, leads, leader, renamed, shape, term_code, with_object, Agrees, AreFiled, AreKept, AreSeen, Fit, Follows, HasShapeAt};
+ghost use Rattle.fond_ground.specs.Patterns.{blank, code, leader, renamed, shape, term_code, with_object, Agrees, AreFiled, AreKept, AreSeen, Fit, Follows, HasShapeAt};
 ghost use Rattle.fond_store.specs.Texts.{number_beside};
-ghost use Rattle.fond_ast.specs.Patterns.{IsUnfairWith};
+ghost use Rattle.fond_ast.specs.Patterns.{is_variable, leads, IsUnfairWith};
 ghost use Rattle.std.specs.Bool.{Decides};
 ghost use Rattle.std.specs.Prelude.{◌≡◌, ◌<◌, ◌+◌, ◌++◌, [], IfOk, OnOk, is_some, length, map, position, true};
 

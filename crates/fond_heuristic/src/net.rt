@@ -103,7 +103,7 @@ fn mark(form: &Form, marks: &mut [u32]) {
 /// Marks the literals of an action's conditions.
 fn mark_act(act: &Act, marks: &mut [u32]) {
     mark(&act.pre, marks);
-    for outcome in &act.outcomes {
+    for outcome in act.outcomes.as_slice() {
         for entry in outcome {
             mark(&entry.cond, marks);
         }
@@ -335,7 +335,7 @@ impl Net {
         if !source.one.unfair {
             return sure;
         }
-        if all_give(&source.one.effects, literal_of(entry)) {
+        if all_give(source.one.effects.as_slice(), literal_of(entry)) {
             sure && outcome == 0
         } else {
             !sure

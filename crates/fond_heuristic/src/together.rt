@@ -219,7 +219,7 @@ impl Together {
         if !self.meet(one) {
             return;
         }
-        for effect in &one.effects {
+        for effect in one.effects.iter() {
             self.follow(effect);
         }
     }

@@ -6,7 +6,8 @@ use Rattle.std.proofs.lemmas.Bool.{cases_lt}
 use Rattle.std.proofs.lemmas.Bool.Decides.{nat_tests}
 use Rattle.fond_text.specs.declared.atom.Atom.{Atom}
 use Rattle.fond_ast.specs.Ranges.{objects_of}
-use Rattle.fond_ast.specs.Laws.{has_variable, has_variable_step, is_variable}
+use Rattle.fond_ast.specs.Laws.{AgreeOnVariables, has_variable, has_variable_step}
+use Rattle.fond_ast.specs.Patterns.{is_variable}
 use Rattle.fond_ast.specs.Within.{is_fluent}
 use Rattle.fond_ast.specs.Conditions.{object_of, tuples}
 use Rattle.fond_ast.specs.declared.form.LTerm.{LTerm}
@@ -214,7 +215,20 @@ module _ (known : Atom → Kleene) where
       (let P : LCond-F LCond → Type 0 = λ z. Alike (λ number. has_whole number z) env other → whole_layer z env ≡ whole_layer z other in
       subst P is (whole_same y env other) (fewer 0 _ _ env other (λ number h. fold-roll-LCond Bool (has_variable_step number) x ∙ h) are)))
 
+  -- the value of a condition is the same for objects that agree on the variables that occur in it
+  pub condition_agrees : (condition : LCond) (env other : List ℕ) → AgreeOnVariables condition env other → condition_value known env condition ≡ condition_value known other condition
+  condition_agrees condition env other agree = condition_local condition env other (record { long = agree.0; same = agree.1 })
+
   -- the value of a condition is the same for all objects of variables that do not occur in it
   pub condition_alike : (part : LCond) (env xs ys : List ℕ) → length xs ≡ length ys → ((number : ℕ) → length env ≤ number → number < length env + length xs → has_variable number part ≡ false)
       → condition_value known (env ++ xs) part ≡ condition_value known (env ++ ys) part
   condition_alike part env xs ys long none = condition_local part (env ++ xs) (env ++ ys) (block_same 0 _ env xs ys long none)
+
+-- the objects of terms are the same for objects that agree on their variables
+pub objects_agree : (env other : List ℕ) (terms : List LTerm) → (length env ≡ length other) × ((number : ℕ) → list_any (is_variable number) terms ≡ true → slice_index_or env number 0 ≡ slice_index_or other number 0) → map (object_of env) terms ≡ map (object_of other) terms
+objects_agree env other terms are = objects_same (λ atom. Yes) env other terms (record { long = are.0; same = are.1 })
+
+-- objects that agree still do with more objects after them
+pub agree_longer : (test : ℕ → Bool) (env other more : List ℕ) → (length env ≡ length other) × ((number : ℕ) → test number ≡ true → slice_index_or env number 0 ≡ slice_index_or other number 0)
+    → (length (env ++ more) ≡ length (other ++ more)) × ((number : ℕ) → test number ≡ true → slice_index_or (env ++ more) number 0 ≡ slice_index_or (other ++ more) number 0)
+agree_longer test env other more are = let both = longer 0 test env other more (record { long = are.0; same = are.1 }) in (both.long, both.same)

@@ -2,7 +2,8 @@
 use Rattle.std.proofs.Common.{◌≡◌, ℕ, ◌+◌, ◌<◌, ◌≤◌, ◌||◌, ◌∙◌, Bool, false, List, Vec, Box, Global, map, drop, length, get_or, sym, ap}
 use Rattle.std.specs.List.{list_any}
 use Rattle.std.proofs.lemmas.List.{at_drop_all, at_drop_more}
-use Rattle.fond_ast.specs.Laws.{has_variable, has_variable_step, is_variable}
+use Rattle.fond_ast.specs.Laws.{has_variable, has_variable_step}
+use Rattle.fond_ast.specs.Patterns.{is_variable}
 use Rattle.fond_ast.specs.Ranges.{RangeList}
 use Rattle.fond_ast.specs.declared.form.LAtom.{LAtom}
 use Rattle.fond_ast.specs.declared.form.LTerm.{LTerm}

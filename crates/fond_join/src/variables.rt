@@ -1,6 +1,7 @@
 //! The variables that occur in a condition.
 
-ghost use Rattle.fond_ast.specs.Laws.{has_variable, is_variable};
+ghost use Rattle.fond_ast.specs.Laws.{has_variable};
+ghost use Rattle.fond_ast.specs.Patterns.{is_variable};
 ghost use Rattle.std.specs.List.{list_any};
 ghost use Rattle.std.specs.Prelude.{◌≡◌, ◌≤◌, ◌<◌, ℕ, true, false, map};
 

@@ -1,19 +1,20 @@
 //! The actions of a task in plain vectors.
 
 use crate::condition::{Condition, condition_of};
-use crate::effect::{Effect, effect_of};
+use crate::effect::{Effect, effect_of, is_plain};
 use crate::index::size;
 use fond_task::plan_step::PlanStep;
-use fond_task::task::{Act, Outcome, Task};
+use fond_task::shared::Shared;
+use fond_task::task::{Act, Entry, Outcome, Task};
 use fond_text::fault::NoMemory;
 use std::alloc::Global;
 
-/// An action. Its outcomes have consecutive step numbers, from `first` on.
+/// An action. Its outcomes have consecutive step numbers, from `first` on. Actions may own effects together.
 #[derive(Drop)]
 pub struct Move {
     pub unfair: bool,
     pub needs: Condition,
-    pub effects: Vec<Effect>,
+    pub effects: Shared<Vec<Effect>>,
     pub first: u32,
 }
 
@@ -36,9 +37,46 @@ fn effects_of(alloc: Global, outcomes: &[Outcome]) -> Result<Vec<Effect>, NoMemo
     Ok(effects)
 }
 
-/// An action whose steps have numbers from `first` on.
-fn move_of(alloc: Global, act: &Act, first: u32) -> Result<Move, NoMemory> {
-    let effects = effects_of(alloc, act.outcomes.as_slice())?;
+/// Whether two entries without conditions make the same change.
+fn are_same(entry: &Entry, other: &Entry) -> bool {
+    is_plain(entry) && is_plain(other) && entry.atom == other.atom && entry.add == other.add
+}
+
+/// Whether two outcomes are the same entries, all without conditions.
+fn is_same_outcome(outcome: &Outcome, other: &Outcome) -> bool {
+    if outcome.len() != other.len() {
+        return false;
+    }
+    for i in 0..outcome.len() {
+        if i < other.len() && !are_same(outcome.get(i), other.get(i)) {
+            return false;
+        }
+    }
+    true
+}
+
+/// Whether two actions have the same outcomes, without conditions. Mostly the first ones differ already.
+fn has_same_outcomes(act: &Act, other: &Act) -> bool {
+    if act.outcomes.len() != other.outcomes.len() {
+        return false;
+    }
+    for i in 0..act.outcomes.len() {
+        if i < other.outcomes.len()
+            && !is_same_outcome(act.outcomes.get(i), other.outcomes.get(i))
+        {
+            return false;
+        }
+    }
+    true
+}
+
+/// An action whose steps have numbers from `first` on, with these effects.
+fn move_of(
+    alloc: Global,
+    act: &Act,
+    effects: Shared<Vec<Effect>>,
+    first: u32,
+) -> Result<Move, NoMemory> {
     Ok(Move {
         unfair: act.unfair && effects.len() > 1,
         needs: condition_of(alloc, &act.pre)?,
@@ -56,19 +94,39 @@ impl Moves {
         Ok(())
     }
 
-    /// Adds an action.
-    fn add(&mut self, alloc: Global, act: &Act) -> Result<(), NoMemory> {
+    /// The effects of an action: those of the last one, if this is its act and has the same outcomes.
+    fn effects(
+        &self,
+        alloc: Global,
+        act: &Act,
+        last: Option<&Act>,
+    ) -> Result<Shared<Vec<Effect>>, NoMemory> {
+        if let Some(other) = last {
+            if let Some(one) = self.acts.last() {
+                if has_same_outcomes(act, other) {
+                    return one.effects.share();
+                }
+            }
+        }
+        Shared::new(alloc, effects_of(alloc, act.outcomes.as_slice())?)
+    }
+
+    /// Adds an action after the last one, whose act is given.
+    fn add(&mut self, alloc: Global, act: &Act, last: Option<&Act>) -> Result<(), NoMemory> {
         let number = size(self.acts.len());
         let first = size(self.steps.len());
         self.number(number, size(act.outcomes.len()))?;
-        self.acts.push(move_of(alloc, act, first)?)?;
+        let effects = self.effects(alloc, act, last)?;
+        self.acts.push(move_of(alloc, act, effects, first)?)?;
         Ok(())
     }
 
     /// Adds all actions of a task.
     fn add_all(&mut self, alloc: Global, task: &Task) -> Result<(), NoMemory> {
+        let mut last = None;
         for act in &task.acts {
-            self.add(alloc, act)?;
+            self.add(alloc, act, last)?;
+            last = Some(act);
         }
         Ok(())
     }

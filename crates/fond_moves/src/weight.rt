@@ -50,7 +50,7 @@ fn count_entries(outcome: &Outcome, counts: &mut [u32]) {
 
 /// Counts the literals that an action's entries may take away.
 fn count_changes(act: &Act, counts: &mut [u32]) {
-    for outcome in &act.outcomes {
+    for outcome in act.outcomes.as_slice() {
         count_entries(outcome, counts);
     }
 }

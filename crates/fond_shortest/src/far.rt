@@ -121,7 +121,7 @@ impl<'a> Far<'a> {
         }
         let mut some_leads = false;
         let mut each_leads = true;
-        for effect in &one.effects {
+        for effect in one.effects.iter() {
             self.pad.enter(effect);
             if self.dead.cover(&self.pad.image).is_some() {
                 return true;
@@ -391,14 +391,14 @@ impl<'a> Far<'a> {
         if matches!(one.needs.value(&self.pad.part), Kleene::No) {
             return;
         }
-        for effect in &one.effects {
+        for effect in one.effects.iter() {
             self.pad.enter(effect);
             if self.dead.cover(&self.pad.image).is_some() {
                 self.uses_layers = true;
                 return;
             }
         }
-        for effect in &one.effects {
+        for effect in one.effects.iter() {
             self.pad.enter(effect);
             let cube = pile.cover(&self.pad.image);
             if let Some(flag) = pile.needed.get_mut(cube as usize) {

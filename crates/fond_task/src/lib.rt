@@ -23,6 +23,7 @@ pub mod junction;
 pub mod laws;
 pub mod plan_step;
 pub mod rule;
+pub mod shared;
 pub mod step;
 pub mod task;
 pub mod text;

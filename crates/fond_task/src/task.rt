@@ -9,6 +9,7 @@ ghost use Rattle.std.specs.List.{list_all};
 ghost use Rattle.std.specs.Prelude.{◌≡◌, ◌<◌, ◌^◌, length, All, IsTrue};
 
 use crate::form::Form;
+use crate::shared::Shared;
 use fond_state::state::State;
 use fond_text::atom::{Atoms, GroundAction};
 use fond_text::list::List;
@@ -29,13 +30,13 @@ pub type Outcome = List<Entry>;
 pub type Outcomes = List<Outcome>;
 
 /// A ground action: its name, its precondition, who picks its outcome (an opponent if it is unfair, chance if it is
-/// not), and its outcomes.
+/// not), and its outcomes. Actions may own one precondition and one list of outcomes together.
 #[derive(Drop)]
 pub struct Act {
     pub ground: GroundAction,
-    pub pre: Form,
+    pub pre: Shared<Form>,
     pub unfair: bool,
-    pub outcomes: Outcomes,
+    pub outcomes: Shared<Outcomes>,
 }
 
 /// Ground actions, in order.

@@ -19,7 +19,7 @@ get-requires c = slice_get_within c.args.t.now.acts c.get-pick.result.now.act _ 
 pub overflow_cast-outcome : goal.overflow_cast-outcome
 overflow_cast-outcome c =
     let few = few_outcomes c.args.t.now c.get-pick.result.now.act c.get.result.now c.get.ensures in
-    omega (arith, few, c.loop-outcome-test.true, c.len-outcome-end.ensures)
+    omega (arith, few, c.loop-outcome-test.true, (c.len-outcome-end.ensures ∙ ap length c.deref.ensures))
 
 pub apply_into-requires-clause-long : goal.apply_into-requires-clause-long
 apply_into-requires-clause-long c = choice_long c.args.t.now c.args.plan.now c.requires.plan c.get-pick.result.now (Contains_numbered c.args.plan.now.choices c.args.number c.get-pick.result.now c.get-pick.ensures)
@@ -43,7 +43,7 @@ loop-outcome-preserved c =
     let pick = c.get-pick.result.now in
     let own = c.get.result.now in
     let k = c.loop-outcome.outcome in
-    let lt : k < length own.outcomes = omega (arith, c.loop-outcome-test.true, c.len-outcome-end.ensures) in
+    let lt : k < length own.outcomes = omega (arith, c.loop-outcome-test.true, (c.len-outcome-end.ensures ∙ ap length c.deref.ensures)) in
     let mine = get_or own.outcomes k [] in
     let there : slice_get own.outcomes k ≡ Some mine = slice_get-get_or own.outcomes k [] lt in
     let told = c.in_ok-add_lower.ensures in
@@ -70,7 +70,7 @@ returns-clause-all c = λ choice after numbered next.
     let acts : slice_get task.acts pick.act ≡ Some next.act = ap (λ (x : ChoiceView). slice_get task.acts x.act) same ∙ next.numbered in
     let within : at.0 < length next.act.outcomes = slice_get_within next.act.outcomes at.0 next.outcome at.1 in
     let count : length next.act.outcomes ≡ length own.outcomes = ap (λ (a : Act). length a.outcomes) (same_Some next.act own (sym acts ∙ c.get.ensures)) in
-    let provided = c.loop-outcome.invariant.all next.act at.0 next.outcome acts (omega (arith, within, count, c.loop-outcome-test.false, c.len-outcome-end.ensures)) at.1 in
+    let provided = c.loop-outcome.invariant.all next.act at.0 next.outcome acts (omega (arith, within, count, c.loop-outcome-test.false, (c.len-outcome-end.ensures ∙ ap length c.deref.ensures))) at.1 in
     let there : next_state pick.state next.outcome ≡ after = ap (λ (x : ChoiceView). next_state x.state next.outcome) same ∙ sym next.given in
     subst (λ (n : ℕ). IsProvided task c.args.rules.now c.args.plan.now.choices c.loop-outcome.states n after) (ap (λ (x : ChoiceView). x.rank) same)
     (subst (λ (s : List Bool). IsProvided task c.args.rules.now c.args.plan.now.choices c.loop-outcome.states pick.rank s) there provided)

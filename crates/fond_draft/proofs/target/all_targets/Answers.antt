@@ -10,13 +10,13 @@ use Rattle.fond_draft.proofs.target.all_targets.Goals as goal
 pub overflow_cast-outcome : goal.overflow_cast-outcome
 overflow_cast-outcome c =
     let few = few_outcomes c.args.t.now c.args.act c.get.result.now c.get.ensures in
-    omega (arith, few, c.loop-outcome-test.true, c.len-outcome-end.ensures)
+    omega (arith, few, c.loop-outcome-test.true, (c.len-outcome-end.ensures ∙ ap length c.deref.ensures))
 
 pub unreachable-requires : goal.unreachable-requires
 unreachable-requires c =
     let own = c.get.result.now in
     let k = c.loop-outcome.outcome in
-    let lt : k < length own.outcomes = omega (arith, c.loop-outcome-test.true, c.len-outcome-end.ensures) in
+    let lt : k < length own.outcomes = omega (arith, c.loop-outcome-test.true, (c.len-outcome-end.ensures ∙ ap length c.deref.ensures)) in
     let entries = get_or own.outcomes k [] in
     let there : slice_get own.outcomes k ≡ Some entries = slice_get-get_or own.outcomes k [] lt in
     c.in_default.ensures (subst (λ (s : List Bool). IsCovered c.args.t.now c.args.rules.now s) (sym (c.apply_into.ensures.next own entries c.get.ensures there))

@@ -10,19 +10,19 @@ use Rattle.fond_draft.proofs.target.first_target.Goals as goal
 pub overflow_cast-outcome : goal.overflow_cast-outcome
 overflow_cast-outcome c =
     let few = few_outcomes c.args.t.now c.args.act c.get.result.now c.get.ensures in
-    omega (arith, few, c.loop-outcome-test.true, c.len-outcome-end.ensures)
+    omega (arith, few, c.loop-outcome-test.true, (c.len-outcome-end.ensures ∙ ap length c.deref.ensures))
 
 pub overflow_cast-result : goal.overflow_cast-result
 overflow_cast-result c =
     let few = few_outcomes c.args.t.now c.args.act c.get.result.now c.get.ensures in
-    omega (arith, few, c.loop-outcome-test.true, c.len-outcome-end.ensures)
+    omega (arith, few, c.loop-outcome-test.true, (c.len-outcome-end.ensures ∙ ap length c.deref.ensures))
 
 pub returns-in-Some-clause-targets : goal.returns-in-Some-clause-targets
 returns-in-Some-clause-targets c = λ act at fair.
     let own = c.get.result.now in
     let k = c.loop-outcome.outcome in
     let same : own ≡ act = same_Some own act (sym c.get.ensures ∙ at) in
-    let lt : k < length own.outcomes = omega (arith, c.loop-outcome-test.true, c.len-outcome-end.ensures) in
+    let lt : k < length own.outcomes = omega (arith, c.loop-outcome-test.true, (c.len-outcome-end.ensures ∙ ap length c.deref.ensures)) in
     let entries = get_or own.outcomes k [] in
     let there : slice_get own.outcomes k ≡ Some entries = slice_get-get_or own.outcomes k [] lt in (
       fair,
@@ -51,4 +51,4 @@ unreachable-requires c =
     let some = c.requires.some own c.get.ensures in
     let at = number_of own.outcomes some.0 some.1 in
     let within : at.0 < length own.outcomes = slice_get_within own.outcomes at.0 some.0 at.1 in
-    c.loop-outcome.invariant.none own at.0 some.0 c.get.ensures (omega (arith, within, c.loop-outcome-test.false, c.len-outcome-end.ensures)) at.1 some.2
+    c.loop-outcome.invariant.none own at.0 some.0 c.get.ensures (omega (arith, within, c.loop-outcome-test.false, (c.len-outcome-end.ensures ∙ ap length c.deref.ensures))) at.1 some.2

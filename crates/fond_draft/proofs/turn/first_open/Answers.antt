@@ -11,7 +11,7 @@ use Rattle.fond_draft.proofs.turn.first_open.Goals as goal
 pub overflow_cast-outcome : goal.overflow_cast-outcome
 overflow_cast-outcome c =
     let few = few_outcomes c.args.t.now c.args.turn.now.act c.get.result.now c.get.ensures in
-    omega (arith, few, c.loop-outcome-test.true, c.len-outcome-end.ensures)
+    omega (arith, few, c.loop-outcome-test.true, (c.len-outcome-end.ensures ∙ ap length c.deref.ensures))
 
 pub apply_into-requires-clause-long : goal.apply_into-requires-clause-long
 apply_into-requires-clause-long c = turn_long c.args.t.now c.args.turn.now c.requires.turn
@@ -22,14 +22,14 @@ apply_into-requires-clause-there c = turn_there c.args.t.now c.args.turn.now c.r
 pub overflow_cast-result : goal.overflow_cast-result
 overflow_cast-result c =
     let few = few_outcomes c.args.t.now c.args.turn.now.act c.get.result.now c.get.ensures in
-    omega (arith, few, c.loop-outcome-test.true, c.len-outcome-end.ensures)
+    omega (arith, few, c.loop-outcome-test.true, (c.len-outcome-end.ensures ∙ ap length c.deref.ensures))
 
 pub returns-then-not-is_covered-clause-open : goal.returns-then-not-is_covered-clause-open
 returns-then-not-is_covered-clause-open c = λ act at.
     let own = c.get.result.now in
     let k = c.loop-outcome.outcome in
     let same : own ≡ act = same_Some own act (sym c.get.ensures ∙ at) in
-    let lt : k < length own.outcomes = omega (arith, c.loop-outcome-test.true, c.len-outcome-end.ensures) in
+    let lt : k < length own.outcomes = omega (arith, c.loop-outcome-test.true, (c.len-outcome-end.ensures ∙ ap length c.deref.ensures)) in
     let entries = get_or own.outcomes k [] in
     let there : slice_get own.outcomes k ≡ Some entries = slice_get-get_or own.outcomes k [] lt in
     (entries, subst (λ (a : Act). slice_get a.outcomes k ≡ Some entries) same there, c.apply_into.ensures.next own entries c.get.ensures there)
@@ -49,5 +49,5 @@ loop-outcome-preserved c = record {
 pub returns-clause-covered : goal.returns-clause-covered
 returns-clause-covered c = λ none act entries at has.
     let all : length c.get.result.now.outcomes ≡ length act.outcomes = ap (λ (a : Act). length a.outcomes) (same_Some c.get.result.now act (sym c.get.ensures ∙ at)) in
-    of_all (λ entries. IsCovered c.args.t.now c.args.rules.now (next_state c.args.turn.now.state entries)) act.outcomes c.loop-outcome.outcome (omega (arith, all, c.loop-outcome-test.false, c.len-outcome-end.ensures))
+    of_all (λ entries. IsCovered c.args.t.now c.args.rules.now (next_state c.args.turn.now.state entries)) act.outcomes c.loop-outcome.outcome (omega (arith, all, c.loop-outcome-test.false, (c.len-outcome-end.ensures ∙ ap length c.deref.ensures)))
     (λ number one. c.loop-outcome.invariant.covered act number one at) entries has

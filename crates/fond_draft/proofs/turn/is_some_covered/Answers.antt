@@ -12,7 +12,7 @@ use Rattle.fond_draft.proofs.turn.is_some_covered.Goals as goal
 pub overflow_cast-outcome : goal.overflow_cast-outcome
 overflow_cast-outcome c =
     let few = few_outcomes c.args.t.now c.args.turn.now.act c.get.result.now c.get.ensures in
-    omega (arith, few, c.loop-outcome-test.true, c.len-outcome-end.ensures)
+    omega (arith, few, c.loop-outcome-test.true, (c.len-outcome-end.ensures ∙ ap length c.deref.ensures))
 
 pub apply_into-requires-clause-long : goal.apply_into-requires-clause-long
 apply_into-requires-clause-long c = turn_long c.args.t.now c.args.turn.now c.requires.turn
@@ -25,7 +25,7 @@ returns-then-is_covered-clause-covered c = λ yes act at.
     let own = c.get.result.now in
     let k = c.loop-outcome.outcome in
     let same : own ≡ act = same_Some own act (sym c.get.ensures ∙ at) in
-    let lt : k < length own.outcomes = omega (arith, c.loop-outcome-test.true, c.len-outcome-end.ensures) in
+    let lt : k < length own.outcomes = omega (arith, c.loop-outcome-test.true, (c.len-outcome-end.ensures ∙ ap length c.deref.ensures)) in
     let entries = get_or own.outcomes k [] in
     let there : slice_get own.outcomes k ≡ Some entries = slice_get-get_or own.outcomes k [] lt in (
       entries,
@@ -48,5 +48,5 @@ loop-outcome-preserved c = record {
 pub returns-clause-none : goal.returns-clause-none
 returns-clause-none c = λ no act entries at has.
     let all : length c.get.result.now.outcomes ≡ length act.outcomes = ap (λ (a : Act). length a.outcomes) (same_Some c.get.result.now act (sym c.get.ensures ∙ at)) in
-    of_all (λ entries. ¬ IsCovered c.args.t.now c.args.rules.now (next_state c.args.turn.now.state entries)) act.outcomes c.loop-outcome.outcome (omega (arith, all, c.loop-outcome-test.false, c.len-outcome-end.ensures))
+    of_all (λ entries. ¬ IsCovered c.args.t.now c.args.rules.now (next_state c.args.turn.now.state entries)) act.outcomes c.loop-outcome.outcome (omega (arith, all, c.loop-outcome-test.false, (c.len-outcome-end.ensures ∙ ap length c.deref.ensures)))
     (λ number one. c.loop-outcome.invariant.none act number one at) entries has

@@ -10,13 +10,13 @@ use Rattle.fond_explicit.proofs.Grown.{few_outcomes, kept_stay, grown_one, grown
 use Rattle.fond_explicit.proofs.opening.reach_all.Goals as goal
 
 pub overflow_cast-outcome : goal.overflow_cast-outcome
-overflow_cast-outcome c = omega (arith, few_outcomes c.args.t.now c.args.act c.get.result.now c.get.ensures, c.loop-outcome-test.true, c.len-outcome-end.ensures)
+overflow_cast-outcome c = omega (arith, few_outcomes c.args.t.now c.args.act c.get.result.now c.get.ensures, c.loop-outcome-test.true, (c.len-outcome-end.ensures ∙ ap length c.deref.ensures))
 
 pub returns-in-None-clause-room : goal.returns-in-None-clause-room
 returns-in-None-clause-room c =
     let act = c.get.result.now in
     let k = c.loop-outcome.outcome in
-    let within : k < length act.outcomes = omega (arith, c.loop-outcome-test.true, c.len-outcome-end.ensures) in
+    let within : k < length act.outcomes = omega (arith, c.loop-outcome-test.true, (c.len-outcome-end.ensures ∙ ap length c.deref.ensures)) in
     let entries = get_or act.outcomes k [] in
     let full = rw c.in-None.is at c.in_ok-node.ensures.reached in
     record {
@@ -39,7 +39,7 @@ loop-outcome-preserved c =
     let state = c.args.state.now in
     let act = c.get.result.now in
     let k = c.loop-outcome.outcome in
-    let within : k < length act.outcomes = omega (arith, c.loop-outcome-test.true, c.len-outcome-end.ensures) in
+    let within : k < length act.outcomes = omega (arith, c.loop-outcome-test.true, (c.len-outcome-end.ensures ∙ ap length c.deref.ensures)) in
     let entries = get_or act.outcomes k [] in
     let next = c.apply_into.new.out in
     let given = c.apply_into.ensures.next act entries c.get.ensures (slice_get-get_or act.outcomes k [] within) in
@@ -62,6 +62,6 @@ pub returns-clause-room : goal.returns-clause-room
 returns-clause-room c = λ a at.
     let same : c.get.result.now ≡ a = same_Some c.get.result.now a (sym c.get.ensures ∙ at) in
     let long = ap (λ (x : Act). length x.outcomes) same in
-    let whole = take_whole a.outcomes c.loop-outcome.outcome (omega (arith, c.loop-outcome-test.false, c.len-outcome-end.ensures, long)) in
+    let whole = take_whole a.outcomes c.loop-outcome.outcome (omega (arith, c.loop-outcome-test.false, (c.len-outcome-end.ensures ∙ ap length c.deref.ensures), long)) in
     let P : List (List Entry) → Type 0 = λ os. AreNexts c.loop-outcome.states c.args.state.now c.loop-outcome.scratch.targets.items os in
     subst P whole (c.loop-outcome.invariant.nexts a at)

@@ -1,37 +1,45 @@
-use Rattle.std.proofs.Common.{◌≡◌, ◌∙◌, ℕ, List, nat_le, sym, ap, subst, length}
+use Rattle.std.proofs.Common.{◌≡◌, ◌∙◌, ℕ, List, sym, ap, subst}
 use Rattle.fond_ast.specs.Outcomes.{outcomes}
-use Rattle.fond_text.specs.declared.code.TheConstants.{MOST_OUTCOMES}
-use Rattle.fond_ground.specs.Atoms.{fluent_atoms}
-use Rattle.fond_ground.specs.Effects.{HasOutcomes}
+use Rattle.fond_ground.specs.Effects.{is_numbered}
+use Rattle.fond_ground.specs.Grounds.{AreOutcomesOf}
+use Rattle.fond_ground.specs.Limits.{has_few}
 use Rattle.fond_ground.specs.Values.{StandsFor}
-use Rattle.fond_ground.proofs.Actions.{outcomes_stand, count_same, at_most, within_most, some_of, four}
+use Rattle.fond_ground.proofs.Actions.{four}
 use Rattle.fond_ground.proofs.acts.act_of.Goals as goal
+
+pub effects_of-requires-clause-numbered : goal.effects_of-requires-clause-numbered
+effects_of-requires-clause-numbered c =
+    let second : c.pre_of.new.env.items ≡ c.args.objects.now = c.in_ok-pre.ensures.env ∙ c.in_ok-env.ensures.items ∙ c.as_slice.ensures in
+    ap (λ (env : List ℕ). is_numbered c.args.table.now.facts.task.now env c.args.parameters.now.schema.now.effect) second ∙ c.requires.numbered
+
+pub effects_of-requires-clause-few : goal.effects_of-requires-clause-few
+effects_of-requires-clause-few c =
+    let second : c.pre_of.new.env.items ≡ c.args.objects.now = c.in_ok-pre.ensures.env ∙ c.in_ok-env.ensures.items ∙ c.as_slice.ensures in
+    ap (has_few c.args.parameters.now.schema.now.effect) second ∙ c.requires.few
 
 pub returns-clause-act : goal.returns-clause-act
 returns-clause-act c =
     let task = c.args.table.now.facts.task.now in
+    let schema = c.args.parameters.now.schema.now in
     let first : c.in_ok-env.env.items ≡ c.args.objects.now = c.in_ok-env.ensures.items ∙ c.as_slice.ensures in
-    let second : c.form_of.new.env.items ≡ c.args.objects.now = c.in_ok-pre.ensures.env ∙ first in
-    let has = subst (λ (env : List ℕ). HasOutcomes task (outcomes env c.args.schema.now.effect) c.in_ok-effect.effect) second c.in_ok-effect.ensures.effect in
-    let named : c.of.result ≡ c.args.objects.now = c.of.ensures ∙ c.in_ok-effect.ensures.env ∙ second in
+    let second : c.pre_of.new.env.items ≡ c.args.objects.now = c.in_ok-pre.ensures.env ∙ first in
+    let named : c.of.result ≡ c.args.objects.now = c.of.ensures ∙ c.in_ok-outcomes.ensures.env ∙ second in
     record {
-      schema = c.args.schema.now;
+      schema = schema;
       numbered = c.requires.there;
       named = λ i. record { schema = c.args.number; objects = named i };
-      pre = subst (λ (env : List ℕ). StandsFor task env c.args.schema.now.pre c.in_ok-pre.pre) first c.in_ok-pre.ensures.value;
+      pre = subst (λ (env : List ℕ). StandsFor task env schema.pre c.in_ok-pre.pre) first c.in_ok-pre.ensures.value;
       unfair = c.requires.unfair;
-      outcomes = outcomes_stand task (outcomes c.args.objects.now c.args.schema.now.effect) c.in_ok-effect.effect c.in_ok-outcomes.outcomes has c.in_ok-outcomes.ensures.listed;
+      outcomes = subst (λ (env : List ℕ). AreOutcomesOf task (outcomes env schema.effect) c.in_ok-outcomes.outcomes) second c.in_ok-outcomes.ensures.listed;
     }
 
-pub outcomes_of-requires-clause-few : goal.outcomes_of-requires-clause-few
-outcomes_of-requires-clause-few c =
+pub returns-clause-ground : goal.returns-clause-ground
+returns-clause-ground c =
     let task = c.args.table.now.facts.task.now in
-    let second : c.form_of.new.env.items ≡ c.args.objects.now = c.in_ok-pre.ensures.env ∙ c.in_ok-env.ensures.items ∙ c.as_slice.ensures in
-    let has = subst (λ (env : List ℕ). HasOutcomes task (outcomes env c.args.schema.now.effect) c.in_ok-effect.effect) second c.in_ok-effect.ensures.effect in
-    within_most _ MOST_OUTCOMES (ap (λ n. nat_le n MOST_OUTCOMES) (sym (count_same task (outcomes c.args.objects.now c.args.schema.now.effect) c.in_ok-effect.effect has)) ∙ c.requires.few)
-
-pub returns-clause-within : goal.returns-clause-within
-returns-clause-within c =
-    let task = c.args.table.now.facts.task.now in
-    four _ _ _ _ c.in_ok-pre.ensures.within (some_of _ c.in_ok-outcomes.ensures.some) (at_most _ _ c.in_ok-outcomes.ensures.few)
-    (c.in_ok-outcomes.ensures.within (length (fluent_atoms task)) c.in_ok-effect.ensures.effect.over)
+    let schema = c.args.parameters.now.schema.now in
+    let third : c.of.result ≡ c.pre_of.new.env.items = c.of.ensures ∙ c.in_ok-outcomes.ensures.env in
+    record {
+      pre = subst (λ (env : List ℕ). StandsFor task env schema.pre c.in_ok-pre.pre) (sym (third ∙ c.in_ok-pre.ensures.env)) c.in_ok-pre.ensures.value;
+      outcomes = subst (λ (env : List ℕ). AreOutcomesOf task (outcomes env schema.effect) c.in_ok-outcomes.outcomes) (sym third) c.in_ok-outcomes.ensures.listed;
+      within = four _ _ _ _ c.in_ok-pre.ensures.within c.in_ok-outcomes.ensures.some c.in_ok-outcomes.ensures.few c.in_ok-outcomes.ensures.within;
+    }

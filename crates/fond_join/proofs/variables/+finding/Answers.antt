@@ -1,6 +1,7 @@
 use Rattle.std.proofs.Common.{◌∙◌, map, sym, ap, arith}
 use Rattle.std.specs.List.{list_any}
-use Rattle.fond_ast.specs.Laws.{has_variable, is_variable}
+use Rattle.fond_ast.specs.Laws.{has_variable}
+use Rattle.fond_ast.specs.Patterns.{is_variable}
 use Rattle.fond_join.proofs.Occurring.{neither, occurs-Holds, occurs-Equal, occurs-And, occurs-Or, occurs-Not, occurs-Imply, occurs-Forall, occurs-Exists, found_next, found_end}
 use Rattle.fond_join.proofs.variables.+finding.Goals as goal
 

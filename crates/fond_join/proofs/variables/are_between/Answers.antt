@@ -1,5 +1,5 @@
 use Rattle.std.proofs.Common.{arith}
-use Rattle.fond_ast.specs.Laws.{is_variable}
+use Rattle.fond_ast.specs.Patterns.{is_variable}
 use Rattle.fond_join.proofs.Occurring.{any_next, any_end}
 use Rattle.fond_join.proofs.variables.are_between.Goals as goal
 

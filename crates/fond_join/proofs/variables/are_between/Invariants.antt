@@ -1,6 +1,6 @@
 use Rattle.std.proofs.Common.{◌≡◌, ◌≤◌, ◌<◌, ℕ, false, drop}
 use Rattle.std.specs.List.{list_any}
-use Rattle.fond_ast.specs.Laws.{is_variable}
+use Rattle.fond_ast.specs.Patterns.{is_variable}
 use Rattle.fond_join.proofs.variables.are_between.Given as goal
 
 -- the terms so far are no such variable

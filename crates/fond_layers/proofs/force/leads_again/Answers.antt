@@ -1,4 +1,4 @@
-use Rattle.std.proofs.Common.{List, length, sym, subst, refl, arith, Decides}
+use Rattle.std.proofs.Common.{◌∙◌, List, length, sym, subst, refl, arith, Decides}
 use Rattle.std.specs.List.{list_all}
 use Rattle.std.specs.Prelude.{IsTrue}
 use Rattle.std.proofs.lemmas.Bool.{false≢true, and_parts}
@@ -36,12 +36,12 @@ loop-outcome-preserved c =
 
 pub returns-then-act-clause-decides : goal.returns-then-act-clause-decides
 returns-then-act-clause-decides c =
-    again_by_some c.args.layer.now c.args.cube.now c.args.act.now c.as_slice-outcome-items.result.now c.as_slice-outcome-items.ensures
+    again_by_some c.args.layer.now c.args.cube.now c.args.act.now c.as_slice-outcome-items.result.now (c.as_slice-outcome-items.ensures ∙ c.deref.ensures)
     c.loop-outcome.outcome-index c.loop-outcome.auto.outcome-index-end (omega arith) c.loop-outcome.some_leads c.if-act.true c.loop-outcome.invariant.some_tried
 
 pub returns-else-act-clause-decides : goal.returns-else-act-clause-decides
 returns-else-act-clause-decides c =
-    again_by_each c.args.layer.now c.args.cube.now c.args.act.now c.as_slice-outcome-items.result.now c.as_slice-outcome-items.ensures
+    again_by_each c.args.layer.now c.args.cube.now c.args.act.now c.as_slice-outcome-items.result.now (c.as_slice-outcome-items.ensures ∙ c.deref.ensures)
     c.loop-outcome.outcome-index c.loop-outcome.auto.outcome-index-end (omega arith) c.loop-outcome.each_leads c.if-act.false c.loop-outcome.invariant.each_tried
 
 pub image_of-requires-clause-within : goal.image_of-requires-clause-within
@@ -50,7 +50,7 @@ image_of-requires-clause-within c =
     let outcome = c.outcome-item.result in
     let i = c.loop-outcome.outcome-index in
     let All : List (List Entry) → Type 0 = λ outcomes. IsTrue (list_all (list_all (is_entry_within (length c.args.cube.now))) outcomes) in
-    let all = subst All (sym c.as_slice-outcome-items.ensures) (and_parts _ _ c.requires.within).1 in
+    let all = subst All (sym (c.as_slice-outcome-items.ensures ∙ c.deref.ensures)) (and_parts _ _ c.requires.within).1 in
     all_at (list_all (is_entry_within (length c.args.cube.now))) items i outcome all (read_at items i outcome c.loop-outcome-test.true c.outcome-item.is)
 
 pub has_around-leads-requires : goal.has_around-leads-requires

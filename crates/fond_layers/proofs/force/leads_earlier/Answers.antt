@@ -1,4 +1,4 @@
-use Rattle.std.proofs.Common.{List, length, sym, subst, refl, arith}
+use Rattle.std.proofs.Common.{◌∙◌, List, length, sym, subst, refl, arith}
 use Rattle.std.specs.List.{list_all}
 use Rattle.std.specs.Prelude.{Contains, IsTrue}
 use Rattle.std.proofs.lemmas.Bool.{false≢true, and_parts}
@@ -38,14 +38,14 @@ returns-then-lies_in_some-clause-decides c =
     let items = c.as_slice-outcome-items.result.now in
     let P : List (List Entry) → Type 0 = λ os. Contains os outcome in
     let Q : CubeView → Type 0 = λ cube. LiesInSome cube c.args.earlier.now in
-    let has = subst P c.as_slice-outcome-items.ensures (read_Contains items c.loop-outcome.outcome-index outcome c.loop-outcome-test.true c.outcome-item.is) in
+    let has = subst P (c.as_slice-outcome-items.ensures ∙ c.deref.ensures) (read_Contains items c.loop-outcome.outcome-index outcome c.loop-outcome-test.true c.outcome-item.is) in
     let lies = subst Q c.image_of.ensures.image (c.if-lies_in_some.ensures.0 refl) in
     (λ e. (lies.0, lies.1, (outcome, has, lies.2)), λ one. refl)
 
 pub returns-clause-decides : goal.returns-clause-decides
 returns-clause-decides c = (
   λ e. absurd (false≢true e),
-  λ one. absurd (none_earlier c.args.earlier.now c.args.cube.now c.args.act.now c.as_slice-outcome-items.result.now c.as_slice-outcome-items.ensures c.loop-outcome.outcome-index (omega (arith, c.loop-outcome-test.false)) c.loop-outcome.invariant.misses one),
+  λ one. absurd (none_earlier c.args.earlier.now c.args.cube.now c.args.act.now c.as_slice-outcome-items.result.now (c.as_slice-outcome-items.ensures ∙ c.deref.ensures) c.loop-outcome.outcome-index (omega (arith, c.loop-outcome-test.false)) c.loop-outcome.invariant.misses one),
 )
 
 pub image_of-requires-clause-within : goal.image_of-requires-clause-within
@@ -54,7 +54,7 @@ image_of-requires-clause-within c =
     let outcome = c.outcome-item.result in
     let i = c.loop-outcome.outcome-index in
     let All : List (List Entry) → Type 0 = λ outcomes. IsTrue (list_all (list_all (is_entry_within (length c.args.cube.now))) outcomes) in
-    let all = subst All (sym c.as_slice-outcome-items.ensures) (and_parts _ _ c.requires.within).1 in
+    let all = subst All (sym (c.as_slice-outcome-items.ensures ∙ c.deref.ensures)) (and_parts _ _ c.requires.within).1 in
     all_at (list_all (is_entry_within (length c.args.cube.now))) items i outcome all (read_at items i outcome c.loop-outcome-test.true c.outcome-item.is)
 
 pub lies_in_some-requires : goal.lies_in_some-requires

@@ -12,7 +12,7 @@ use Rattle.fond_policy.proofs.walk.add_successors.Goals as goal
 pub overflow_cast-outcome : goal.overflow_cast-outcome
 overflow_cast-outcome c =
     let few = few_outcomes c.args.t.now c.args.act c.get.result.now c.get.ensures in
-    omega (arith, few, c.loop-outcome-test.true, c.len-outcome-end.ensures)
+    omega (arith, few, c.loop-outcome-test.true, (c.len-outcome-end.ensures ∙ ap length c.deref.ensures))
 
 pub loop-outcome-preserved : goal.loop-outcome-preserved
 loop-outcome-preserved c =
@@ -20,7 +20,7 @@ loop-outcome-preserved c =
     let state = c.args.state.now in
     let own = c.get.result.now in
     let k = c.loop-outcome.outcome in
-    let lt : k < length own.outcomes = omega (arith, c.loop-outcome-test.true, c.len-outcome-end.ensures) in
+    let lt : k < length own.outcomes = omega (arith, c.loop-outcome-test.true, (c.len-outcome-end.ensures ∙ ap length c.deref.ensures)) in
     let entries = get_or own.outcomes k [] in
     let there : slice_get own.outcomes k ≡ Some entries = slice_get-get_or own.outcomes k [] lt in
     let next : c.apply_into.new.out ≡ next_state state entries = c.apply_into.ensures.next own entries c.get.ensures there in
@@ -47,4 +47,4 @@ returns-clause-all c = λ after next.
     let within : at.0 < length next.act.outcomes = slice_get_within next.act.outcomes at.0 next.outcome at.1 in
     let same : length next.act.outcomes ≡ length own.outcomes = ap (λ (a : Act). length a.outcomes) (same_Some next.act own (sym next.numbered ∙ c.get.ensures)) in
     subst (λ (s : List Bool). Contains c.loop-outcome.states s) (sym next.given)
-    (c.loop-outcome.invariant.all next.act at.0 next.outcome next.numbered (omega (arith, within, same, c.loop-outcome-test.false, c.len-outcome-end.ensures)) at.1)
+    (c.loop-outcome.invariant.all next.act at.0 next.outcome next.numbered (omega (arith, within, same, c.loop-outcome-test.false, (c.len-outcome-end.ensures ∙ ap length c.deref.ensures))) at.1)

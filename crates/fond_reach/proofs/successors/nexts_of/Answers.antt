@@ -17,7 +17,7 @@ use Rattle.fond_reach.proofs.successors.nexts_of.Goals as goal
 pub overflow_cast-outcome : goal.overflow_cast-outcome
 overflow_cast-outcome c =
     let few = few_outcomes c.args.t.now c.args.act c.get.result.now c.get.ensures in
-    omega (arith, few, c.loop-outcome-test.true, c.len-outcome-end.ensures)
+    omega (arith, few, c.loop-outcome-test.true, (c.len-outcome-end.ensures ∙ ap length c.deref.ensures))
 
 pub loop-outcome-preserved : goal.loop-outcome-preserved
 loop-outcome-preserved c =
@@ -29,7 +29,7 @@ loop-outcome-preserved c =
     let new = c.number_of.new.states in
     let added = c.apply_into.new.out in
     let seen = length c.args.states.now in
-    let lt : k < length own.outcomes = omega (arith, c.loop-outcome-test.true, c.len-outcome-end.ensures) in
+    let lt : k < length own.outcomes = omega (arith, c.loop-outcome-test.true, (c.len-outcome-end.ensures ∙ ap length c.deref.ensures)) in
     let entries = get_or own.outcomes k [] in
     let there : slice_get own.outcomes k ≡ Some entries = slice_get-get_or own.outcomes k [] lt in
     let next : added ≡ next_state state entries = c.apply_into.ensures.next own entries c.get.ensures there in
@@ -55,7 +55,7 @@ returns-clause-leads c =
     let own = c.get.result.now in
     let states = c.loop-outcome.states in
     let state = c.args.state.now in
-    let end : length own.outcomes ≤ c.loop-outcome.outcome = omega (arith, c.loop-outcome-test.false, c.len-outcome-end.ensures) in
+    let end : length own.outcomes ≤ c.loop-outcome.outcome = omega (arith, c.loop-outcome-test.false, (c.len-outcome-end.ensures ∙ ap length c.deref.ensures)) in
     record {
       act = own;
       numbered = c.get.ensures;

@@ -19,7 +19,7 @@ use Rattle.fond_regress.proofs.weaken.take_act.Goals as goal
 pub take_outcome-dropped-requires-clause-within : goal.take_outcome-dropped-requires-clause-within
 take_outcome-dropped-requires-clause-within c =
     let P : ℕ → Type 0 = λ n. IsTrue (list_all (is_entry_within n) c.get.result.now) in
-    subst P (sym c.loop-k.invariant.weaker.long) (all_at (list_all (is_entry_within (length c.args.cube.now))) c.args.act.now.outcomes c.loop-k.k c.get.result.now (and_parts _ _ c.requires.within).1 c.get.ensures)
+    subst P (sym c.loop-k.invariant.weaker.long) (all_at (list_all (is_entry_within (length c.args.cube.now))) c.args.act.now.outcomes c.loop-k.k c.get.result.now (and_parts _ _ c.requires.within).1 (ap (λ (all : List (List Entry)). slice_get all c.loop-k.k) (sym c.deref-in-loop-k.ensures) ∙ c.get.ensures))
 
 -- one outcome more stays, if no literal was dropped
 stays_more : (outcomes : List (List Entry)) (two three : CubeView) (own : List Entry) (x y : Bool) (k : ℕ) → slice_get outcomes k ≡ Some own → (y ≡ false → three ≡ two) →
@@ -51,10 +51,10 @@ loop-k-preserved c =
       may = λ no. inv.may (no_stays three two told.weaker.lies act.pre no);
       around = λ around long lies stays.
           let before = inv.around around long lies stays in
-          told.around around before (stays_around two around act (inv.weaker.long ∙ sym long) before stays inv.may c.loop-k.k c.get.result.now c.get.ensures);
-      stays = λ is. stays_more act.outcomes two three c.get.result.now x y c.loop-k.k c.get.ensures told.weaker.none inv.stays told.stays (sym changed ∙ is);
+          told.around around before (stays_around two around act (inv.weaker.long ∙ sym long) before stays inv.may c.loop-k.k c.get.result.now (ap (λ (all : List (List Entry)). slice_get all c.loop-k.k) (sym c.deref-in-loop-k.ensures) ∙ c.get.ensures));
+      stays = λ is. stays_more act.outcomes two three c.get.result.now x y c.loop-k.k (ap (λ (all : List (List Entry)). slice_get all c.loop-k.k) (sym c.deref-in-loop-k.ensures) ∙ c.get.ensures) told.weaker.none inv.stays told.stays (sym changed ∙ is);
     }
 
 pub returns-clause-stays : goal.returns-clause-stays
 returns-clause-stays c = λ is _ at outcome has.
-    c.loop-k.invariant.stays is at outcome (omega (arith, slice_get_within c.args.act.now.outcomes at outcome has, c.len-k-end.ensures, c.loop-k-test.false)) has
+    c.loop-k.invariant.stays is at outcome (omega (arith, slice_get_within c.args.act.now.outcomes at outcome has, c.len-k-end.ensures ∙ ap length c.deref-2.ensures, c.loop-k-test.false)) has

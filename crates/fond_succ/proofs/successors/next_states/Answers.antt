@@ -9,13 +9,13 @@ use Rattle.fond_succ.proofs.successors.next_states.Goals as goal
 pub overflow_cast-k : goal.overflow_cast-k
 overflow_cast-k c =
     let few = few_outcomes c.args.game.now c.args.number c.get.result.now c.get.ensures in
-    let more : c.loop-k.k < length c.get.result.now.outcomes = omega (arith, c.loop-k-test.true, c.len-k-end.ensures) in
+    let more : c.loop-k.k < length c.get.result.now.outcomes = omega (arith, c.loop-k-test.true, (c.len-k-end.ensures ∙ ap length c.deref.ensures)) in
     omega (arith, few, more)
 
 pub add-requires : goal.add-requires
 add-requires c =
     let few = few_outcomes c.args.game.now c.args.number c.get.result.now c.get.ensures in
-    let more : c.loop-k.k < length c.get.result.now.outcomes = omega (arith, c.loop-k-test.true, c.len-k-end.ensures) in
+    let more : c.loop-k.k < length c.get.result.now.outcomes = omega (arith, c.loop-k-test.true, (c.len-k-end.ensures ∙ ap length c.deref.ensures)) in
     omega (arith, few, more, c.loop-k.invariant.few)
 
 pub loop-k-preserved : goal.loop-k-preserved
@@ -24,7 +24,7 @@ loop-k-preserved c = record {
   all = λ a at. (
       let act = c.get.result.now in
       let same : act ≡ a = same_Some act a (sym c.get.ensures ∙ at) in
-      let lt : c.loop-k.k < length a.outcomes = (let whole = ap (λ (x : Act). length x.outcomes) same in omega (arith, c.loop-k-test.true, c.len-k-end.ensures, whole)) in
+      let lt : c.loop-k.k < length a.outcomes = (let whole = ap (λ (x : Act). length x.outcomes) same in omega (arith, c.loop-k-test.true, (c.len-k-end.ensures ∙ ap length c.deref.ensures), whole)) in
       let entries = get_or a.outcomes c.loop-k.k [] in
       let there : slice_get a.outcomes c.loop-k.k ≡ Some entries = slice_get-get_or a.outcomes c.loop-k.k [] lt in
       let next = c.apply_into.ensures.next a entries at there in

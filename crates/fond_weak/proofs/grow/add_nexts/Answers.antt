@@ -10,13 +10,13 @@ use Rattle.fond_weak.proofs.Found.{more_none, more_then, more_has, more_stays}
 use Rattle.fond_weak.proofs.grow.add_nexts.Goals as goal
 
 pub overflow_cast-step : goal.overflow_cast-step
-overflow_cast-step c = omega (arith, few_outcomes c.args.setting.now.task.now c.args.act c.get.result.now c.get.ensures, c.loop-outcome-test.true, c.len-outcome-end.ensures)
+overflow_cast-step c = omega (arith, few_outcomes c.args.setting.now.task.now c.args.act c.get.result.now c.get.ensures, c.loop-outcome-test.true, (c.len-outcome-end.ensures ∙ ap length c.deref.ensures))
 
 pub add_state-requires-clause-leads : goal.add_state-requires-clause-leads
 add_state-requires-clause-leads c =
     let act = c.get.result.now in
     let k = c.loop-outcome.outcome in
-    let within : k < length act.outcomes = omega (arith, c.loop-outcome-test.true, c.len-outcome-end.ensures) in
+    let within : k < length act.outcomes = omega (arith, c.loop-outcome-test.true, (c.len-outcome-end.ensures ∙ ap length c.deref.ensures)) in
     let entries = get_or act.outcomes k [] in
     let has = slice_get-get_or act.outcomes k [] within in
     let here = more_stays c.args.tree.now.states c.loop-outcome.tree.states c.loop-outcome.invariant.more c.args.node.now.number c.args.node.now.state c.requires.here in
@@ -54,7 +54,7 @@ returns-clause-stays c = λ a at entries one.
     let k = number_of a.outcomes entries one in
     let same : c.get.result.now ≡ a = same_Some c.get.result.now a (sym c.get.ensures ∙ at) in
     let within = slice_get_within a.outcomes k.0 entries k.1 in
-    c.loop-outcome.invariant.stays a k.0 entries at (omega (arith, within, c.loop-outcome-test.false, c.len-outcome-end.ensures, ap (λ (x : Act). length x.outcomes) same)) k.1
+    c.loop-outcome.invariant.stays a k.0 entries at (omega (arith, within, c.loop-outcome-test.false, (c.len-outcome-end.ensures ∙ ap length c.deref.ensures), ap (λ (x : Act). length x.outcomes) same)) k.1
 
 pub loop-outcome-init : goal.loop-outcome-init
 loop-outcome-init c = record { next_long = c.requires.next_long; tree = c.requires.tree; more = more_none c.args.tree.now.states; stays = λ a number entries at small. absurd (omega (arith, small)) }

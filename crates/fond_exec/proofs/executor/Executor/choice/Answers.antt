@@ -1,4 +1,4 @@
-use Rattle.std.proofs.Common.{rules, ◌≡◌, ◌∙◌, sym, subst, true, false, Some, None, arith}
+use Rattle.std.proofs.Common.{rules, ◌≡◌, ◌∙◌, length, sym, ap, subst, true, false, Some, None, arith}
 use Rattle.fond_rules.specs.Select.{selected_rule}
 use Rattle.fond_exec.specs.Runs.{Run}
 use Rattle.fond_exec.specs.Steps.{IsChosen, IsStuck}
@@ -50,4 +50,4 @@ returns c =
 pub overflow_cast-count : goal.overflow_cast-count
 overflow_cast-count c =
     let counted = counted_outcomes c.self.inside.task.now c.get.result.now.act c.get-2.result.now c.get-2.ensures in
-    omega (arith, counted.1, c.len-count.ensures)
+    omega (arith, counted.1, c.len-count.ensures ∙ ap length c.deref.ensures)

@@ -1,4 +1,4 @@
-use Rattle.std.proofs.Common.{◌∙◌, ◌<◌, [], length, get_or, slice_get, Some, ◌≡◌, subst, sym, true, arith}
+use Rattle.std.proofs.Common.{◌∙◌, ◌<◌, [], length, get_or, slice_get, Some, ◌≡◌, subst, sym, ap, true, arith}
 use Rattle.std.proofs.lemmas.Bool.{false≢true}
 use Rattle.std.proofs.lemmas.Option.{same_Some, slice_get-get_or, slice_get_within}
 use Rattle.fond_task.specs.Truth.{is_true}
@@ -34,7 +34,7 @@ apply_into-requires-clause-out_long g c = (c.set_act.ensures.outset c.if-not-set
 pub apply_into-requires-clause-outcome_there : goal.apply_into-requires-clause-outcome_there
 apply_into-requires-clause-outcome_there g c = λ a at.
     let same : a ≡ c.get.result.now = same_Some a c.get.result.now (sym at ∙ c.get.ensures) in
-    subst (λ (a : Act). c.args.outcome < length a.outcomes) (sym same) (omega (arith, c.if-outcome-len.false, c.len.ensures))
+    subst (λ (a : Act). c.args.outcome < length a.outcomes) (sym same) (omega (arith, c.if-outcome-len.false, c.len.ensures ∙ ap length c.deref.ensures))
 
 pub apply_into-requires-clause-applicable : goal.apply_into-requires-clause-applicable
 apply_into-requires-clause-applicable g c = λ a at.
@@ -53,7 +53,7 @@ returns-clause-step g c = λ yes.
     let own = c.get.result.now in
     let k = c.args.outcome in
     let same : own ≡ outset.act = same_Some own outset.act (sym c.get.ensures ∙ outset.has_act) in
-    let lt : k < length own.outcomes = omega (arith, c.if-outcome-len.false, c.len.ensures) in
+    let lt : k < length own.outcomes = omega (arith, c.if-outcome-len.false, c.len.ensures ∙ ap length c.deref.ensures) in
     let mine = get_or own.outcomes k [] in
     let there : slice_get own.outcomes k ≡ Some mine = slice_get-get_or own.outcomes k [] lt in
     record {

@@ -13,7 +13,7 @@ use Rattle.fond_planner.proofs.planner.Planner.take_all.Goals as goal
 pub overflow_cast-step-in-loop-outcome : goal.overflow_cast-step-in-loop-outcome
 overflow_cast-step-in-loop-outcome g c =
     let few = few_outcomes c.args.t.now c.args.step.now.act c.get.result.now c.get.ensures in
-    omega (arith, few, c.loop-outcome-test.true, c.len-outcome-end.ensures)
+    omega (arith, few, c.loop-outcome-test.true, (c.len-outcome-end.ensures ∙ ap length c.deref.ensures))
 
 pub apply_into-requires-clause-long : goal.apply_into-requires-clause-long
 apply_into-requires-clause-long g c = ap length c.loop-outcome.invariant.state ∙ reachable_long c.args.t.now c.args.t.now.init c.args.t.now.init_long c.args.step.now.state c.requires.outset.reachable
@@ -28,7 +28,7 @@ pub apply_into-requires-clause-outcome_there : goal.apply_into-requires-clause-o
 apply_into-requires-clause-outcome_there g c = λ a at.
     let here : slice_get c.args.t.now.acts c.loop-outcome.step.act ≡ Some c.get.result.now = ap (slice_get c.args.t.now.acts) c.loop-outcome.invariant.act ∙ c.get.ensures in
     let same : c.get.result.now ≡ a = same_Some c.get.result.now a (sym here ∙ at) in
-    subst (λ (a : Act). c.loop-outcome.outcome < length a.outcomes) same (omega (arith, c.loop-outcome-test.true, c.len-outcome-end.ensures))
+    subst (λ (a : Act). c.loop-outcome.outcome < length a.outcomes) same (omega (arith, c.loop-outcome-test.true, (c.len-outcome-end.ensures ∙ ap length c.deref.ensures)))
 
 pub apply_into-requires-clause-applicable : goal.apply_into-requires-clause-applicable
 apply_into-requires-clause-applicable g c = λ a at.
@@ -50,7 +50,7 @@ take-requires-clause-step g c =
     let own = c.get.result.now in
     let k = c.loop-outcome.outcome in
     let same : own ≡ outset.act = same_Some own outset.act (sym c.get.ensures ∙ outset.has_act) in
-    let lt : k < length own.outcomes = omega (arith, c.loop-outcome-test.true, c.len-outcome-end.ensures) in
+    let lt : k < length own.outcomes = omega (arith, c.loop-outcome-test.true, (c.len-outcome-end.ensures ∙ ap length c.deref.ensures)) in
     let mine = get_or own.outcomes k [] in
     let there : slice_get own.outcomes k ≡ Some mine = slice_get-get_or own.outcomes k [] lt in
     let here : slice_get task.acts c.loop-outcome.step.act ≡ Some own = ap (slice_get task.acts) inv.act ∙ c.get.ensures in

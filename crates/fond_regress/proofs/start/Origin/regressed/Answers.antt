@@ -1,9 +1,9 @@
-use Rattle.std.proofs.Common.{ℕ, ◌≡◌, ◌∙◌, length, sym, subst, arith}
+use Rattle.std.proofs.Common.{ℕ, ◌≡◌, ◌∙◌, length, sym, ap, subst, arith}
 use Rattle.std.proofs.lemmas.Grind.{common_steps}
 use Rattle.fond_rules.specs.Belongs.{ArePairsOver}
 use Rattle.std.proofs.lemmas.Bool.{and_parts}
 use Rattle.fond_state.specs.Cubes.{CubeLiesIn}
-use Rattle.fond_task.specs.Within.{is_act_within}
+use Rattle.fond_task.specs.Within.{is_act_within, is_form_within}
 use Rattle.fond_task.proofs.Found.{all_at, pre_within}
 use Rattle.fond_task.specs.Layers.{CubeView}
 use Rattle.fond_regress.proofs.Cubes.{lies_in_empty}
@@ -12,7 +12,7 @@ use Rattle.fond_regress.proofs.start.Origin.regressed.Goals as goal
 pub explain-requires-clause-within : goal.explain-requires-clause-within
 explain-requires-clause-within c =
     let task = c.args.self.now.task.now in
-    rw (c.args.self.now.long) (pre_within _ task.acts c.args.act c.get-action.result.now task.acts_within c.get-action.ensures)
+    rw (c.args.self.now.long) (ap (is_form_within (length task.atoms)) c.deref.ensures ∙ pre_within _ task.acts c.args.act c.get-action.result.now task.acts_within c.get-action.ensures)
 
 pub explain_targets-requires-clause-within : goal.explain_targets-requires-clause-within
 explain_targets-requires-clause-within c =

@@ -1,10 +1,10 @@
-use Rattle.std.proofs.Common.{◌≡◌, ◌∙◌, sym, subst}
+use Rattle.std.proofs.Common.{◌≡◌, ◌∙◌, length, sym, ap, subst}
 use Rattle.std.proofs.lemmas.Bool.{false≢true}
 use Rattle.std.proofs.lemmas.Option.{same_Some}
 use Rattle.fond_task.specs.declared.form.Kleene.TheVariants.{Yes}
 use Rattle.fond_task.specs.declared.task.Act.{Act}
 use Rattle.fond_task.specs.Values.{value}
-use Rattle.fond_task.specs.Within.{is_act_within}
+use Rattle.fond_task.specs.Within.{is_act_within, is_form_within}
 use Rattle.fond_task.proofs.Found.{all_at, pre_within}
 use Rattle.fond_task.specs.Rules.{AreMet}
 use Rattle.fond_rules.specs.Targets.{AllContradict}
@@ -14,7 +14,7 @@ use Rattle.fond_rules.proofs.rule_test.RuleTest.is_sure.Goals.{then-is_yes, else
 pub is_yes-requires : goal.is_yes-requires
 is_yes-requires c =
     let task = c.args.self.now.task.now in
-    rw (c.requires.cond_long) (pre_within _ task.acts c.args.self.now.act c.get-act.result.now task.acts_within c.get-act.ensures)
+    rw (c.requires.cond_long) (ap (is_form_within (length task.atoms)) c.deref.ensures ∙ pre_within _ task.acts c.args.self.now.act c.get-act.result.now task.acts_within c.get-act.ensures)
 
 pub are_met-requires-clause-within : goal.are_met-requires-clause-within
 are_met-requires-clause-within c =
@@ -28,7 +28,7 @@ returns-then-all_contradict-clause-decides c =
     let P : Act → Type 0 = λ act. AreMet setting.task.now setting.rules.now setting.number c.args.cond.now act c.args.self.now.targets.now in
     let tests : (value c.args.cond.now act.pre ≡ Yes) × AllContradict setting.pairs.now c.args.self.now.act c.args.cond.now =
     elim c.if-is_yes.branch [
-      | then-is_yes w ↦ (c.is_yes.ensures.0 w.if-is_yes.true, w.all_contradict.ensures.0 (sym w.value-is ∙ c.if-all_contradict.true))
+      | then-is_yes w ↦ (ap (value c.args.cond.now) (sym c.deref.ensures) ∙ c.is_yes.ensures.0 w.if-is_yes.true, w.all_contradict.ensures.0 (sym w.value-is ∙ c.if-all_contradict.true))
       | else-is_yes w ↦ absurd (false≢true (sym w.if-is_yes.false ∙ sym w.value-is ∙ c.if-all_contradict.true))
     ] in (
       λ e. record {
