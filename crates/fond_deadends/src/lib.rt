@@ -12,6 +12,7 @@ pub mod dead;
 pub mod facts;
 mod groups;
 pub mod layers;
+mod negatives;
 mod nodes;
 pub mod project;
 mod space;
