@@ -1,6 +1,7 @@
 //! The engine: what others call.
 
 use crate::aim::Aim;
+use crate::begun::Begun;
 use crate::known::Known;
 use crate::search::{Ended, Limits, Search};
 use fond_deadends::cubes::{Masks, masks_of};
@@ -39,6 +40,9 @@ pub struct Engine {
     layers: Box<LayerSearch>,
     projector: Box<Projector>,
     aim: Box<Aim>,
+    /// The search for a plan and the one for layers that can go on.
+    sought: Begun,
+    layered: Begun,
     /// What the projector may do for the state around which layers are sought, and how many cubes it may look at.
     share: u64,
     most: u32,
@@ -90,6 +94,8 @@ impl Engine {
         let layers = LayerSearch::new(alloc, &known.facts())?;
         let projector = Projector::new(alloc, known.moves.atoms, width)?;
         let aim = Aim::new(alloc, width)?;
+        let sought = Begun::new(alloc, width)?;
+        let layered = Begun::new(alloc, width)?;
         let start = vec![in alloc; 0; width as usize]?;
         let cube = Part::new(alloc, width)?;
         Ok(Engine {
@@ -99,6 +105,8 @@ impl Engine {
             layers,
             projector,
             aim,
+            sought,
+            layered,
             share: 0,
             most: 0,
             rest: 0,
@@ -115,6 +123,7 @@ impl Engine {
 
     /// Drops all rules and pairs, and the aim. Dead cubes and responses stay.
     pub fn forget_rules(&mut self) {
+        self.sought.close();
         self.known.forget_rules();
         self.aim.forget();
     }
@@ -122,6 +131,7 @@ impl Engine {
     /// A rule with this condition holds from now on.
     pub fn add_rule(&mut self, cond: &Cube) -> Result<(), NoMemory> {
         let masks = self.masks(cond)?;
+        self.sought.close();
         self.known.add_rule(masks)
     }
 
@@ -140,18 +150,21 @@ impl Engine {
     /// The action is barred from now on in the states of the cube.
     pub fn add_pair(&mut self, act: u32, cond: &Cube) -> Result<(), NoMemory> {
         let masks = self.masks(cond)?;
+        self.sought.close();
         self.known.bars.add(act, masks)
     }
 
     /// The states of the cube are dead from now on.
     pub fn add_dead(&mut self, cube: &Cube) -> Result<(), NoMemory> {
         let masks = self.masks(cube)?;
+        self.sought.close();
         self.known.kill(masks)
     }
 
     /// From now on, searches go on in this outcome of the unfair action in the state.
     pub fn respond(&mut self, state: &State, act: u32, outcome: u32) -> Result<(), NoMemory> {
         read(&mut self.start, state);
+        self.sought.close();
         self.known.responses.set(act, &self.start, outcome)
     }
 
@@ -198,15 +211,25 @@ impl Engine {
             work: work / 2,
             counts: false,
         };
-        let ended = self.search.run(&mut self.known, &self.start, limits)?;
+        let found = self.search.begin(&self.known, &self.start)?
+            || self.search.run(&mut self.known, &self.start, limits)? == Ended::Found;
         self.known.net.drop_aims();
-        Ok(ended == Ended::Found)
+        Ok(found)
     }
 
-    /// Searches with the local aim, and if that finds no plan, for the goal.
+    /// Searches with the local aim, and if that finds no plan, begins to search for the goal. Returns whether a plan was found.
+    fn begin_all(&mut self, states: u32, work: u64) -> Result<bool, NoMemory> {
+        self.sought.close();
+        if self.run_near(states, work)? {
+            return Ok(true);
+        }
+        self.search.begin(&self.known, &self.start)
+    }
+
+    /// Searches for a plan: goes on with the search from the state that ran out of work, or begins a new one.
     fn run_all(&mut self, states: u32, work: u64) -> Result<Ended, NoMemory> {
         let begun = self.search.work();
-        if self.run_near(states, work)? {
+        if !self.sought.is_from(&self.start) && self.begin_all(states, work)? {
             return Ok(Ended::Found);
         }
         let done = self.search.work().saturating_sub(begun);
@@ -215,7 +238,13 @@ impl Engine {
             work: work.saturating_sub(done),
             counts: true,
         };
-        self.search.run(&mut self.known, &self.start, limits)
+        let ended = self.search.run(&mut self.known, &self.start, limits)?;
+        if ended == Ended::Spent {
+            self.sought.open(&self.start);
+        } else {
+            self.sought.close();
+        }
+        Ok(ended)
     }
 
     /// The steps of the plan that was found, the first one first.
@@ -258,29 +287,40 @@ impl Engine {
         Ok(Some(cube_of(alloc, &self.prover.best, self.known.moves.atoms)?))
     }
 
+    /// Begins to look for layers around the state that was read last, or goes on with the search around it that ran out of work.
+    fn look_around(&mut self, states: u32, work: u64) -> Result<(), NoMemory> {
+        let limits = self.limits_of(states, work);
+        if self.layered.is_from(&self.start) && self.layers.is_spent() {
+            self.layers.go_on(limits);
+            return Ok(());
+        }
+        self.layered.open(&self.start);
+        self.layers.begin(&self.known.facts(), &self.start, limits)
+    }
+
     /// Begins to look for layers around a state. Visits at most `states` states, and does not much more than `work` work.
     pub fn begin_layers(&mut self, state: &State, states: u32, work: u64) -> Result<(), NoMemory> {
         read(&mut self.start, state);
-        let limits = self.limits_of(states, work);
-        self.layers.begin(&self.known.facts(), &self.start, limits)
+        self.look_around(states, work)
     }
 
     /// Begins to look for layers around the state of a full cube, with these limits.
     pub fn begin_layers_in(&mut self, cube: &Cube, states: u32, work: u64) -> Result<(), NoMemory> {
         read_cube(&mut self.cube, cube);
         copy_words(&mut self.start, &self.cube.value);
-        let limits = self.limits_of(states, work);
-        self.layers.begin(&self.known.facts(), &self.start, limits)
+        self.look_around(states, work)
     }
 
     /// Knows of no lost state any more.
     pub fn forget_lost(&mut self) -> Result<(), NoMemory> {
+        self.layered.close();
         self.layers.forget_lost()
     }
 
     /// The state of a full cube is known to be lost. If any are, the opponent's responses are sought among these states.
     pub fn add_lost(&mut self, cube: &Cube) -> Result<(), NoMemory> {
         read_cube(&mut self.cube, cube);
+        self.layered.close();
         self.layers.add_lost(&self.cube.value)
     }
 

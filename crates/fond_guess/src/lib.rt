@@ -7,6 +7,7 @@
 #![tactic(auto)]
 
 mod aim;
+mod begun;
 pub mod engine;
 mod goals;
 pub mod guide;

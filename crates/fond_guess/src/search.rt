@@ -36,7 +36,7 @@ struct Link {
     step: u32,
 }
 
-/// What a search may take: how many states it may open, and how much work it may do; and whether it may count goals.
+/// What a search may take: how many states it may have opened, and how much work it may do; and whether it may count goals.
 #[derive(Clone, Copy)]
 pub(crate) struct Limits {
     pub(crate) states: u32,
@@ -296,9 +296,8 @@ impl Search {
     /// How many states are to be opened before what is counted changes.
     fn next_stage(&self, known: &Known) -> u32 {
         match self.stage {
-            0 if known.net.has_hopeful => OPPOSED_FROM,
+            0 | 1 if known.net.has_hopeful => OPPOSED_FROM,
             0 => GOALS_FROM,
-            1 if known.net.has_hopeful => OPPOSED_FROM,
             1 => LANDMARKS_FROM,
             _ => NONE,
         }
@@ -433,19 +432,21 @@ impl Search {
         Ok(None)
     }
 
-    /// Searches from a state.
+    /// Begins to search from a state. Returns whether a plan ends in it.
+    pub(crate) fn begin(&mut self, known: &Known, start: &[u64]) -> Result<bool, NoMemory> {
+        self.clear()?;
+        copy_words(&mut self.current, start);
+        self.visit(known, no_link())
+    }
+
+    /// Searches on from the state from which the search began. It may go on with larger limits if it was spent.
     pub(crate) fn run(
         &mut self,
         known: &mut Known,
         start: &[u64],
         limits: Limits,
     ) -> Result<Ended, NoMemory> {
-        self.clear()?;
         let begun = self.work();
-        copy_words(&mut self.current, start);
-        if self.visit(known, no_link())? {
-            return Ok(Ended::Found);
-        }
         for _ in 0..u64::MAX {
             if self.opened >= limits.states || self.work().saturating_sub(begun) >= limits.work {
                 return Ok(Ended::Spent);
