@@ -3,3 +3,4 @@ pub mod Barred
 pub mod Right
 pub mod Furthered
 pub mod Waiting
+pub mod Kept

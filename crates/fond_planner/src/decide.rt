@@ -6,10 +6,10 @@ ghost use Rattle.fond_draft.specs.Drafts.{IsDraft};
 ghost use Rattle.fond_planner.specs.Ends.{IsEnd};
 ghost use Rattle.fond_planner.specs.Planners.{IsPlanner};
 ghost use Rattle.fond_task.specs.Certificates.{LiesInLayers};
+ghost use Rattle.fond_policy.specs.Walks.{HasUnruled};
 ghost use Rattle.fond_regress.specs.Stable.{IsHopeless, IsHopelessBy};
-ghost use Rattle.std.specs.Prelude.{◌≡◌, ◌<◌, ◌≤◌, ◌^◌, None, All, length, IfOk, IfSome, OnOk};
+ghost use Rattle.std.specs.Prelude.{◌≡◌, ◌<◌, ◌≤◌, ◌^◌, None, All, [], length, IfOk, IfSome, OnOk};
 
-use crate::limits::quick_states;
 use crate::planner::Planner;
 use crate::walk::Round;
 use fond_covering::cover::{cover_by_states, take_items};
@@ -77,7 +77,8 @@ fn cover_of(
     sketched: Option<Items>,
 ) -> Result<Option<Covering>, NoMemory>
     requires { IsDraft t.now draft.now }
-    ensures { IfOk result (λ found. IfSome found (λ covering. IsCovering t.now draft.now.rules covering.items covering.start)) }
+    ensures found { IfOk result (λ found. IfSome found (λ covering. IsCovering t.now draft.now.rules covering.items covering.start)) }
+    ensures none { IfOk result (λ found. found ≡ None → HasUnruled t.now draft.now.rules) }
 {
     read_count(&draft.rules);
     if let Some(items) = sketched {
@@ -88,18 +89,20 @@ fn cover_of(
     cover_by_states(alloc, t, &draft.pairs, &draft.rules)
 }
 
-/// A cover of what the rules of a draft reach, if there are no fresh pairs, and a rule holds in each of these states that is no
-/// goal.
+/// A cover of what the rules of a draft reach, unless they are stale or there are fresh pairs, and if a rule holds in each of these
+/// states that is no goal.
 fn finished(
     alloc: Global,
     t: &Task,
     draft: &Draft,
+    stale: bool,
     sketched: Option<Items>,
 ) -> Result<Option<Covering>, NoMemory>
     requires { IsDraft t.now draft.now }
-    ensures { IfOk result (λ found. IfSome found (λ covering. IsCovering t.now draft.now.rules covering.items covering.start)) }
+    ensures found { IfOk result (λ found. IfSome found (λ covering. IsCovering t.now draft.now.rules covering.items covering.start)) }
+    ensures fresh { IfOk result (λ found. IfSome found (λ covering. draft.now.fresh.items ≡ [])) }
 {
-    if !draft.fresh.is_empty() {
+    if stale || !draft.fresh.is_empty() {
         return Ok(None);
     }
     cover_of(alloc, t, draft, sketched)
@@ -116,27 +119,26 @@ enum End {
     Past,
 }
 
-impl<S: Source> Planner<S> {
+impl<S: Source> Planner<'_, S> {
     /// Makes rules in rounds, and begins again without rules whenever a round barred an action, until a rule holds in each reached
-    /// state that is no goal. Each further round has more pairs than the one before, or walks where that one sketched: `NoMemory` is
-    /// reported after a round that achieved neither.
-    fn finish(&mut self, alloc: Global, t: &Task, budget: u32) -> Result<End, NoMemory>
-        requires few { budget ≤ 1000000 }
-        requires planner { IsPlanner t.now self.old }
-        ensures draft { OnOk result (IsDraft t.now self.new.draft) }
-        ensures end { IfOk result (IsEnd t.now budget self.new.draft) }
+    /// state that is no goal. Each further round has more pairs than the one before, or walks where that one sketched, or follows a plan
+    /// that made the rules needless: `NoMemory` is reported after a round that achieved none of this.
+    fn finish(&mut self, alloc: Global) -> Result<End, NoMemory>
+        requires { IsPlanner self.old }
+        ensures draft { OnOk result (IsDraft self.old.task.now self.new.draft) }
+        ensures end { IfOk result (IsEnd self.old.task.now self.old.budget self.new.draft) }
     {
         let mut achieved = self.achieved();
         loop {
-            let sketched = match self.round(alloc, t, budget)? {
+            let sketched = match self.round(alloc)? {
                 Round::Walked(items) => items,
                 Round::Lost => return Ok(End::Refusal),
                 Round::Past => return Ok(End::Past),
             };
-            if let Some(covering) = finished(alloc, t, &self.draft, sketched)? {
+            if let Some(covering) = finished(alloc, self.task, &self.draft, self.stale, sketched)? {
                 return Ok(End::Policy(covering));
             }
-            self.begin_again(alloc, t)?;
+            self.next_round(alloc)?;
             let before = achieved;
             achieved = self.achieved();
             if achieved <= before {
@@ -178,8 +180,8 @@ fn decide_by_rounds<S: Source>(alloc: Global, t: &Task, budget: u32) -> Result<D
     requires hope { ¬ IsHopeless t.now t.now.init }
     ensures { IfOk result (IsDecision t.now budget) }
 {
-    let mut planner = Planner::<S>::new(alloc, t, quick_states(t))?;
-    let end = planner.finish(alloc, t, budget)?;
+    let mut planner = Planner::<S>::new(alloc, t, budget)?;
+    let end = planner.finish(alloc)?;
     Ok(decision_of(t, budget, planner.draft, end))
 }
 

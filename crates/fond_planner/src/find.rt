@@ -4,7 +4,7 @@
 ghost use Rattle.fond_planner.specs.Decisions.{IsPast};
 ghost use Rattle.fond_draft.specs.Drafts.{IsDraft};
 ghost use Rattle.fond_planner.specs.Finds.{IsFound};
-ghost use Rattle.fond_planner.specs.Planners.{IsPlanner};
+ghost use Rattle.fond_planner.specs.Planners.{IsPlanner, Keeps};
 ghost use Rattle.fond_draft.specs.Plans.{ArePlans, IsPlan};
 ghost use Rattle.fond_draft.specs.Targets.{HasRule};
 ghost use Rattle.fond_explicit.specs.Answers.{AreStuck, AreWinning, IsReachable};
@@ -12,7 +12,7 @@ ghost use Rattle.fond_task.specs.Certificates.{LiesInLayers};
 ghost use Rattle.fond_task.specs.Policies.{IsGoal};
 ghost use Rattle.std.specs.Prelude.{◌≡◌, ◌≤◌, None, true, length, IfOk, IfSome, OnOk};
 
-use crate::limits::{MORE_STATES, Stage, first_stage, last_stage, next_quick, second_stage};
+use crate::limits::{Stage, last_stage, next_quick, stage_at};
 use crate::planner::Planner;
 use fond_draft::draft::Draft;
 use fond_draft::make::make_rules;
@@ -81,50 +81,56 @@ fn make_won(
     Ok(())
 }
 
-impl<S: Source> Planner<S> {
+/// Whether the initial state is one of a plan.
+fn has_start(t: &Task, plans: &[Plan]) -> bool {
+    for plan in plans {
+        if plan.states.find(&t.init).is_some() {
+            return true;
+        }
+    }
+    false
+}
+
+impl<S: Source> Planner<'_, S> {
+    /// Whether rules for all states that are reached had better be made from this plan: an opponent picks, there are rules from searches,
+    /// which need not be as few, and no earlier plan has the initial state.
+    fn makes_stale(&self, plan: &Plan) -> bool {
+        self.opposed
+            && self.draft.rules.len() > 0
+            && plan.states.find(&self.task.init).is_some()
+            && !has_start(self.task, self.plans.as_slice())
+    }
+
     /// Adds rules until one holds in a state from which choices win, and keeps these as a plan.
-    fn win(
-        &mut self,
-        alloc: Global,
-        t: &Task,
-        state: &State,
-        choices: Choices,
-    ) -> Result<(), NoMemory>
-        requires planner { IsPlanner t.now self.old }
-        requires long { length state.now ≡ length t.now.atoms }
-        requires open { ¬ IsGoal t.now state.now }
-        requires winning { AreWinning t.now state.now choices }
-        ensures planner { OnOk result (IsPlanner t.now self.new) }
+    fn win(&mut self, alloc: Global, state: &State, choices: Choices) -> Result<(), NoMemory>
+        requires planner { IsPlanner self.old }
+        requires long { length state.now ≡ length self.old.task.now.atoms }
+        requires open { ¬ IsGoal self.old.task.now state.now }
+        requires winning { AreWinning self.old.task.now state.now choices }
+        ensures keeps { OnOk result (Keeps self.old self.new) }
         ensures ruled { OnOk result (HasRule self.new.draft.rules state.now) }
-        ensures pairs { OnOk result (self.new.draft.pairs ≡ self.old.draft.pairs) }
     {
-        let plan = plan_of(alloc, t, choices)?;
-        make_won(alloc, t, &mut self.draft, &plan, state)?;
+        let plan = plan_of(alloc, self.task, choices)?;
+        self.stale |= self.makes_stale(&plan);
+        make_won(alloc, self.task, &mut self.draft, &plan, state)?;
         self.plans.push(plan)?;
         Ok(())
     }
 
     /// Keeps layers for a state that is stuck in these: others of few cubes, if the source finds some, or else these.
-    fn lose(
-        &mut self,
-        alloc: Global,
-        t: &Task,
-        state: &State,
-        layers: Layers,
-    ) -> Result<(), NoMemory>
-        requires planner { IsPlanner t.now self.old }
-        requires long { length state.now ≡ length t.now.atoms }
-        requires stuck { AreStuck t.now state.now layers }
+    fn lose(&mut self, alloc: Global, state: &State, layers: Layers) -> Result<(), NoMemory>
+        requires planner { IsPlanner self.old }
+        requires long { length state.now ≡ length self.old.task.now.atoms }
+        requires stuck { AreStuck self.old.task.now state.now layers }
         requires lies { LiesInLayers state.now layers }
-        ensures planner { OnOk result (IsPlanner t.now self.new) }
+        ensures keeps { OnOk result (Keeps self.old self.new) }
         ensures lies { OnOk result (LiesInLayers state.now self.new.draft.layers) }
-        ensures pairs { OnOk result (self.new.draft.pairs ≡ self.old.draft.pairs) }
     {
-        self.learn_lost(alloc, t, &layers)?;
+        self.learn_lost(alloc, &layers)?;
         if self.draft.layers.dead(state).is_some() {
             return Ok(());
         }
-        self.draft.learn(alloc, t, layers)?;
+        self.draft.learn(alloc, self.task, layers)?;
         Ok(())
     }
 
@@ -132,26 +138,24 @@ impl<S: Source> Planner<S> {
     fn find_by_states(
         &mut self,
         alloc: Global,
-        t: &Task,
         budget: u32,
         state: &State,
     ) -> Result<Option<Found>, NoMemory>
         requires few { budget ≤ 1000000 }
-        requires planner { IsPlanner t.now self.old }
-        requires reachable { IsReachable t.now t.now.init state.now }
-        requires open { ¬ IsGoal t.now state.now }
-        ensures planner { OnOk result (IsPlanner t.now self.new) }
+        requires planner { IsPlanner self.old }
+        requires reachable { IsReachable self.old.task.now self.old.task.now.init state.now }
+        requires open { ¬ IsGoal self.old.task.now state.now }
+        ensures keeps { OnOk result (Keeps self.old self.new) }
         ensures found { IfOk result (λ found. IfSome found (IsFound self.new.draft state.now)) }
-        ensures past { IfOk result (λ found. found ≡ None → IsPast t.now budget) }
-        ensures pairs { OnOk result (self.new.draft.pairs ≡ self.old.draft.pairs) }
+        ensures past { IfOk result (λ found. found ≡ None → IsPast self.old.task.now budget) }
     {
-        match solve_by(alloc, t, &self.index, state, budget)? {
+        match solve_by(alloc, self.task, &self.index, state, budget)? {
             Solved::Won(choices, _) => {
-                self.win(alloc, t, state, choices)?;
+                self.win(alloc, state, choices)?;
                 Ok(Some(Found::Ruled))
             }
             Solved::Lost(layers) => {
-                self.lose(alloc, t, state, layers)?;
+                self.lose(alloc, state, layers)?;
                 Ok(Some(Found::Dead))
             }
             Solved::Spent => Ok(None),
@@ -159,22 +163,22 @@ impl<S: Source> Planner<S> {
     }
 
     /// Finds out about a state by the layers and plans that are there.
-    fn find_known(
-        &mut self,
-        alloc: Global,
-        t: &Task,
-        state: &State,
-    ) -> Result<Option<Found>, NoMemory>
-        requires planner { IsPlanner t.now self.old }
-        requires long { length state.now ≡ length t.now.atoms }
-        ensures planner { OnOk result (IsPlanner t.now self.new) }
+    fn find_known(&mut self, alloc: Global, state: &State) -> Result<Option<Found>, NoMemory>
+        requires planner { IsPlanner self.old }
+        requires long { length state.now ≡ length self.old.task.now.atoms }
+        ensures keeps { OnOk result (Keeps self.old self.new) }
         ensures found { IfOk result (λ found. IfSome found (IsFound self.new.draft state.now)) }
-        ensures pairs { OnOk result (self.new.draft.pairs ≡ self.old.draft.pairs) }
     {
         if self.draft.layers.dead(state).is_some() {
             return Ok(Some(Found::Dead));
         }
-        if make_found(alloc, t, &mut self.draft, self.plans.as_slice(), state)? {
+        if make_found(
+            alloc,
+            self.task,
+            &mut self.draft,
+            self.plans.as_slice(),
+            state,
+        )? {
             return Ok(Some(Found::Ruled));
         }
         Ok(None)
@@ -184,17 +188,15 @@ impl<S: Source> Planner<S> {
     fn find_by_search(
         &mut self,
         alloc: Global,
-        t: &Task,
         state: &State,
         stage: Stage,
     ) -> Result<Option<Found>, NoMemory>
-        requires planner { IsPlanner t.now self.old }
-        requires reachable { IsReachable t.now t.now.init state.now }
-        ensures planner { OnOk result (IsPlanner t.now self.new) }
+        requires planner { IsPlanner self.old }
+        requires reachable { IsReachable self.old.task.now self.old.task.now.init state.now }
+        ensures keeps { OnOk result (Keeps self.old self.new) }
         ensures found { IfOk result (λ found. IfSome found (IsFound self.new.draft state.now)) }
-        ensures pairs { OnOk result (self.new.draft.pairs ≡ self.old.draft.pairs) }
     {
-        if self.seek(alloc, t, state, stage)? {
+        if self.seek(alloc, state, stage)? {
             return Ok(Some(Found::Ruled));
         }
         if self.draft.layers.dead(state).is_some() {
@@ -207,94 +209,85 @@ impl<S: Source> Planner<S> {
     fn find_in_stage(
         &mut self,
         alloc: Global,
-        t: &Task,
         state: &State,
         stage: Stage,
     ) -> Result<Option<Found>, NoMemory>
         requires few { stage.states ≤ 1000000 }
-        requires planner { IsPlanner t.now self.old }
-        requires reachable { IsReachable t.now t.now.init state.now }
-        requires open { ¬ IsGoal t.now state.now }
-        ensures planner { OnOk result (IsPlanner t.now self.new) }
+        requires planner { IsPlanner self.old }
+        requires reachable { IsReachable self.old.task.now self.old.task.now.init state.now }
+        requires open { ¬ IsGoal self.old.task.now state.now }
+        ensures keeps { OnOk result (Keeps self.old self.new) }
         ensures found { IfOk result (λ found. IfSome found (IsFound self.new.draft state.now)) }
-        ensures pairs { OnOk result (self.new.draft.pairs ≡ self.old.draft.pairs) }
     {
-        if stage.states > self.too_few {
-            if let Some(found) = self.find_by_states(alloc, t, stage.states, state)? {
-                return Ok(Some(found));
-            }
-            self.too_few = stage.states;
+        if stage.states <= self.too_few {
+            return self.find_by_search(alloc, state, stage);
         }
-        self.find_by_search(alloc, t, state, stage)
+        if let Some(found) = self.find_by_states(alloc, stage.states, state)? {
+            return Ok(Some(found));
+        }
+        self.too_few = stage.states;
+        self.find_by_search(alloc, state, stage)
     }
 
     /// Finds out about a state by opening states from it. If the budget was too few once, long searches come before, and if it is
-    /// now, after. None only if more than `budget` states are reachable.
-    fn find_at_last(
-        &mut self,
-        alloc: Global,
-        t: &Task,
-        budget: u32,
-        state: &State,
-    ) -> Result<Option<Found>, NoMemory>
-        requires few { budget ≤ 1000000 }
-        requires planner { IsPlanner t.now self.old }
-        requires reachable { IsReachable t.now t.now.init state.now }
-        requires open { ¬ IsGoal t.now state.now }
-        ensures planner { OnOk result (IsPlanner t.now self.new) }
+    /// now, after. None only if more states than the budget are reachable.
+    fn find_at_last(&mut self, alloc: Global, state: &State) -> Result<Option<Found>, NoMemory>
+        requires planner { IsPlanner self.old }
+        requires reachable { IsReachable self.old.task.now self.old.task.now.init state.now }
+        requires open { ¬ IsGoal self.old.task.now state.now }
+        ensures keeps { OnOk result (Keeps self.old self.new) }
         ensures found { IfOk result (λ found. IfSome found (IsFound self.new.draft state.now)) }
-        ensures past { IfOk result (λ found. found ≡ None → IsPast t.now budget) }
-        ensures pairs { OnOk result (self.new.draft.pairs ≡ self.old.draft.pairs) }
+        ensures past { IfOk result (λ found. found ≡ None → IsPast self.old.task.now self.old.budget) }
     {
-        if self.too_few >= budget {
-            if let Some(found) = self.find_by_search(alloc, t, state, last_stage(budget))? {
+        if self.too_few >= self.budget {
+            if let Some(found) = self.find_by_search(alloc, state, last_stage(self.budget))? {
                 return Ok(Some(found));
             }
-            return self.find_by_states(alloc, t, budget, state);
+            return self.find_by_states(alloc, self.budget, state);
         }
-        if let Some(found) = self.find_by_states(alloc, t, budget, state)? {
+        if let Some(found) = self.find_by_states(alloc, self.budget, state)? {
             return Ok(Some(found));
         }
-        self.too_few = budget;
-        self.find_by_search(alloc, t, state, last_stage(budget))
+        self.too_few = self.budget;
+        self.find_by_search(alloc, state, last_stage(self.budget))
+    }
+
+    /// The stage of this number, if the first one opens `quick` states.
+    fn stage(&self, number: u32, quick: u32) -> Stage
+        ensures { result.states ≤ self.now.budget }
+    {
+        let acts = self.task.acts.len();
+        stage_at(number, self.opposed, quick, acts, self.budget)
     }
 
     /// Finds out about a state that is no goal: by what is known, and then in stages, each of which opens more states and searches
-    /// for longer; a short first one is followed by a longer one. Rules are added until one holds in the state, or it lies in a layer
-    /// afterwards. None only if more than `budget` states are reachable.
-    pub(crate) fn find(
-        &mut self,
-        alloc: Global,
-        t: &Task,
-        budget: u32,
-        state: &State,
-    ) -> Result<Option<Found>, NoMemory>
-        requires few { budget ≤ 1000000 }
-        requires planner { IsPlanner t.now self.old }
-        requires reachable { IsReachable t.now t.now.init state.now }
-        requires open { ¬ IsGoal t.now state.now }
-        ensures planner { OnOk result (IsPlanner t.now self.new) }
+    /// for longer. Rules are added until one holds in the state, or it lies in a layer afterwards. None only if more states than the
+    /// budget are reachable.
+    pub(crate) fn find(&mut self, alloc: Global, state: &State) -> Result<Option<Found>, NoMemory>
+        requires planner { IsPlanner self.old }
+        requires reachable { IsReachable self.old.task.now self.old.task.now.init state.now }
+        requires open { ¬ IsGoal self.old.task.now state.now }
+        ensures keeps { OnOk result (Keeps self.old self.new) }
         ensures found { IfOk result (λ found. IfSome found (IsFound self.new.draft state.now)) }
-        ensures past { IfOk result (λ found. found ≡ None → IsPast t.now budget) }
-        ensures pairs { OnOk result (self.new.draft.pairs ≡ self.old.draft.pairs) }
+        ensures past { IfOk result (λ found. found ≡ None → IsPast self.old.task.now self.old.budget) }
     {
-        if let Some(found) = self.find_known(alloc, t, state)? {
+        if let Some(found) = self.find_known(alloc, state)? {
             return Ok(Some(found));
         }
-        let first = first_stage(self.quick, budget, t.acts.len());
-        self.quick = next_quick(self.quick);
-        if let Some(found) = self.find_in_stage(alloc, t, state, first)? {
+        let quick = self.quick;
+        self.quick = next_quick(self.opposed, quick);
+        let first = self.stage(0, quick);
+        if let Some(found) = self.find_in_stage(alloc, state, first)? {
             return Ok(Some(found));
         }
-        if first.rules != u32::MAX {
-            let longer = first_stage(MORE_STATES, budget, t.acts.len());
-            if let Some(found) = self.find_in_stage(alloc, t, state, longer)? {
-                return Ok(Some(found));
-            }
-        }
-        if let Some(found) = self.find_in_stage(alloc, t, state, second_stage(budget))? {
+        let second = self.stage(1, quick);
+        if let Some(found) = self.find_in_stage(alloc, state, second)? {
             return Ok(Some(found));
         }
-        self.find_at_last(alloc, t, budget, state)
+        let third = self.stage(2, quick);
+        if let Some(found) = self.find_in_stage(alloc, state, third)? {
+            return Ok(Some(found));
+        }
+        self.find_at_last(alloc, state)
     }
 }

@@ -15,15 +15,12 @@ const FAIR_STATES: u32 = 100;
 
 const OPPOSED_STATES: u32 = 1000;
 
-/// How many states are opened if the searches of the first stage found nothing.
-pub(crate) const MORE_STATES: u32 = 50000;
+/// The most states that are opened before the source is first asked.
+const MOST_QUICK: u32 = 50000;
 
-/// What the searches of a first stage may do for each action: an evaluation takes longer with more actions, and some hundred of them
-/// come before goals are counted.
+/// What the searches of the first two stages may do for each action: an evaluation takes longer with more actions, and some hundred of
+/// them come before goals are counted.
 const WORK_OF_ACT: u64 = 4000;
-
-/// The most rules that a first search may make where an opponent picks: with more, opened states are tried before it goes on.
-const FEW_RULES: u32 = 200;
 
 /// How many states are sought at most, one after the other, for the sake of one.
 pub(crate) const SEEKS: u32 = 100000;
@@ -40,62 +37,82 @@ pub(crate) struct Stage {
     pub(crate) effort: Effort,
 }
 
-/// How many states are opened before the source is first asked.
-pub(crate) fn quick_states(t: &Task) -> u32 {
+/// Whether an opponent picks the outcome of some action.
+pub(crate) fn has_opponent(t: &Task) -> bool {
     for act in &t.acts {
         if act.unfair {
-            return OPPOSED_STATES;
+            return true;
         }
     }
-    FAIR_STATES
+    false
+}
+
+/// How many states are opened before the source is first asked.
+pub(crate) fn quick_states(opposed: bool) -> u32 {
+    if opposed { OPPOSED_STATES } else { FAIR_STATES }
 }
 
 /// How many states are opened before the source is asked about the next state, if it was this many for one. They double where an
 /// opponent picks: the more states have to be found out about, the more pays what opened states tell about all of them.
-pub(crate) fn next_quick(quick: u32) -> u32 {
-    if quick <= FAIR_STATES {
-        quick
+pub(crate) fn next_quick(opposed: bool, quick: u32) -> u32 {
+    if opposed {
+        quick.saturating_mul(2).min(MOST_QUICK)
     } else {
-        quick.saturating_mul(2).min(MORE_STATES)
+        quick
     }
 }
 
-/// The first stage, in which this many states are opened, of a task with so many actions. If an opponent picks, searches may do as much
-/// as opening the states of the second stage takes.
-pub(crate) fn first_stage(quick: u32, budget: u32, acts: usize) -> Stage
-    ensures { result.states ≤ budget }
-{
-    let is_short = FAIR_STATES < quick && quick < MORE_STATES;
-    let (rules, work, layers) = if is_short {
-        (FEW_RULES, 10000000, 5000000)
-    } else {
-        let work = (acts as u64).saturating_mul(WORK_OF_ACT).max(30000000);
-        (u32::MAX, work, 20000000)
-    };
+/// A stage in which this many states may be opened, of which searches may expand fewer and make so many rules, with this much work for
+/// plans and for layers.
+fn stage_of(opened: u32, rules: u32, expanded: u32, work: u64, layers: u64) -> Stage {
     Stage {
-        states: quick.min(budget),
+        states: opened,
         rules,
         effort: Effort {
-            states: budget.min(4000),
+            states: expanded,
             work,
             layers,
         },
     }
 }
 
-/// The second stage.
-pub(crate) fn second_stage(budget: u32) -> Stage
+/// The work of the searches of the first two stages, with so many actions.
+fn first_work(acts: usize) -> u64 {
+    (acts as u64).saturating_mul(WORK_OF_ACT).max(30000000)
+}
+
+/// The stages before the last one of a task with so many actions that are all fair. A search takes about as long as opening the states
+/// of the stage that comes after it.
+fn fair_stage(number: u32, quick: u32, acts: usize) -> Stage {
+    match number {
+        0 => stage_of(quick, u32::MAX, 4000, first_work(acts), 4000000),
+        1 => stage_of(10000, u32::MAX, 4000, first_work(acts), 20000000),
+        _ => stage_of(50000, u32::MAX, 20000, 150000000, 100000000),
+    }
+}
+
+/// The stages before the last one of a task with so many actions, some of them unfair. Opened states make far fewer rules than searches
+/// there, so searches that make many end early, and more states are opened before long ones.
+fn opposed_stage(number: u32, quick: u32, acts: usize) -> Stage {
+    match number {
+        0 => stage_of(quick, 200, 4000, 10000000, 5000000),
+        1 => stage_of(50000, 2000, 4000, first_work(acts), 20000000),
+        _ => stage_of(250000, u32::MAX, 20000, 150000000, 100000000),
+    }
+}
+
+/// The stage of this number, of the three before the last one, if the first one opens `quick` states.
+pub(crate) fn stage_at(number: u32, opposed: bool, quick: u32, acts: usize, budget: u32) -> Stage
     ensures { result.states ≤ budget }
 {
-    Stage {
-        states: MORE_STATES.min(budget),
-        rules: u32::MAX,
-        effort: Effort {
-            states: budget.min(20000),
-            work: 150000000,
-            layers: 100000000,
-        },
-    }
+    let mut stage = if opposed {
+        opposed_stage(number, quick, acts)
+    } else {
+        fair_stage(number, quick, acts)
+    };
+    stage.states = stage.states.min(budget);
+    stage.effort.states = stage.effort.states.min(budget);
+    stage
 }
 
 /// The last one: the searches may do this once opening as many states as the budget was too few.

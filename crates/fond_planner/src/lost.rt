@@ -1,7 +1,7 @@
 //! Layers that the source proposes. Each is kept only if it is sure.
 
 ghost use Rattle.fond_explicit.specs.Answers.{AreStuck};
-ghost use Rattle.fond_planner.specs.Planners.{IsPlanner};
+ghost use Rattle.fond_planner.specs.Planners.{IsPlanner, Keeps};
 ghost use Rattle.fond_task.specs.Certificates.{LiesInLayers};
 ghost use Rattle.fond_task.specs.Layers.{AreSureLayers};
 ghost use Rattle.std.specs.Prelude.{◌≡◌, List, Bool, true, length, IfOk, OnOk};
@@ -24,23 +24,22 @@ pub fn small_layers<S: Source>(alloc: Global, t: &Task, layers: Layers) -> Resul
     ensures has { IfOk result (λ small. (state : List Bool) → LiesInLayers state layers → LiesInLayers state small) }
 {
     let mut planner = Planner::<S>::new(alloc, t, 0)?;
-    planner.learn_lost(alloc, t, &layers)?;
+    planner.learn_lost(alloc, &layers)?;
     planner.draft.learn(alloc, t, layers)?;
     Ok(planner.draft.layers)
 }
 
-impl<S: Source> Planner<S> {
+impl<S: Source> Planner<'_, S> {
     /// Appends the layers that the source proposes, as long as they are sure. Returns whether the state around which they were to
     /// be lies in one, as far as the source tells.
-    fn learn_proposed(&mut self, alloc: Global, t: &Task) -> Result<bool, NoMemory>
-        requires { IsPlanner t.now self.old }
-        ensures planner { OnOk result (IsPlanner t.now self.new) }
-        ensures pairs { OnOk result (self.new.draft.pairs ≡ self.old.draft.pairs) }
+    fn learn_proposed(&mut self, alloc: Global) -> Result<bool, NoMemory>
+        requires { IsPlanner self.old }
+        ensures { OnOk result (Keeps self.old self.new) }
     {
         for _layer in 0..LAYERS {
             match self.source.next_layer(alloc, &self.draft)? {
                 LayerHint::Layer(layer) => {
-                    if !self.draft.learn_layer(alloc, t, layer)? {
+                    if !self.draft.learn_layer(alloc, self.task, layer)? {
                         return Ok(false);
                     }
                 }
@@ -52,33 +51,26 @@ impl<S: Source> Planner<S> {
     }
 
     /// Appends sure layers that the source finds around the state. Returns whether it lies in a layer then.
-    pub(crate) fn learn_layers(
-        &mut self,
-        alloc: Global,
-        t: &Task,
-        state: &State,
-    ) -> Result<bool, NoMemory>
-        requires planner { IsPlanner t.now self.old }
-        requires long { length state.now ≡ length t.now.atoms }
-        ensures planner { OnOk result (IsPlanner t.now self.new) }
+    pub(crate) fn learn_layers(&mut self, alloc: Global, state: &State) -> Result<bool, NoMemory>
+        requires planner { IsPlanner self.old }
+        requires long { length state.now ≡ length self.old.task.now.atoms }
+        ensures keeps { OnOk result (Keeps self.old self.new) }
         ensures lies { IfOk result (λ learnt. learnt ≡ true → LiesInLayers state.now self.new.draft.layers) }
-        ensures pairs { OnOk result (self.new.draft.pairs ≡ self.old.draft.pairs) }
     {
         self.source.begin_layers(&self.draft, state)?;
-        self.learn_proposed(alloc, t)?;
+        self.learn_proposed(alloc)?;
         Ok(self.draft.layers.dead(state).is_some())
     }
 
     /// Appends sure layers that the source finds around the states of the full cubes of a layer. Returns false once it finds none
     /// for one of them.
-    fn learn_around(&mut self, alloc: Global, t: &Task, layer: &Layer) -> Result<bool, NoMemory>
-        requires { IsPlanner t.now self.old }
-        ensures planner { OnOk result (IsPlanner t.now self.new) }
-        ensures pairs { OnOk result (self.new.draft.pairs ≡ self.old.draft.pairs) }
+    fn learn_around(&mut self, alloc: Global, layer: &Layer) -> Result<bool, NoMemory>
+        requires { IsPlanner self.old }
+        ensures { OnOk result (Keeps self.old self.new) }
     {
         for cube in layer {
             self.source.begin_layers_in(&self.draft, cube)?;
-            if !self.learn_proposed(alloc, t)? {
+            if !self.learn_proposed(alloc)? {
                 return Ok(false);
             }
         }
@@ -87,13 +79,12 @@ impl<S: Source> Planner<S> {
 
     /// Appends sure layers that the source finds around the states of the full cubes of these layers, one after the other, as long
     /// as it finds some for each of them.
-    fn learn_around_all(&mut self, alloc: Global, t: &Task, layers: &Layers) -> Result<(), NoMemory>
-        requires { IsPlanner t.now self.old }
-        ensures planner { OnOk result (IsPlanner t.now self.new) }
-        ensures pairs { OnOk result (self.new.draft.pairs ≡ self.old.draft.pairs) }
+    fn learn_around_all(&mut self, alloc: Global, layers: &Layers) -> Result<(), NoMemory>
+        requires { IsPlanner self.old }
+        ensures { OnOk result (Keeps self.old self.new) }
     {
         for number in 0..layers.len() {
-            if !self.learn_around(alloc, t, layers.get(number))? {
+            if !self.learn_around(alloc, layers.get(number))? {
                 return Ok(());
             }
         }
@@ -102,19 +93,13 @@ impl<S: Source> Planner<S> {
 
     /// Appends sure layers of few cubes in place of layers of full cubes, whose states are lost: a cube may stand for many of these
     /// states. There may be none for some of them.
-    pub(crate) fn learn_lost(
-        &mut self,
-        alloc: Global,
-        t: &Task,
-        layers: &Layers,
-    ) -> Result<(), NoMemory>
-        requires { IsPlanner t.now self.old }
-        ensures planner { OnOk result (IsPlanner t.now self.new) }
-        ensures pairs { OnOk result (self.new.draft.pairs ≡ self.old.draft.pairs) }
+    pub(crate) fn learn_lost(&mut self, alloc: Global, layers: &Layers) -> Result<(), NoMemory>
+        requires { IsPlanner self.old }
+        ensures { OnOk result (Keeps self.old self.new) }
     {
-        self.allow(alloc, t, lost_effort(layers))?;
+        self.source.allow(alloc, self.task, lost_effort(layers))?;
         self.source.know_lost(layers)?;
-        self.learn_around_all(alloc, t, layers)?;
+        self.learn_around_all(alloc, layers)?;
         self.source.forget_lost()
     }
 }

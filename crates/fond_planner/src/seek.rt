@@ -1,6 +1,6 @@
 //! Rules from plans of the source.
 
-ghost use Rattle.fond_planner.specs.Planners.{IsPlanner};
+ghost use Rattle.fond_planner.specs.Planners.{IsPlanner, Keeps};
 ghost use Rattle.fond_planner.specs.Seeks.{IsSought};
 ghost use Rattle.fond_draft.specs.Targets.{HasRule};
 ghost use Rattle.fond_draft.specs.Turns.{AreReachable, AreTurns, IsTurn};
@@ -17,7 +17,6 @@ use fond_explicit::answer::{Choices, Pick};
 use fond_state::state::State;
 use fond_task::hint::Hint;
 use fond_task::plan_step::PlanSteps;
-use fond_task::task::Task;
 use fond_task::truth::is_goal;
 use fond_text::fault::NoMemory;
 use std::alloc::Global;
@@ -33,33 +32,31 @@ enum Sought {
     GaveUp,
 }
 
-impl<S: Source> Planner<S> {
+impl<S: Source> Planner<'_, S> {
     /// The next state of a turn in which no rule holds and which is no goal, if its action is unfair: it has to be sought before.
     /// The source goes on in it from now on. `next` is overwritten.
     fn open_next(
         &mut self,
         alloc: Global,
-        t: &Task,
         turn: &Pick,
         next: &mut State,
     ) -> Result<Option<State>, NoMemory>
-        requires planner { IsPlanner t.now self.old }
-        requires turn { IsTurn t.now turn.now }
-        requires next_long { length next.old ≡ length t.now.atoms }
-        ensures planner { OnOk result (IsPlanner t.now self.new) }
-        ensures reachable { IfOk result (λ found. IfSome found (IsReachable t.now t.now.init)) }
-        ensures pairs { OnOk result (self.new.draft.pairs ≡ self.old.draft.pairs) }
+        requires planner { IsPlanner self.old }
+        requires turn { IsTurn self.old.task.now turn.now }
+        requires next_long { length next.old ≡ length self.old.task.now.atoms }
+        ensures keeps { OnOk result (Keeps self.old self.new) }
+        ensures reachable { IfOk result (λ found. IfSome found (IsReachable self.old.task.now self.old.task.now.init)) }
     {
-        if !t.acts.get(turn.act as usize).unfair {
+        if !self.task.acts.get(turn.act as usize).unfair {
             return Ok(None);
         }
-        let Some(outcome) = first_open(t, &self.draft.rules, turn, next) else {
+        let Some(outcome) = first_open(self.task, &self.draft.rules, turn, next) else {
             return Ok(None);
         };
         if self.draft.layers.dead(next).is_some() {
             return Ok(None);
         }
-        self.respond(t, &turn.state, turn.act, outcome)?;
+        self.source.respond(&turn.state, turn.act, outcome)?;
         Ok(Some(next.copy(alloc)?))
     }
 
@@ -68,26 +65,24 @@ impl<S: Source> Planner<S> {
     fn make_turns(
         &mut self,
         alloc: Global,
-        t: &Task,
         turns: &Choices,
         next: &mut State,
     ) -> Result<Option<State>, NoMemory>
-        requires planner { IsPlanner t.now self.old }
-        requires turns { AreTurns t.now turns.now }
-        requires next_long { length next.old ≡ length t.now.atoms }
-        ensures planner { OnOk result (IsPlanner t.now self.new) }
-        ensures reachable { IfOk result (λ found. IfSome found (IsReachable t.now t.now.init)) }
-        ensures pairs { OnOk result (self.new.draft.pairs ≡ self.old.draft.pairs) }
+        requires planner { IsPlanner self.old }
+        requires turns { AreTurns self.old.task.now turns.now }
+        requires next_long { length next.old ≡ length self.old.task.now.atoms }
+        ensures keeps { OnOk result (Keeps self.old self.new) }
+        ensures reachable { IfOk result (λ found. IfSome found (IsReachable self.old.task.now self.old.task.now.init)) }
     {
         for done in 0..turns.len() {
             let turn = turns.get(turns.len() - 1 - done);
             if self.draft.rules.select(&turn.state).is_some() {
                 continue;
             }
-            if !is_ready(alloc, t, &self.draft, turn, next)? {
-                return self.open_next(alloc, t, turn, next);
+            if !is_ready(alloc, self.task, &self.draft, turn, next)? {
+                return self.open_next(alloc, turn, next);
             }
-            add_rule(alloc, t, &mut self.draft, turn, next)?;
+            add_rule(alloc, self.task, &mut self.draft, turn, next)?;
         }
         Ok(None)
     }
@@ -96,19 +91,17 @@ impl<S: Source> Planner<S> {
     fn take_steps(
         &mut self,
         alloc: Global,
-        t: &Task,
         state: &State,
         steps: &PlanSteps,
     ) -> Result<Sought, NoMemory>
-        requires planner { IsPlanner t.now self.old }
-        requires reachable { IsReachable t.now t.now.init state.now }
-        ensures planner { OnOk result (IsPlanner t.now self.new) }
-        ensures sought { IfOk result (IsSought t.now) }
-        ensures pairs { OnOk result (self.new.draft.pairs ≡ self.old.draft.pairs) }
+        requires planner { IsPlanner self.old }
+        requires reachable { IsReachable self.old.task.now self.old.task.now.init state.now }
+        ensures keeps { OnOk result (Keeps self.old self.new) }
+        ensures sought { IfOk result (IsSought self.old.task.now) }
     {
-        let turns = replay(alloc, t, state, steps)?;
+        let turns = replay(alloc, self.task, state, steps)?;
         let mut next = state.copy(alloc)?;
-        if let Some(earlier) = self.make_turns(alloc, t, &turns, &mut next)? {
+        if let Some(earlier) = self.make_turns(alloc, &turns, &mut next)? {
             return Ok(Sought::After(earlier));
         }
         if self.draft.rules.select(state).is_some() {
@@ -118,11 +111,11 @@ impl<S: Source> Planner<S> {
     }
 
     /// Whether the state is a goal, a rule holds in it, or it lies in a layer.
-    fn is_known(&self, t: &Task, state: &State) -> bool
-        requires planner { IsPlanner t.now self.now }
-        requires long { length state.now ≡ length t.now.atoms }
+    fn is_known(&self, state: &State) -> bool
+        requires planner { IsPlanner self.now }
+        requires long { length state.now ≡ length self.now.task.now.atoms }
     {
-        if is_goal(t, state) {
+        if is_goal(self.task, state) {
             return true;
         }
         if self.draft.rules.select(state).is_some() {
@@ -132,20 +125,19 @@ impl<S: Source> Planner<S> {
     }
 
     /// Asks the source for a plan from the state, and makes rules of it; if there is none, looks for a layer that has the state.
-    fn seek_one(&mut self, alloc: Global, t: &Task, state: &State) -> Result<Sought, NoMemory>
-        requires planner { IsPlanner t.now self.old }
-        requires reachable { IsReachable t.now t.now.init state.now }
-        ensures planner { OnOk result (IsPlanner t.now self.new) }
-        ensures sought { IfOk result (IsSought t.now) }
-        ensures pairs { OnOk result (self.new.draft.pairs ≡ self.old.draft.pairs) }
+    fn seek_one(&mut self, alloc: Global, state: &State) -> Result<Sought, NoMemory>
+        requires planner { IsPlanner self.old }
+        requires reachable { IsReachable self.old.task.now self.old.task.now.init state.now }
+        ensures keeps { OnOk result (Keeps self.old self.new) }
+        ensures sought { IfOk result (IsSought self.old.task.now) }
     {
-        if self.is_known(t, state) {
+        if self.is_known(state) {
             return Ok(Sought::Known);
         }
-        if let Hint::Steps(steps) = self.hint(alloc, t, state)? {
-            return self.take_steps(alloc, t, state, &steps);
+        if let Hint::Steps(steps) = self.source.plan(alloc, &self.draft, state)? {
+            return self.take_steps(alloc, state, &steps);
         }
-        if self.learn_dead(alloc, t, state)? {
+        if self.learn_dead(alloc, state)? {
             return Ok(Sought::Known);
         }
         Ok(Sought::GaveUp)
@@ -153,22 +145,16 @@ impl<S: Source> Planner<S> {
 
     /// Seeks the last of the waiting states, which waits no longer, unless another one has to be sought before: then both wait.
     /// Returns false if nothing became of it, or none waits.
-    fn seek_last(
-        &mut self,
-        alloc: Global,
-        t: &Task,
-        waiting: &mut Vec<State>,
-    ) -> Result<bool, NoMemory>
-        requires planner { IsPlanner t.now self.old }
-        requires reached { AreReachable t.now waiting.old.items }
-        ensures planner { OnOk result (IsPlanner t.now self.new) }
-        ensures reached { OnOk result (AreReachable t.now waiting.new.items) }
-        ensures pairs { OnOk result (self.new.draft.pairs ≡ self.old.draft.pairs) }
+    fn seek_last(&mut self, alloc: Global, waiting: &mut Vec<State>) -> Result<bool, NoMemory>
+        requires planner { IsPlanner self.old }
+        requires reached { AreReachable self.old.task.now waiting.old.items }
+        ensures keeps { OnOk result (Keeps self.old self.new) }
+        ensures reached { OnOk result (AreReachable self.new.task.now waiting.new.items) }
     {
         let Some(state) = waiting.pop() else {
             return Ok(false);
         };
-        match self.seek_one(alloc, t, &state)? {
+        match self.seek_one(alloc, &state)? {
             Sought::Known => Ok(true),
             Sought::After(next) => {
                 waiting.push(state)?;
@@ -184,17 +170,15 @@ impl<S: Source> Planner<S> {
     fn seek_all(
         &mut self,
         alloc: Global,
-        t: &Task,
         waiting: &mut Vec<State>,
         rules: u32,
     ) -> Result<(), NoMemory>
-        requires planner { IsPlanner t.now self.old }
-        requires reached { AreReachable t.now waiting.old.items }
-        ensures planner { OnOk result (IsPlanner t.now self.new) }
-        ensures pairs { OnOk result (self.new.draft.pairs ≡ self.old.draft.pairs) }
+        requires planner { IsPlanner self.old }
+        requires reached { AreReachable self.old.task.now waiting.old.items }
+        ensures { OnOk result (Keeps self.old self.new) }
     {
         for _seek in 0..SEEKS {
-            if self.draft.rules.len() > rules || !self.seek_last(alloc, t, waiting)? {
+            if self.draft.rules.len() > rules || !self.seek_last(alloc, waiting)? {
                 return Ok(());
             }
         }
@@ -206,20 +190,18 @@ impl<S: Source> Planner<S> {
     pub(crate) fn seek(
         &mut self,
         alloc: Global,
-        t: &Task,
         state: &State,
         stage: Stage,
     ) -> Result<bool, NoMemory>
-        requires planner { IsPlanner t.now self.old }
-        requires reachable { IsReachable t.now t.now.init state.now }
-        ensures planner { OnOk result (IsPlanner t.now self.new) }
+        requires planner { IsPlanner self.old }
+        requires reachable { IsReachable self.old.task.now self.old.task.now.init state.now }
+        ensures keeps { OnOk result (Keeps self.old self.new) }
         ensures ruled { IfOk result (λ found. found ≡ true → HasRule self.new.draft.rules state.now) }
-        ensures pairs { OnOk result (self.new.draft.pairs ≡ self.old.draft.pairs) }
     {
-        self.allow(alloc, t, stage.effort)?;
+        self.source.allow(alloc, self.task, stage.effort)?;
         let mut waiting = Vec::new(alloc);
         waiting.push(state.copy(alloc)?)?;
-        self.seek_all(alloc, t, &mut waiting, stage.rules)?;
+        self.seek_all(alloc, &mut waiting, stage.rules)?;
         Ok(self.draft.rules.select(state).is_some())
     }
 }

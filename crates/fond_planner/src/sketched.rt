@@ -2,7 +2,7 @@
 //! there, so only states for which a new partial state is made are kept and visited, and what the rules reach is never listed.
 
 ghost use Rattle.fond_planner.specs.Decisions.{IsPast};
-ghost use Rattle.fond_planner.specs.Planners.{IsPlanner};
+ghost use Rattle.fond_planner.specs.Planners.{IsPlanner, Keeps};
 ghost use Rattle.fond_draft.specs.Turns.{AreReachable};
 ghost use Rattle.fond_planner.specs.Walks.{IsStep, IsTrail};
 ghost use Rattle.fond_planner.specs.declared.sketched.Followed.TheVariants.{Past as IsPastEnd};
@@ -92,7 +92,7 @@ impl Trail {
     }
 }
 
-impl<S: Source> Planner<S> {
+impl<S: Source> Planner<'_, S> {
     /// Adds the rules that the sketch does not have yet.
     fn tell(&self, sketch: &mut Sketch) -> Result<(), NoMemory> {
         for number in sketch.rules()..self.draft.rules.len() {
@@ -104,77 +104,60 @@ impl<S: Source> Planner<S> {
 
     /// Makes the step of this outcome out of its state, which is reachable, by the first rule that holds there. Returns false if
     /// there is no such step.
-    fn set_out(&self, t: &Task, step: &mut Step, outcome: u32) -> bool
-        requires planner { IsPlanner t.now self.now }
-        requires here { IsReachable t.now t.now.init step.old.state }
-        requires next_long { length step.old.next ≡ length t.now.atoms }
+    fn set_out(&self, step: &mut Step, outcome: u32) -> bool
+        requires planner { IsPlanner self.now }
+        requires here { IsReachable self.now.task.now self.now.task.now.init step.old.state }
+        requires next_long { length step.old.next ≡ length self.now.task.now.atoms }
         ensures same { step.new.state ≡ step.old.state }
         ensures long { length step.new.next ≡ length step.old.next }
-        ensures step { result ≡ true → IsStep t.now step.new }
+        ensures step { result ≡ true → IsStep self.now.task.now step.new }
         ensures free { result ≡ true → ¬ IsBarred self.now.draft.pairs step.new.act step.new.state }
     {
-        if !self.set_act(t, step) {
+        if !self.set_act(step) {
             return false;
         }
         step.outcome = outcome;
-        if outcome as usize >= t.acts.get(step.act as usize).outcomes.len() {
+        if outcome as usize >= self.task.acts.get(step.act as usize).outcomes.len() {
             return false;
         }
-        apply_into(t, &step.state, step.act, outcome, &mut step.next);
+        apply_into(self.task, &step.state, step.act, outcome, &mut step.next);
         true
     }
 
     /// Follows an edge: settles its next state if no rule holds there and it is no goal, and lets the sketch look at it.
-    fn follow(
-        &mut self,
-        alloc: Global,
-        t: &Task,
-        budget: u32,
-        edge: Edge,
-        trail: &mut Trail,
-    ) -> Result<Followed, NoMemory>
-        requires few { budget ≤ 1000000 }
-        requires planner { IsPlanner t.now self.old }
-        requires trail { IsTrail t.now trail.old }
-        ensures planner { OnOk result (IsPlanner t.now self.new) }
-        ensures trail { OnOk result (IsTrail t.now trail.new) }
-        ensures past { IfOk result (λ followed. followed ≡ IsPastEnd → IsPast t.now budget) }
-        ensures pairs { OnOk result (self.new.draft.pairs ≡ self.old.draft.pairs) }
+    fn follow(&mut self, alloc: Global, edge: Edge, trail: &mut Trail) -> Result<Followed, NoMemory>
+        requires planner { IsPlanner self.old }
+        requires trail { IsTrail self.old.task.now trail.old }
+        ensures keeps { OnOk result (Keeps self.old self.new) }
+        ensures trail { OnOk result (IsTrail self.new.task.now trail.new) }
+        ensures past { IfOk result (λ followed. followed ≡ IsPastEnd → IsPast self.old.task.now self.old.budget) }
     {
         if edge.node >= trail.states.len() {
             return Ok(Followed::GaveUp);
         }
         trail.step.state.copy_from(trail.states.get(edge.node));
-        if !self.set_out(t, &mut trail.step, edge.outcome) {
+        if !self.set_out(&mut trail.step, edge.outcome) {
             return Ok(Followed::GaveUp);
         }
-        if !self.settle_next(alloc, t, budget, &trail.step)? {
+        if !self.settle_next(alloc, &trail.step)? {
             return Ok(Followed::Past);
         }
         self.tell(&mut trail.sketch)?;
-        trail.look(alloc, t, edge)
+        trail.look(alloc, self.task, edge)
     }
 
     /// Follows the edges of a sketch until none is left to look at.
-    fn follow_all(
-        &mut self,
-        alloc: Global,
-        t: &Task,
-        budget: u32,
-        trail: &mut Trail,
-    ) -> Result<Followed, NoMemory>
-        requires few { budget ≤ 1000000 }
-        requires planner { IsPlanner t.now self.old }
-        requires trail { IsTrail t.now trail.old }
-        ensures planner { OnOk result (IsPlanner t.now self.new) }
-        ensures past { IfOk result (λ followed. followed ≡ IsPastEnd → IsPast t.now budget) }
-        ensures pairs { OnOk result (self.new.draft.pairs ≡ self.old.draft.pairs) }
+    fn follow_all(&mut self, alloc: Global, trail: &mut Trail) -> Result<Followed, NoMemory>
+        requires planner { IsPlanner self.old }
+        requires trail { IsTrail self.old.task.now trail.old }
+        ensures keeps { OnOk result (Keeps self.old self.new) }
+        ensures past { IfOk result (λ followed. followed ≡ IsPastEnd → IsPast self.old.task.now self.old.budget) }
     {
         for _edge in 0..u64::MAX {
             let Some(edge) = trail.sketch.next() else {
                 return Ok(Followed::On);
             };
-            let followed = self.follow(alloc, t, budget, edge, trail)?;
+            let followed = self.follow(alloc, edge, trail)?;
             if !matches!(followed, Followed::On) {
                 return Ok(followed);
             }
@@ -183,25 +166,17 @@ impl<S: Source> Planner<S> {
     }
 
     /// Walks along a trail that has not begun, as `walk_sketch` does.
-    fn walk_trail(
-        &mut self,
-        alloc: Global,
-        t: &Task,
-        budget: u32,
-        trail: &mut Trail,
-    ) -> Result<Sketched, NoMemory>
-        requires few { budget ≤ 1000000 }
-        requires planner { IsPlanner t.now self.old }
-        requires trail { IsTrail t.now trail.old }
-        ensures planner { OnOk result (IsPlanner t.now self.new) }
-        ensures past { IfOk result (λ sketched. sketched ≡ IsPastSketch → IsPast t.now budget) }
-        ensures pairs { OnOk result (self.new.draft.pairs ≡ self.old.draft.pairs) }
+    fn walk_trail(&mut self, alloc: Global, trail: &mut Trail) -> Result<Sketched, NoMemory>
+        requires planner { IsPlanner self.old }
+        requires trail { IsTrail self.old.task.now trail.old }
+        ensures keeps { OnOk result (Keeps self.old self.new) }
+        ensures past { IfOk result (λ sketched. sketched ≡ IsPastSketch → IsPast self.old.task.now self.old.budget) }
     {
         self.tell(&mut trail.sketch)?;
-        if !trail.sketch.begin(t)? {
+        if !trail.sketch.begin(self.task)? {
             return Ok(Sketched::GaveUp);
         }
-        match self.follow_all(alloc, t, budget, trail)? {
+        match self.follow_all(alloc, trail)? {
             Followed::On => Ok(Sketched::Walked(trail.sketch.items(alloc)?)),
             Followed::GaveUp => Ok(Sketched::GaveUp),
             Followed::Past => Ok(Sketched::Past),
@@ -210,19 +185,12 @@ impl<S: Source> Planner<S> {
 
     /// Walks along a sketch from the initial state, which is a goal or has a rule, and settles each state that it meets in which no
     /// rule holds and that is no goal: rules are added, or a fresh pair bars the action that led there.
-    pub(crate) fn walk_sketch(
-        &mut self,
-        alloc: Global,
-        t: &Task,
-        budget: u32,
-    ) -> Result<Sketched, NoMemory>
-        requires few { budget ≤ 1000000 }
-        requires planner { IsPlanner t.now self.old }
-        ensures planner { OnOk result (IsPlanner t.now self.new) }
-        ensures past { IfOk result (λ sketched. sketched ≡ IsPastSketch → IsPast t.now budget) }
-        ensures pairs { OnOk result (self.new.draft.pairs ≡ self.old.draft.pairs) }
+    pub(crate) fn walk_sketch(&mut self, alloc: Global) -> Result<Sketched, NoMemory>
+        requires { IsPlanner self.old }
+        ensures keeps { OnOk result (Keeps self.old self.new) }
+        ensures past { IfOk result (λ sketched. sketched ≡ IsPastSketch → IsPast self.old.task.now self.old.budget) }
     {
-        let mut trail = trail_of(alloc, t)?;
-        self.walk_trail(alloc, t, budget, &mut trail)
+        let mut trail = trail_of(alloc, self.task)?;
+        self.walk_trail(alloc, &mut trail)
     }
 }

@@ -3,7 +3,7 @@
 ghost use Rattle.fond_draft.specs.Drafts.{IsDraft, IsFitting};
 ghost use Rattle.fond_planner.specs.Decisions.{IsPast};
 ghost use Rattle.fond_planner.specs.Finds.{IsBegun, IsRound};
-ghost use Rattle.fond_planner.specs.Planners.{IsPlanner};
+ghost use Rattle.fond_planner.specs.Planners.{IsPlanner, Keeps};
 ghost use Rattle.fond_draft.specs.Turns.{AreReachable};
 ghost use Rattle.fond_planner.specs.Walks.{IsOutset, IsSettled, IsStep};
 ghost use Rattle.fond_explicit.specs.Answers.{IsReachable};
@@ -129,121 +129,93 @@ fn bar(alloc: Global, t: &Task, draft: &mut Draft, step: &Step) -> Result<(), No
     Ok(())
 }
 
-impl<S: Source> Planner<S> {
+impl<S: Source> Planner<'_, S> {
     /// Finds out about the next state of a step, which is no goal and in which no rule holds. If it lies in a layer, the action of
-    /// the step is barred. Returns false only if more than `budget` states are reachable.
-    fn settle(
-        &mut self,
-        alloc: Global,
-        t: &Task,
-        budget: u32,
-        step: &Step,
-    ) -> Result<bool, NoMemory>
-        requires few { budget ≤ 1000000 }
-        requires planner { IsPlanner t.now self.old }
-        requires step { IsStep t.now step.now }
-        requires open { ¬ IsGoal t.now step.now.next }
+    /// the step is barred. Returns false only if more states than the budget are reachable.
+    fn settle(&mut self, alloc: Global, step: &Step) -> Result<bool, NoMemory>
+        requires planner { IsPlanner self.old }
+        requires step { IsStep self.old.task.now step.now }
+        requires open { ¬ IsGoal self.old.task.now step.now.next }
         requires free { ¬ IsBarred self.old.draft.pairs step.now.act step.now.state }
-        ensures planner { OnOk result (IsPlanner t.now self.new) }
-        ensures settled { IfOk result (λ within. within ≡ true → IsSettled t.now self.new.draft step.now) }
-        ensures past { IfOk result (λ within. within ≡ false → IsPast t.now budget) }
-        ensures pairs { OnOk result (self.new.draft.pairs ≡ self.old.draft.pairs) }
+        ensures keeps { OnOk result (Keeps self.old self.new) }
+        ensures settled { IfOk result (λ within. within ≡ true → IsSettled self.old.task.now self.new.draft step.now) }
+        ensures past { IfOk result (λ within. within ≡ false → IsPast self.old.task.now self.old.budget) }
     {
-        self.leave(t, &step.state);
-        match self.find(alloc, t, budget, &step.next)? {
+        self.source.leave(&step.state);
+        match self.find(alloc, &step.next)? {
             Some(Found::Ruled) => Ok(true),
             Some(Found::Dead) => {
-                bar(alloc, t, &mut self.draft, step)?;
+                bar(alloc, self.task, &mut self.draft, step)?;
                 Ok(true)
             }
             None => Ok(false),
         }
     }
 
-    /// Settles the next state of a step if it is no goal and no rule holds in it. Returns false only if more than `budget` states
+    /// Settles the next state of a step if it is no goal and no rule holds in it. Returns false only if more states than the budget
     /// are reachable.
-    pub(crate) fn settle_next(
-        &mut self,
-        alloc: Global,
-        t: &Task,
-        budget: u32,
-        step: &Step,
-    ) -> Result<bool, NoMemory>
-        requires few { budget ≤ 1000000 }
-        requires planner { IsPlanner t.now self.old }
-        requires step { IsStep t.now step.now }
+    pub(crate) fn settle_next(&mut self, alloc: Global, step: &Step) -> Result<bool, NoMemory>
+        requires planner { IsPlanner self.old }
+        requires step { IsStep self.old.task.now step.now }
         requires free { ¬ IsBarred self.old.draft.pairs step.now.act step.now.state }
-        ensures planner { OnOk result (IsPlanner t.now self.new) }
-        ensures past { IfOk result (λ within. within ≡ false → IsPast t.now budget) }
-        ensures pairs { OnOk result (self.new.draft.pairs ≡ self.old.draft.pairs) }
+        ensures keeps { OnOk result (Keeps self.old self.new) }
+        ensures past { IfOk result (λ within. within ≡ false → IsPast self.old.task.now self.old.budget) }
     {
-        if is_goal(t, &step.next) {
+        if is_goal(self.task, &step.next) {
             return Ok(true);
         }
         if self.draft.rules.select(&step.next).is_some() {
             return Ok(true);
         }
-        let within = self.settle(alloc, t, budget, step)?;
+        let within = self.settle(alloc, step)?;
         Ok(within)
     }
 
     /// Takes a step: adds its next state to the states unless it is a goal, and settles it if no rule holds in it. Returns
-    /// false only if more than `budget` states are reachable, which is also so if there are too many states to walk on.
-    fn take(
-        &mut self,
-        alloc: Global,
-        t: &Task,
-        budget: u32,
-        step: &Step,
-        states: &mut Store,
-    ) -> Result<bool, NoMemory>
-        requires few { budget ≤ 1000000 }
-        requires planner { IsPlanner t.now self.old }
-        requires step { IsStep t.now step.now }
-        requires reachable { AreReachable t.now states.old }
+    /// false only if more states than the budget are reachable, which is also so if there are too many states to walk on.
+    fn take(&mut self, alloc: Global, step: &Step, states: &mut Store) -> Result<bool, NoMemory>
+        requires planner { IsPlanner self.old }
+        requires step { IsStep self.old.task.now step.now }
+        requires reachable { AreReachable self.old.task.now states.old }
         requires free { ¬ IsBarred self.old.draft.pairs step.now.act step.now.state }
-        ensures planner { OnOk result (IsPlanner t.now self.new) }
-        ensures reachable { OnOk result (AreReachable t.now states.new) }
-        ensures past { IfOk result (λ within. within ≡ false → IsPast t.now budget) }
-        ensures pairs { OnOk result (self.new.draft.pairs ≡ self.old.draft.pairs) }
+        ensures keeps { OnOk result (Keeps self.old self.new) }
+        ensures reachable { OnOk result (AreReachable self.new.task.now states.new) }
+        ensures past { IfOk result (λ within. within ≡ false → IsPast self.old.task.now self.old.budget) }
     {
-        if is_goal(t, &step.next) || states.find(&step.next).is_some() {
+        if is_goal(self.task, &step.next) || states.find(&step.next).is_some() {
             return Ok(true);
         }
-        if states.len() >= walk_limit(t) {
+        if states.len() >= walk_limit(self.task) {
             return Ok(false);
         }
         states.add(step.next.copy(alloc)?)?;
-        let within = self.settle_next(alloc, t, budget, step)?;
+        let within = self.settle_next(alloc, step)?;
         Ok(within)
     }
 
-    /// Takes the step of each outcome of a step's action in its state. Returns false only if more than `budget` states are
+    /// Takes the step of each outcome of a step's action in its state. Returns false only if more states than the budget are
     /// reachable.
     fn take_all(
         &mut self,
         alloc: Global,
-        t: &Task,
-        budget: u32,
         step: &mut Step,
         states: &mut Store,
     ) -> Result<bool, NoMemory>
-        requires few { budget ≤ 1000000 }
-        requires planner { IsPlanner t.now self.old }
-        requires outset { IsOutset t.now step.old }
-        requires reachable { AreReachable t.now states.old }
+        requires planner { IsPlanner self.old }
+        requires outset { IsOutset self.old.task.now step.old }
+        requires reachable { AreReachable self.old.task.now states.old }
         requires free { ¬ IsBarred self.old.draft.pairs step.old.act step.old.state }
-        ensures planner { OnOk result (IsPlanner t.now self.new) }
-        ensures reachable { OnOk result (AreReachable t.now states.new) }
+        ensures keeps { OnOk result (Keeps self.old self.new) }
+        ensures reachable { OnOk result (AreReachable self.new.task.now states.new) }
         ensures same { step.new.state ≡ step.old.state }
         ensures long { length step.new.next ≡ length step.old.next }
-        ensures past { IfOk result (λ within. within ≡ false → IsPast t.now budget) }
-        ensures pairs { OnOk result (self.new.draft.pairs ≡ self.old.draft.pairs) }
+        ensures past { IfOk result (λ within. within ≡ false → IsPast self.old.task.now self.old.budget) }
     {
-        for outcome in 0..t.acts.get(step.act as usize).outcomes.len() {
+        let task = self.task;
+        for outcome in 0..task.acts.get(step.act as usize).outcomes.len() {
             step.outcome = outcome as u32;
-            apply_into(t, &step.state, step.act, step.outcome, &mut step.next);
-            if !self.take(alloc, t, budget, step, states)? {
+            apply_into(task, &step.state, step.act, step.outcome, &mut step.next);
+            if !self.take(alloc, step, states)? {
                 return Ok(false);
             }
         }
@@ -252,16 +224,16 @@ impl<S: Source> Planner<S> {
 
     /// Sets the action of a step to that of the first rule that holds in its state. Returns false if the state is a goal, or if no
     /// rule holds in it.
-    pub(crate) fn set_act(&self, t: &Task, step: &mut Step) -> bool
-        requires planner { IsPlanner t.now self.now }
-        requires here { IsReachable t.now t.now.init step.old.state }
-        requires next_long { length step.old.next ≡ length t.now.atoms }
+    pub(crate) fn set_act(&self, step: &mut Step) -> bool
+        requires planner { IsPlanner self.now }
+        requires here { IsReachable self.now.task.now self.now.task.now.init step.old.state }
+        requires next_long { length step.old.next ≡ length self.now.task.now.atoms }
         ensures same { step.new.state ≡ step.old.state }
         ensures next { step.new.next ≡ step.old.next }
-        ensures outset { result ≡ true → IsOutset t.now step.new }
+        ensures outset { result ≡ true → IsOutset self.now.task.now step.new }
         ensures free { result ≡ true → ¬ IsBarred self.now.draft.pairs step.new.act step.new.state }
     {
-        if is_goal(t, &step.state) {
+        if is_goal(self.task, &step.state) {
             return false;
         }
         let Some(rule) = self.draft.rules.select(&step.state) else {
@@ -272,48 +244,42 @@ impl<S: Source> Planner<S> {
     }
 
     /// Takes the steps out of a state by the first rule that holds in it, unless it is a goal. Returns false only if more
-    /// than `budget` states are reachable.
+    /// states than the budget are reachable.
     fn visit(
         &mut self,
         alloc: Global,
-        t: &Task,
-        budget: u32,
         step: &mut Step,
         states: &mut Store,
     ) -> Result<bool, NoMemory>
-        requires few { budget ≤ 1000000 }
-        requires planner { IsPlanner t.now self.old }
-        requires here { IsReachable t.now t.now.init step.old.state }
-        requires next_long { length step.old.next ≡ length t.now.atoms }
-        requires reachable { AreReachable t.now states.old }
-        ensures planner { OnOk result (IsPlanner t.now self.new) }
-        ensures reachable { OnOk result (AreReachable t.now states.new) }
+        requires planner { IsPlanner self.old }
+        requires here { IsReachable self.old.task.now self.old.task.now.init step.old.state }
+        requires next_long { length step.old.next ≡ length self.old.task.now.atoms }
+        requires reachable { AreReachable self.old.task.now states.old }
+        ensures keeps { OnOk result (Keeps self.old self.new) }
+        ensures reachable { OnOk result (AreReachable self.new.task.now states.new) }
         ensures same { step.new.state ≡ step.old.state }
         ensures long { length step.new.next ≡ length step.old.next }
-        ensures past { IfOk result (λ within. within ≡ false → IsPast t.now budget) }
-        ensures pairs { OnOk result (self.new.draft.pairs ≡ self.old.draft.pairs) }
+        ensures past { IfOk result (λ within. within ≡ false → IsPast self.old.task.now self.old.budget) }
     {
-        if !self.set_act(t, step) {
+        if !self.set_act(step) {
             return Ok(true);
         }
-        self.take_all(alloc, t, budget, step, states)
+        self.take_all(alloc, step, states)
     }
 
     /// Finds out about the initial state, if it is no goal and no rule holds in it.
-    fn begin(&mut self, alloc: Global, t: &Task, budget: u32) -> Result<Begun, NoMemory>
-        requires few { budget ≤ 1000000 }
-        requires planner { IsPlanner t.now self.old }
-        ensures planner { OnOk result (IsPlanner t.now self.new) }
-        ensures begun { IfOk result (IsBegun t.now budget self.new.draft) }
-        ensures pairs { OnOk result (self.new.draft.pairs ≡ self.old.draft.pairs) }
+    fn begin(&mut self, alloc: Global) -> Result<Begun, NoMemory>
+        requires { IsPlanner self.old }
+        ensures keeps { OnOk result (Keeps self.old self.new) }
+        ensures begun { IfOk result (IsBegun self.old.task.now self.old.budget self.new.draft) }
     {
-        if is_goal(t, &t.init) {
+        if is_goal(self.task, &self.task.init) {
             return Ok(Begun::Ruled);
         }
-        if self.draft.rules.select(&t.init).is_some() {
+        if self.draft.rules.select(&self.task.init).is_some() {
             return Ok(Begun::Ruled);
         }
-        match self.find(alloc, t, budget, &t.init)? {
+        match self.find(alloc, &self.task.init)? {
             Some(Found::Ruled) => Ok(Begun::Ruled),
             Some(Found::Dead) => Ok(Begun::Lost),
             None => Ok(Begun::Past),
@@ -324,24 +290,20 @@ impl<S: Source> Planner<S> {
     fn walk_on(
         &mut self,
         alloc: Global,
-        t: &Task,
-        budget: u32,
         step: &mut Step,
         states: &mut Store,
     ) -> Result<bool, NoMemory>
-        requires few { budget ≤ 1000000 }
-        requires planner { IsPlanner t.now self.old }
-        requires reachable { AreReachable t.now states.old }
-        requires state_long { length step.old.state ≡ length t.now.atoms }
-        requires next_long { length step.old.next ≡ length t.now.atoms }
-        ensures planner { OnOk result (IsPlanner t.now self.new) }
-        ensures past { IfOk result (λ within. within ≡ false → IsPast t.now budget) }
-        ensures pairs { OnOk result (self.new.draft.pairs ≡ self.old.draft.pairs) }
+        requires planner { IsPlanner self.old }
+        requires reachable { AreReachable self.old.task.now states.old }
+        requires state_long { length step.old.state ≡ length self.old.task.now.atoms }
+        requires next_long { length step.old.next ≡ length self.old.task.now.atoms }
+        ensures keeps { OnOk result (Keeps self.old self.new) }
+        ensures past { IfOk result (λ within. within ≡ false → IsPast self.old.task.now self.old.budget) }
     {
         let mut at = 0;
         while at < states.len() {
             step.state.copy_from(states.get(at));
-            if !self.visit(alloc, t, budget, step, states)? {
+            if !self.visit(alloc, step, states)? {
                 return Ok(false);
             }
             at += 1;
@@ -350,35 +312,31 @@ impl<S: Source> Planner<S> {
     }
 
     /// Walks through all states that the rules reach from the initial state, as `round` does.
-    fn walk(&mut self, alloc: Global, t: &Task, budget: u32) -> Result<bool, NoMemory>
-        requires few { budget ≤ 1000000 }
-        requires planner { IsPlanner t.now self.old }
-        ensures planner { OnOk result (IsPlanner t.now self.new) }
-        ensures past { IfOk result (λ within. within ≡ false → IsPast t.now budget) }
-        ensures pairs { OnOk result (self.new.draft.pairs ≡ self.old.draft.pairs) }
+    fn walk(&mut self, alloc: Global) -> Result<bool, NoMemory>
+        requires { IsPlanner self.old }
+        ensures keeps { OnOk result (Keeps self.old self.new) }
+        ensures past { IfOk result (λ within. within ≡ false → IsPast self.old.task.now self.old.budget) }
     {
-        let mut step = first_step(alloc, t)?;
-        let mut states = one_state(alloc, &t.init)?;
-        self.walk_on(alloc, t, budget, &mut step, &mut states)
+        let mut step = first_step(alloc, self.task)?;
+        let mut states = one_state(alloc, &self.task.init)?;
+        self.walk_on(alloc, &mut step, &mut states)
     }
 
     /// Settles each state without a rule that the rules reach from the initial state, which is a goal or has a rule: along a sketch
     /// of a cover, or in a walk through all these states if there is none, or too much to do for it.
-    fn settle_all(&mut self, alloc: Global, t: &Task, budget: u32) -> Result<Round, NoMemory>
-        requires few { budget ≤ 1000000 }
-        requires planner { IsPlanner t.now self.old }
-        ensures planner { OnOk result (IsPlanner t.now self.new) }
-        ensures round { IfOk result (IsRound t.now budget self.new.draft) }
-        ensures pairs { OnOk result (self.new.draft.pairs ≡ self.old.draft.pairs) }
+    fn settle_all(&mut self, alloc: Global) -> Result<Round, NoMemory>
+        requires { IsPlanner self.old }
+        ensures keeps { OnOk result (Keeps self.old self.new) }
+        ensures round { IfOk result (IsRound self.old.task.now self.old.budget self.new.draft) }
     {
         if self.sketches {
-            match self.walk_sketch(alloc, t, budget)? {
+            match self.walk_sketch(alloc)? {
                 Sketched::Walked(items) => return Ok(Round::Walked(items)),
                 Sketched::Past => return Ok(Round::Past),
                 Sketched::GaveUp => {}
             }
         }
-        if self.walk(alloc, t, budget)? {
+        if self.walk(alloc)? {
             Ok(Round::Walked(None))
         } else {
             Ok(Round::Past)
@@ -387,15 +345,13 @@ impl<S: Source> Planner<S> {
 
     /// Makes rules for the initial state, and settles each state that the rules reach in which none holds: rules are added, or a
     /// fresh pair bars the action that led there.
-    pub(crate) fn round(&mut self, alloc: Global, t: &Task, budget: u32) -> Result<Round, NoMemory>
-        requires few { budget ≤ 1000000 }
-        requires planner { IsPlanner t.now self.old }
-        ensures planner { OnOk result (IsPlanner t.now self.new) }
-        ensures round { IfOk result (IsRound t.now budget self.new.draft) }
-        ensures pairs { OnOk result (self.new.draft.pairs ≡ self.old.draft.pairs) }
+    pub(crate) fn round(&mut self, alloc: Global) -> Result<Round, NoMemory>
+        requires { IsPlanner self.old }
+        ensures keeps { OnOk result (Keeps self.old self.new) }
+        ensures round { IfOk result (IsRound self.old.task.now self.old.budget self.new.draft) }
     {
-        match self.begin(alloc, t, budget)? {
-            Begun::Ruled => self.settle_all(alloc, t, budget),
+        match self.begin(alloc)? {
+            Begun::Ruled => self.settle_all(alloc),
             Begun::Lost => Ok(Round::Lost),
             Begun::Past => Ok(Round::Past),
         }

@@ -10,4 +10,4 @@ returns-clause-more g c = λ still.
     let some : ¬ length draft.fresh.items ≡ 0 = λ none.
     let empty : c.is_empty.result ≡ true = c.is_empty.ensures ∙ (Decides-eqb draft.fresh.len 0).1 (omega (arith, none, draft.fresh.ok.0)) in
     false≢true (sym (ap not empty) ∙ still) in
-    more_than c.args.t.now draft.pairs draft.fresh.items c.heed_fresh.new.self.pairs c.requires.draft.more some c.in_ok-heed_fresh.ensures.moved
+    more_than c.args.self.now.task.now draft.pairs draft.fresh.items c.heed_fresh.new.self.pairs c.requires.draft.more some c.in_ok-heed_fresh.ensures.moved

@@ -1,8 +1,7 @@
-use Rattle.std.proofs.Common.{◌≡◌}
-use Rattle.fond_planner.specs.Planners.{IsPlanner}
+use Rattle.fond_planner.specs.Planners.{Keeps}
 use Rattle.fond_planner.specs.Walks.{IsTrail}
 use Rattle.fond_planner.proofs.planner.Planner.follow_all.Given as goal
 
--- the planner and the trail stay those of the task, and the pairs the same
+-- the planner goes on from the one at the start, and the trail is one of its task
 abbrev pub invariant-loop-edge : goal.invariant-loop-edge
-invariant-loop-edge g l = IsPlanner l.t l.self × IsTrail l.t l.trail × (l.self.draft.pairs ≡ l.initial.self.draft.pairs)
+invariant-loop-edge g l = Keeps l.initial.self l.self × IsTrail l.self.task.now l.trail

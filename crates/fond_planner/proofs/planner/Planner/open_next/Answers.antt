@@ -5,7 +5,7 @@ use Rattle.fond_draft.proofs.Turned.{turn_next, turn_there}
 use Rattle.fond_planner.proofs.planner.Planner.open_next.Goals as goal
 
 pub get-requires : goal.get-requires
-get-requires g c = turn_there c.args.t.now c.args.turn.now c.requires.turn
+get-requires g c = turn_there c.args.self.now.task.now c.args.turn.now c.requires.turn
 
 pub dead-requires : goal.dead-requires
 dead-requires g c =
@@ -13,5 +13,5 @@ dead-requires g c =
 
 pub returns-clause-reachable : goal.returns-clause-reachable
 returns-clause-reachable g c =
-    let task = c.args.t.now in
+    let task = c.args.self.now.task.now in
     subst (IsReachable task task.init) (sym c.in_ok-copy.ensures) (turn_next task c.args.turn.now c.requires.turn c.in-Some.outcome c.first_open.new.next c.in-Some.ensures.open)

@@ -10,16 +10,16 @@ use Rattle.fond_draft.proofs.Rules.{selected_holds}
 use Rattle.fond_planner.proofs.planner.Planner.set_act.Goals as goal
 
 pub is_goal-requires : goal.is_goal-requires
-is_goal-requires g c = reachable_long c.args.t.now c.args.t.now.init c.args.t.now.init_long c.args.step.now.state c.requires.here
+is_goal-requires g c = reachable_long c.args.self.now.task.now c.args.self.now.task.now.init c.args.self.now.task.now.init_long c.args.step.now.state c.requires.here
 
 pub select-requires : goal.select-requires
 select-requires g c =
-    let long = reachable_long c.args.t.now c.args.t.now.init c.args.t.now.init_long c.args.step.now.state c.requires.here in
+    let long = reachable_long c.args.self.now.task.now c.args.self.now.task.now.init c.args.self.now.task.now.init_long c.args.step.now.state c.requires.here in
     subst (λ (n : ℕ). AreOver n c.args.self.now.draft.rules) (sym long) c.requires.planner.draft.rules.belong.over
 
 pub returns-clause-outset : goal.returns-clause-outset
 returns-clause-outset g c = λ yes.
-    let task = c.args.t.now in
+    let task = c.args.self.now.task.now in
     let draft = c.args.self.now.draft in
     let rule = c.get.result.now in
     let lean = c.requires.planner.draft.rules.lean c.in-Some.rule rule c.get.ensures in

@@ -9,7 +9,7 @@ use Rattle.fond_planner.proofs.planner.Planner.set_out.Goals as goal
 pub apply_into-requires-clause-long : goal.apply_into-requires-clause-long
 apply_into-requires-clause-long g c =
     let outset = c.set_act.ensures.outset c.if-not-set_act.false in
-    reachable_long c.args.t.now c.args.t.now.init c.args.t.now.init_long c.set_act.new.step.state outset.reachable
+    reachable_long c.args.self.now.task.now c.args.self.now.task.now.init c.args.self.now.task.now.init_long c.set_act.new.step.state outset.reachable
 
 pub returns-then-not-set_act-clause-step : goal.returns-then-not-set_act-clause-step
 returns-then-not-set_act-clause-step g c = λ e. absurd (false≢true e)
@@ -20,7 +20,7 @@ returns-then-not-set_act-clause-free g c = λ e. absurd (false≢true e)
 pub get-requires : goal.get-requires
 get-requires g c =
     let outset = c.set_act.ensures.outset c.if-not-set_act.false in
-    slice_get_within c.args.t.now.acts c.set_act.new.step.act outset.act outset.has_act
+    slice_get_within c.args.self.now.task.now.acts c.set_act.new.step.act outset.act outset.has_act
 
 pub returns-then-outcome-len-clause-step : goal.returns-then-outcome-len-clause-step
 returns-then-outcome-len-clause-step g c = λ e. absurd (false≢true e)
@@ -45,7 +45,7 @@ apply_into-requires-clause-applicable g c = λ a at.
 pub apply_into-requires-clause-there : goal.apply_into-requires-clause-there
 apply_into-requires-clause-there g c =
     let outset = c.set_act.ensures.outset c.if-not-set_act.false in
-    slice_get_within c.args.t.now.acts c.set_act.new.step.act outset.act outset.has_act
+    slice_get_within c.args.self.now.task.now.acts c.set_act.new.step.act outset.act outset.has_act
 
 pub returns-clause-step : goal.returns-clause-step
 returns-clause-step g c = λ yes.
