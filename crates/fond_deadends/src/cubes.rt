@@ -229,14 +229,23 @@ impl CubeSet {
         self.first_of_others(view, NONE)
     }
 
-    /// The number of the first cube that holds in the state, or `NONE`. Takes time as `holds` does.
-    pub fn first(&self, state: &[u64]) -> u32 {
-        let view = View::of_state(state);
+    /// The number of the first of the cubes in which the view lies, or `NONE`. Takes time as `some` does if there is none.
+    fn first_with(&self, view: View<'_>) -> u32 {
         let mut first = self.whole.unwrap_or(NONE);
         for word in 0..view.width() {
             first = self.first_under(view, word, first);
         }
         self.first_of_others(view, first)
+    }
+
+    /// The number of the first cube that holds in the state, or `NONE`. Takes time as `holds` does.
+    pub fn first(&self, state: &[u64]) -> u32 {
+        self.first_with(View::of_state(state))
+    }
+
+    /// The number of the first cube in which the partial state lies, or `NONE`. Takes time as `cover` does.
+    pub fn first_cover(&self, part: &Part) -> u32 {
+        self.first_with(View::of_part(part))
     }
 
     /// Whether one of the cubes holds in the state. Takes time in the width of the state, in the number of cubes under its true atoms,

@@ -51,13 +51,11 @@ pub(crate) struct Far<'a> {
     /// The cubes of the layers.
     dead: &'a CubeSet,
     weights: Box<Weights>,
-    piles: Vec<Pile>,
+    pub(crate) piles: Vec<Pile>,
     stack: Vec<Aim>,
     pad: Box<Pad>,
     /// The action that did harm last, which is looked at first.
     blamed: u32,
-    /// Whether a needed cube leads into a layer.
-    pub(crate) uses_layers: bool,
 }
 
 impl<'a> Far<'a> {
@@ -82,13 +80,7 @@ impl<'a> Far<'a> {
             stack: Vec::new(alloc),
             pad: Pad::new(alloc, board.moves.atoms, board.moves.width)?,
             blamed: 0,
-            uses_layers: false,
         })
-    }
-
-    /// The lists.
-    pub(crate) fn piles(&self) -> &[Pile] {
-        self.piles.as_slice()
     }
 
     /// The number of cubes of a list.
@@ -126,7 +118,7 @@ impl<'a> Far<'a> {
             if self.dead.cover(&self.pad.image).is_some() {
                 return true;
             }
-            let leads = pile.cover(&self.pad.image) != NONE;
+            let leads = pile.covers(&self.pad.image);
             some_leads |= leads;
             each_leads &= leads;
         }
@@ -379,75 +371,12 @@ impl<'a> Far<'a> {
         }
     }
 
-    /// Notes which cubes of the list a cube of the list after it needs, for the sake of an action.
-    fn mark(&mut self, list: u32, act: u32) {
-        let board = self.board;
-        let Some(one) = board.moves.acts.get(act as usize) else {
-            return;
-        };
-        let Some(pile) = self.piles.get_mut(list as usize) else {
-            return;
-        };
-        if matches!(one.needs.value(&self.pad.part), Kleene::No) {
-            return;
-        }
-        for effect in one.effects.iter() {
-            self.pad.enter(effect);
-            if self.dead.cover(&self.pad.image).is_some() {
-                self.uses_layers = true;
-                return;
-            }
-        }
-        for effect in one.effects.iter() {
-            self.pad.enter(effect);
-            let cube = pile.cover(&self.pad.image);
-            if let Some(flag) = pile.needed.get_mut(cube as usize) {
-                *flag = true;
-                if one.unfair {
-                    return;
-                }
-            }
-        }
-    }
-
-    /// Notes which cubes of the list before the needed ones of a list need.
-    fn mark_all(&mut self, list: u32) {
-        for number in 0..self.count(list) {
-            let Some(pile) = self.piles.get(list as usize) else {
-                return;
-            };
-            if pile.needed.get(number as usize) != Some(&true) {
-                continue;
-            }
-            self.pad.begin(&[], pile.masks(number));
-            for act in 0..size(self.board.moves.acts.len()) {
-                self.mark(list.saturating_sub(1), act);
-            }
-        }
-    }
-
-    /// Notes which cubes are needed for the sake of a won state in the last list.
-    fn mark_needed(&mut self, state: u32) {
-        let last = size(self.piles.len()).saturating_sub(1);
-        let board = self.board;
-        let number = self.find(last, board.states.get(state));
-        if let Some(pile) = self.piles.get_mut(last as usize) {
-            if let Some(flag) = pile.needed.get_mut(number as usize) {
-                *flag = true;
-            }
-        }
-        for after in 0..last {
-            self.mark_all(last.saturating_sub(after));
-        }
-    }
-
     /// Makes lists in the last of which a won state lies. Returns false if its rank is too small.
     pub(crate) fn search(&mut self, alloc: Global, state: u32) -> Result<bool, NoMemory> {
         let list = size(self.piles.len()).saturating_sub(1);
         self.stack.push(Aim { list, state })?;
         for _ in 0..u64::MAX {
             let Some(aim) = self.stack.last() else {
-                self.mark_needed(state);
                 return Ok(true);
             };
             let aim = *aim;

@@ -10,11 +10,10 @@ use std::alloc::Global;
 /// So many cubes are looked at one by one. More are filed by their literals.
 const FEW: usize = 16;
 
-/// The cubes of a far list, and which of them are needed. The set, if there is one, has copies of them all.
+/// Cubes in the order in which they were added. The set, if there is one, has copies of them all.
 #[derive(Drop)]
 pub(crate) struct Pile {
     cubes: Vec<Masks>,
-    pub(crate) needed: Vec<bool>,
     set: Option<Box<CubeSet>>,
 }
 
@@ -23,6 +22,15 @@ fn copy_of(alloc: Global, masks: &[Mask]) -> Result<Masks, NoMemory> {
     let mut copy = Vec::new(alloc);
     copy.extend_from_slice(masks)?;
     Ok(copy)
+}
+
+/// The number of literals.
+fn count_literals(masks: &[Mask]) -> u32 {
+    let mut count: u32 = 0;
+    for mask in masks {
+        count = count.saturating_add(mask.care.count_ones());
+    }
+    count
 }
 
 /// Whether a partial state has all the literals.
@@ -42,7 +50,6 @@ impl Pile {
     pub(crate) fn new(alloc: Global) -> Pile {
         Pile {
             cubes: Vec::new(alloc),
-            needed: Vec::new(alloc),
             set: None,
         }
     }
@@ -73,10 +80,10 @@ impl Pile {
         NONE
     }
 
-    /// The number of a cube in which a partial state lies, or `NONE`.
-    pub(crate) fn cover(&self, part: &Part) -> u32 {
+    /// The number of the first cube in which a partial state lies, or `NONE`.
+    pub(crate) fn first_cover(&self, part: &Part) -> u32 {
         if let Some(set) = &self.set {
-            return set.cover(part).unwrap_or(NONE);
+            return set.first_cover(part);
         }
         for (number, masks) in self.cubes.iter().enumerate() {
             if are_known(masks, part) {
@@ -84,6 +91,14 @@ impl Pile {
             }
         }
         NONE
+    }
+
+    /// Whether a partial state lies in one of the cubes.
+    pub(crate) fn covers(&self, part: &Part) -> bool {
+        match &self.set {
+            Some(set) => set.cover(part).is_some(),
+            None => self.first_cover(part) != NONE,
+        }
     }
 
     /// Files all cubes.
@@ -108,10 +123,40 @@ impl Pile {
             set.add(copy_of(alloc, &masks)?)?;
         }
         self.cubes.push(masks)?;
-        self.needed.push(false)?;
         if self.set.is_none() && self.cubes.len() > FEW {
             self.file_all(alloc, atoms, width)?;
         }
         Ok(())
+    }
+
+    /// Adds a copy of the cube of this number, over this many atoms and words, to other cubes.
+    pub(crate) fn add_copy(
+        &self,
+        alloc: Global,
+        atoms: u32,
+        width: u32,
+        number: u32,
+        into: &mut Pile,
+    ) -> Result<(), NoMemory> {
+        into.add(alloc, atoms, width, copy_of(alloc, self.masks(number))?)
+    }
+
+    /// Copies of the cubes, over this many atoms and words, by rising numbers of literals.
+    pub(crate) fn widest_first(
+        &self,
+        alloc: Global,
+        atoms: u32,
+        width: u32,
+    ) -> Result<Pile, NoMemory> {
+        let mut order = Vec::new(alloc);
+        for number in 0..self.len() {
+            order.push(number)?;
+        }
+        order.sort_by_key(|number| count_literals(self.masks(*number)))?;
+        let mut sorted = Pile::new(alloc);
+        for number in &order {
+            self.add_copy(alloc, atoms, width, *number, &mut sorted)?;
+        }
+        Ok(sorted)
     }
 }

@@ -5,6 +5,7 @@ ghost use Rattle.std.specs.Prelude.{◌≡◌, length};
 use crate::board::{Board, Side};
 use crate::far::Far;
 use crate::making::rules_from;
+use crate::needed::Needed;
 use crate::pile::Pile;
 use crate::ranks::ranks_of;
 use fond_best::belongs::do_rules_belong;
@@ -84,21 +85,19 @@ fn cube_by(alloc: Global, board: &Board, masks: &[Mask]) -> Result<Cube, NoMemor
     cube_of(alloc, &part.value, &part.care, board.moves.atoms)
 }
 
-/// The cubes of a pile that are needed.
+/// The cubes of a pile.
 fn layer_of(alloc: Global, board: &Board, pile: &Pile) -> Result<Layer, NoMemory> {
     let mut layer = Layer::new(alloc);
     for number in 0..pile.len() {
-        if pile.needed.get(number as usize) == Some(&true) {
-            layer.push(cube_by(alloc, board, pile.masks(number))?)?;
-        }
+        layer.push(cube_by(alloc, board, pile.masks(number))?)?;
     }
     Ok(layer)
 }
 
-/// The lists of the cubes of piles.
+/// The lists of the cubes of piles, which are from the last one to the first.
 fn lists_of(alloc: Global, board: &Board, piles: &[Pile]) -> Result<Layers, NoMemory> {
     let mut lists = Layers::new(alloc);
-    for pile in piles {
+    for pile in piles.iter().rev() {
         let layer = layer_of(alloc, board, pile)?;
         if lists.len() >= u32::MAX - 1 || layer.len() > u32::MAX as usize {
             return Err(NoMemory);
@@ -125,8 +124,10 @@ pub(crate) fn bounds_by(
     if !search.search(alloc, start)? {
         return Err(NoMemory);
     }
-    let far = lists_of(alloc, board, search.piles())?;
-    if search.uses_layers {
+    let mut needed = Needed::new(alloc, board, &dead)?;
+    let piles = needed.of(alloc, search.piles, board.states.get(start))?;
+    let far = lists_of(alloc, board, piles.as_slice())?;
+    if needed.uses_layers {
         return Ok(Bounds { layers, far });
     }
     let layers = Layers::new(alloc);
