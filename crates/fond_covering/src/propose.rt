@@ -1,6 +1,7 @@
 //! Proposals of covers.
 
 use crate::sketch::{Looked, Sketch};
+use fond_moves::moves::Moves;
 use fond_policy::items::Items;
 use fond_rules::rules::Rules;
 use fond_task::task::Task;
@@ -18,7 +19,7 @@ fn add_rules(sketch: &mut Sketch, rules: &Rules) -> Result<(), NoMemory> {
 
 /// A sketch for these rules, which has not begun.
 fn sketch_of(alloc: Global, t: &Task, rules: &Rules) -> Result<Box<Sketch>, NoMemory> {
-    let mut sketch = Sketch::new(alloc, t)?;
+    let mut sketch = Sketch::new(alloc, Moves::shared(alloc, t)?)?;
     add_rules(&mut sketch, rules)?;
     Ok(sketch)
 }

@@ -21,6 +21,7 @@ use fond_policy::items::Items;
 use fond_state::cube::Cube;
 use fond_state::state::State;
 use fond_task::plan_step::PlanStep;
+use fond_task::shared::Shared;
 use fond_task::task::{Outcome, Task};
 use fond_text::fault::NoMemory;
 use fond_text::list::List;
@@ -72,7 +73,7 @@ struct Scratch {
 /// A cover that is being made, for rules in order.
 #[derive(Drop)]
 pub struct Sketch {
-    moves: Moves,
+    moves: Shared<Moves>,
     choices: Choices,
     nodes: Nodes,
     edges: Edges,
@@ -135,9 +136,8 @@ impl Scratch {
 }
 
 impl Sketch {
-    /// A sketch without rules and nodes. Takes time and memory in the size of the task.
-    pub fn new(alloc: Global, t: &Task) -> Result<Box<Sketch>, NoMemory> {
-        let moves = Moves::new(alloc, t)?;
+    /// A sketch without rules and nodes, for a task with these moves. Takes time and memory in the number of atoms.
+    pub fn new(alloc: Global, moves: Shared<Moves>) -> Result<Box<Sketch>, NoMemory> {
         let choices = Choices::new(alloc, moves.atoms, moves.width)?;
         let scratch = Scratch::new(alloc, moves.width)?;
         let nodes = Nodes::new(alloc, moves.width);

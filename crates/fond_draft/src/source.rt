@@ -2,9 +2,11 @@
 
 use crate::draft::Draft;
 use fond_layers::layers::Layers;
+use fond_moves::moves::Moves;
 use fond_state::cube::Cube;
 use fond_state::state::State;
 use fond_task::hint::{Hint, LayerHint};
+use fond_task::shared::Shared;
 use fond_task::task::Task;
 use fond_text::fault::NoMemory;
 use std::alloc::Global;
@@ -26,8 +28,14 @@ pub trait Source: Drop {
     /// A source that was not asked yet. It takes no memory.
     fn new() -> Self;
 
-    /// Sets how much the next searches may do.
-    fn allow(&mut self, alloc: Global, t: &Task, effort: Effort) -> Result<(), NoMemory>;
+    /// Sets how much the next searches may do. The moves are those of the task.
+    fn allow(
+        &mut self,
+        alloc: Global,
+        t: &Task,
+        moves: &Shared<Moves>,
+        effort: Effort,
+    ) -> Result<(), NoMemory>;
 
     /// Proposes steps from the state to a goal, or to a state in which a rule of the draft holds, if a search finds some.
     fn plan(&mut self, alloc: Global, draft: &Draft, from: &State) -> Result<Hint, NoMemory>;

@@ -9,11 +9,13 @@ use fond_deadends::dead::Prover;
 use fond_deadends::layers::{LayerSearch, Limits as LayerLimits, Stage};
 use fond_deadends::project::Projector;
 use fond_moves::index::{clear_words, copy_words, put_bit, size};
+use fond_moves::moves::Moves;
 use fond_moves::part::Part;
 use fond_state::cube::Cube;
 use fond_state::state::State;
 use fond_task::hint::{Hint, LayerHint};
 use fond_task::plan_step::PlanStep;
+use fond_task::shared::Shared;
 use fond_task::task::Task;
 use fond_text::fault::NoMemory;
 use fond_text::list::List;
@@ -85,9 +87,9 @@ fn cube_of(alloc: Global, part: &Part, atoms: u32) -> Result<Cube, NoMemory> {
 }
 
 impl Engine {
-    /// An engine for a task. Takes time and memory in the size of the task.
-    pub fn new(alloc: Global, t: &Task) -> Result<Engine, NoMemory> {
-        let known = Known::new(alloc, t)?;
+    /// An engine for a task with these moves. Takes time and memory in the size of the task.
+    pub fn new(alloc: Global, t: &Task, moves: Shared<Moves>) -> Result<Engine, NoMemory> {
+        let known = Known::new(alloc, t, moves)?;
         let width = known.moves.width;
         let search = Search::new(alloc, &known)?;
         let prover = Prover::new(alloc, width)?;

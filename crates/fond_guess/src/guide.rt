@@ -4,10 +4,12 @@ use crate::engine::Engine;
 use fond_draft::draft::Draft;
 use fond_draft::source::{Effort, Source};
 use fond_layers::layers::{Layer, Layers};
+use fond_moves::moves::Moves;
 use fond_state::cube::Cube;
 use fond_state::state::State;
 use fond_task::hint::{Hint, LayerHint};
 use fond_task::rule::{Target, Targets};
+use fond_task::shared::Shared;
 use fond_task::task::Task;
 use fond_text::fault::NoMemory;
 use std::alloc::Global;
@@ -123,9 +125,15 @@ impl Source for Guide {
     }
 
     /// Makes the engine, if there is none, and lets the next searches do this much.
-    fn allow(&mut self, alloc: Global, t: &Task, effort: Effort) -> Result<(), NoMemory> {
+    fn allow(
+        &mut self,
+        alloc: Global,
+        t: &Task,
+        moves: &Shared<Moves>,
+        effort: Effort,
+    ) -> Result<(), NoMemory> {
         if self.engine.is_none() {
-            self.engine = Some(Engine::new(alloc, t)?);
+            self.engine = Some(Engine::new(alloc, t, moves.share()?)?);
         }
         self.effort = effort;
         Ok(())

@@ -13,6 +13,7 @@ use fond_moves::index::{NONE, copy_words, fill, link_at, put, size};
 use fond_moves::moves::Moves;
 use fond_moves::weight::Weights;
 use fond_task::plan_step::PlanStep;
+use fond_task::shared::Shared;
 use fond_task::task::Task;
 use fond_text::fault::NoMemory;
 use std::alloc::Global;
@@ -46,7 +47,7 @@ pub(crate) struct Responses {
 /// of the values that it owns.
 #[derive(Drop)]
 pub(crate) struct Known {
-    pub(crate) moves: Box<Moves>,
+    pub(crate) moves: Shared<Moves>,
     pub(crate) index: Box<ActIndex>,
     pub(crate) net: Box<Net>,
     pub(crate) weights: Box<Weights>,
@@ -57,11 +58,6 @@ pub(crate) struct Known {
     pub(crate) dead: Box<CubeSet>,
     pub(crate) bars: Box<Bars>,
     pub(crate) responses: Box<Responses>,
-}
-
-/// The moves of a task.
-fn moves_of(alloc: Global, task: &Task) -> Result<Box<Moves>, NoMemory> {
-    boxed(alloc, Moves::new(alloc, task)?)
 }
 
 impl Bars {
@@ -150,9 +146,12 @@ impl Responses {
 }
 
 impl Known {
-    /// What is known of a task at first.
-    pub(crate) fn new(alloc: Global, task: &Task) -> Result<Box<Known>, NoMemory> {
-        let moves = moves_of(alloc, task)?;
+    /// What is known at first of a task with these moves.
+    pub(crate) fn new(
+        alloc: Global,
+        task: &Task,
+        moves: Shared<Moves>,
+    ) -> Result<Box<Known>, NoMemory> {
         let index = ActIndex::new(alloc, &moves)?;
         let net = Net::new(alloc, task, &moves)?;
         let weights = Weights::new(alloc, task, moves.atoms)?;

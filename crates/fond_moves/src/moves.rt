@@ -145,6 +145,11 @@ impl Moves {
         Ok(moves)
     }
 
+    /// The actions of a task, for several owners.
+    pub fn shared(alloc: Global, task: &Task) -> Result<Shared<Moves>, NoMemory> {
+        Shared::new(alloc, Moves::new(alloc, task)?)
+    }
+
     /// The step of this number.
     pub fn step(&self, number: u32) -> PlanStep {
         let i = number as usize;

@@ -81,8 +81,8 @@ fn first_work(acts: usize) -> u64 {
     (acts as u64).saturating_mul(WORK_OF_ACT).max(30000000)
 }
 
-/// The stages before the last one of a task with so many actions that are all fair. A search takes about as long as opening the states
-/// of the stage that comes after it.
+/// The stages before the last one of a task with so many actions that are all fair. Searches may take several times as long as opening
+/// the states of the stage after them: their plans make rules for states that need never be opened.
 fn fair_stage(number: u32, quick: u32, acts: usize) -> Stage {
     match number {
         0 => stage_of(quick, u32::MAX, 4000, first_work(acts), 4000000),

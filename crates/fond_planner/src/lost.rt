@@ -97,7 +97,8 @@ impl<S: Source> Planner<'_, S> {
         requires { IsPlanner self.old }
         ensures { OnOk result (Keeps self.old self.new) }
     {
-        self.source.allow(alloc, self.task, lost_effort(layers))?;
+        self.source
+            .allow(alloc, self.task, &self.moves, lost_effort(layers))?;
         self.source.know_lost(layers)?;
         self.learn_around_all(alloc, layers)?;
         self.source.forget_lost()

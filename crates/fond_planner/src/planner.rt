@@ -9,16 +9,18 @@ use fond_draft::plan::Plan;
 use fond_draft::source::Source;
 use fond_explicit::act_index::ActIndex;
 use fond_explicit::filing::index_of;
+use fond_moves::moves::Moves;
 use fond_state::state::State;
+use fond_task::shared::Shared;
 use fond_task::task::Task;
 use fond_text::fault::NoMemory;
 use std::alloc::Global;
 
-/// A draft of a policy for a task, the plans from which its rules are made, an index of the task's actions, and a source of hints. At
-/// most `budget` states are opened from one state. `quick` states are opened before the source is asked next, and `too_few` is the
-/// largest number of opened states that settled nothing for some state. `opposed` tells whether an opponent picks some outcome, `stale`
-/// whether a plan came after rules that it makes needless, `restarts` how often rules were dropped for one, and `sketches` whether covers
-/// are still sketched.
+/// A draft of a policy for a task, the plans from which its rules are made, an index of the task's actions, its moves, which the source
+/// and each sketch of a cover own too, and a source of hints. At most `budget` states are opened from one state. `quick` states are opened
+/// before the source is asked next, and `too_few` is the largest number of opened states that settled nothing for some state. `opposed`
+/// tells whether an opponent picks some outcome, `stale` whether a plan came after rules that it makes needless, `restarts` how often
+/// rules were dropped for one, and `sketches` whether covers are still sketched.
 #[derive(Drop)]
 pub(crate) struct Planner<'t, S> {
     pub(crate) task: &'t Task,
@@ -26,6 +28,7 @@ pub(crate) struct Planner<'t, S> {
     pub(crate) draft: Draft,
     pub(crate) plans: Vec<Plan>,
     pub(crate) index: ActIndex,
+    pub(crate) moves: Shared<Moves>,
     pub(crate) source: S,
     pub(crate) quick: u32,
     pub(crate) too_few: u32,
@@ -55,6 +58,7 @@ impl<'t, S: Source> Planner<'t, S> {
             draft: Draft::new(alloc, task),
             plans: Vec::new(alloc),
             index: index_of(alloc, task)?,
+            moves: Moves::shared(alloc, task)?,
             source: S::new(),
             quick: quick_states(opposed),
             too_few: 0,

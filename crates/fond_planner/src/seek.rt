@@ -198,7 +198,8 @@ impl<S: Source> Planner<'_, S> {
         ensures keeps { OnOk result (Keeps self.old self.new) }
         ensures ruled { IfOk result (λ found. found ≡ true → HasRule self.new.draft.rules state.now) }
     {
-        self.source.allow(alloc, self.task, stage.effort)?;
+        self.source
+            .allow(alloc, self.task, &self.moves, stage.effort)?;
         let mut waiting = Vec::new(alloc);
         waiting.push(state.copy(alloc)?)?;
         self.seek_all(alloc, &mut waiting, stage.rules)?;

@@ -15,9 +15,11 @@ use crate::planner::Planner;
 use crate::walk::{Step, first_step};
 use fond_covering::sketch::{Edge, Looked, Sketch};
 use fond_draft::source::Source;
+use fond_moves::moves::Moves;
 use fond_policy::items::Items;
 use fond_policy::walk::one_state;
 use fond_store::store::Store;
+use fond_task::shared::Shared;
 use fond_task::step::apply_into;
 use fond_task::task::Task;
 use fond_text::fault::NoMemory;
@@ -53,11 +55,11 @@ pub(crate) enum Sketched {
     Past,
 }
 
-/// A trail that has not begun: its only state is the initial one.
-fn trail_of(alloc: Global, t: &Task) -> Result<Trail, NoMemory>
+/// A trail that has not begun: its only state is the initial one. The moves are those of the task.
+fn trail_of(alloc: Global, t: &Task, moves: &Shared<Moves>) -> Result<Trail, NoMemory>
     ensures { IfOk result (IsTrail t.now) }
 {
-    let sketch = Sketch::new(alloc, t)?;
+    let sketch = Sketch::new(alloc, moves.share()?)?;
     let states = one_state(alloc, &t.init)?;
     let step = first_step(alloc, t)?;
     Ok(Trail {
@@ -190,7 +192,7 @@ impl<S: Source> Planner<'_, S> {
         ensures keeps { OnOk result (Keeps self.old self.new) }
         ensures past { IfOk result (λ sketched. sketched ≡ IsPastSketch → IsPast self.old.task.now self.old.budget) }
     {
-        let mut trail = trail_of(alloc, self.task)?;
+        let mut trail = trail_of(alloc, self.task, &self.moves)?;
         self.walk_trail(alloc, &mut trail)
     }
 }

@@ -7,6 +7,7 @@ use crate::plan::is_plan;
 use crate::setting::Setting;
 use fond_guess::engine::Engine;
 use fond_layers::layers::{Layer, Layers};
+use fond_moves::moves::Moves;
 use fond_rules::pairs::Pairs;
 use fond_task::hint::Hint;
 use fond_task::plan_step::PlanSteps;
@@ -43,7 +44,8 @@ fn add_pairs(engine: &mut Engine, pairs: &Pairs) -> Result<(), NoMemory> {
 
 /// Steps at which the engine hints, if it has any. They may be wrong.
 fn hinted(alloc: Global, setting: &Setting, limit: u64) -> Result<Option<PlanSteps>, NoMemory> {
-    let mut engine = Engine::new(alloc, setting.task)?;
+    let moves = Moves::shared(alloc, setting.task)?;
+    let mut engine = Engine::new(alloc, setting.task, moves)?;
     add_layers(&mut engine, setting.layers)?;
     add_pairs(&mut engine, setting.pairs)?;
     let states = u32::try_from(limit).unwrap_or(u32::MAX);
