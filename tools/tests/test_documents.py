@@ -155,6 +155,18 @@ class Documents(unittest.TestCase):
                 count += 1
         print(f"documents: {count} certificates of the examples")
 
+    def test_version(self):
+        """The documents name the version that the launcher prints."""
+        version = re.search(r"^version=(.*)$", content("dualfond"), re.M)[1]
+        for name, said in (
+            ("README.md", r"This is version (\S+)"),
+            ("CHANGELOG.md", r"^## (\S+)"),
+            ("CITATION.cff", r"^version: (.*)$"),
+            ("docs/dualfond.1", r'"dualfond (\S+)"'),
+        ):
+            with self.subTest(document=name):
+                self.assertEqual(re.search(said, content(name), re.M)[1], version)
+
     def test_man_page(self):
         if not shutil.which("man"):
             self.skipTest("no man")
