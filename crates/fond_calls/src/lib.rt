@@ -17,11 +17,12 @@ mod explicit_tests;
 #[cfg(test)]
 mod law_tests;
 #[cfg(test)]
-#[cfg(test)]
 mod reader_tests;
 #[cfg(test)]
 mod regress_tests;
 #[cfg(test)]
 mod text_tests;
+#[cfg(test)]
+mod walk_tests;
 #[cfg(test)]
 mod weak_tests;

@@ -14,6 +14,7 @@ ghost use Rattle.fond_exec.specs.declared.choice.Choice.TheVariants.{Chosen};
 use crate::choice::Choice;
 use crate::step::Step;
 use fond_rules::rules::Rules;
+use fond_rules::selector::Selector;
 use fond_state::state::State;
 use fond_task::step::apply_into;
 use fond_task::task::Task;
@@ -22,11 +23,13 @@ use fond_text::fault::NoMemory;
 use std::alloc::Global;
 use std::marker::Model;
 
-/// A rule list at a state of a task. It keeps a second state of the same length, so that a step takes no memory.
+/// A rule list at a state of a task, with what selects its rules. It keeps a second state of the same length, so that a step takes no
+/// memory, unless rules are indexed anew.
 #[derive(Drop)]
 pub struct Executor<'a> {
     task: &'a Task,
     rules: &'a Rules,
+    selector: Selector<'a>,
     state: State,
     next: State,
 }
@@ -45,13 +48,14 @@ impl<'a> Model for Executor<'a> {
     ghost view = { λ e. record { task = e.task.now; rules = e.rules.now; state = e.state } };
 
     ghost invariant = { λ e. BelongTo e.task.now e.rules.now
+        × (e.selector ≡ e.rules.now)
         × (length e.state ≡ length e.task.now.atoms)
         × (length e.next ≡ length e.task.now.atoms) };
 }
 
 /// How far a state is from a goal, as an opponent sees it: 0 at a goal; otherwise one more than the number of the first rule that
 /// holds, or 2^32 if none does.
-fn weight_of(task: &Task, rules: &Rules, state: &State) -> u64
+fn weight_of(task: &Task, rules: &Selector, state: &State) -> u64
     requires belong { BelongTo task.now rules.now }
     requires long { length state.now ≡ length task.now.atoms }
     ensures { result ≡ weight task.now rules.now state.now }
@@ -76,6 +80,7 @@ impl<'a> Executor<'a> {
         Ok(Executor {
             task,
             rules,
+            selector: Selector::new(alloc, rules),
             state,
             next,
         })
@@ -102,7 +107,7 @@ impl<'a> Executor<'a> {
         if self.done() {
             return Choice::Done;
         }
-        let Some(rule) = self.rules.select(&self.state) else {
+        let Some(rule) = self.selector.select(&self.state) else {
             return Choice::Stuck;
         };
         let act = self.rules.get(rule).act;
@@ -122,7 +127,7 @@ impl<'a> Executor<'a> {
         ensures same { self.new ≡ self.old }
     {
         apply_into(self.task, &self.state, act, outcome, &mut self.next);
-        weight_of(self.task, self.rules, &self.next)
+        weight_of(self.task, &self.selector, &self.next)
     }
 
     /// Takes the action that the rules choose, with one of its outcomes.
@@ -135,6 +140,7 @@ impl<'a> Executor<'a> {
     {
         apply_into(self.task, &self.state, act, outcome, &mut self.next);
         std::mem::swap(&mut self.state, &mut self.next);
+        self.selector.heed(&self.state);
     }
 
     /// Takes the action of the first rule that holds, with its outcome of this number. A step that is not taken changes

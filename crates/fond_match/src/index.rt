@@ -121,4 +121,14 @@ impl Index {
     {
         first_in(self.blocks.as_slice(), items, query)
     }
+
+    /// How much a search for the query may look at in the blocks: branches, and the numbers at those whose literals the query
+    /// has. Takes time in this.
+    pub fn looks<Q: Query>(&self, query: &Q) -> usize {
+        let mut looks: usize = 0;
+        for block in &self.blocks {
+            looks = looks.saturating_add(block.looks(query));
+        }
+        looks
+    }
 }

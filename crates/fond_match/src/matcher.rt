@@ -8,6 +8,7 @@ use crate::grow::grow;
 use crate::node::Node;
 use crate::query::Query;
 use fond_state::has_cube::HasCube;
+use fond_state::state::State;
 use fond_text::fault::NoMemory;
 use std::alloc::Global;
 
@@ -61,17 +62,31 @@ impl Matcher {
         }
     }
 
-    /// An index of the cubes of all these items. Takes time in their number times that of the atoms, and the former once
-    /// more for each branch on which they stay together; memory in their number. The tree is built by recursion, at most
-    /// `DEPTH` branches deep: a node at that depth keeps its numbers in a list, and a search goes through them one by one.
+    /// An index of the cubes of all these items, to be asked about any states and cubes. Costs what `build_near` does.
     pub fn build<T: HasCube>(alloc: Global, items: &[T]) -> Result<Matcher, NoMemory>
+        requires { length items.now < 2 ^ 32 }
+        ensures of { IfOk result (IsMatcherOf (map T.cube items.now)) }
+        ensures all { IfOk result (HasAll (length items.now)) }
+    {
+        Matcher::build_near(alloc, items, None)
+    }
+
+    /// An index of the cubes of all these items, which answers the soonest about states that differ from the given one in
+    /// few atoms. Takes time in the number of items times that of the atoms, and the former once more for each branch on which
+    /// they stay together; memory in their number. The tree is built by recursion, at most `DEPTH` branches deep: a node at
+    /// that depth keeps its numbers in a list, and a search goes through them one by one.
+    pub fn build_near<T: HasCube>(
+        alloc: Global,
+        items: &[T],
+        near: Option<&State>,
+    ) -> Result<Matcher, NoMemory>
         requires { length items.now < 2 ^ 32 }
         ensures of { IfOk result (IsMatcherOf (map T.cube items.now)) }
         ensures all { IfOk result (HasAll (length items.now)) }
     {
         let count = items.len() as u32;
         let numbers = numbers_below(alloc, count)?;
-        let root = grow(alloc, items, None, numbers, 0, 0, DEPTH)?;
+        let root = grow(alloc, items, None, numbers, near, 0, 0, DEPTH)?;
         Ok(Matcher { root, count })
     }
 
@@ -106,5 +121,11 @@ impl Matcher {
         }
         let number = first_of(rest, query)?;
         Some((indexed.len() + number) as u32)
+    }
+
+    /// How much a search for the query may look at: branches, and the numbers at those whose literals the query has. Takes
+    /// time in this.
+    pub fn looks<Q: Query>(&self, query: &Q) -> usize {
+        self.root.looks(query)
     }
 }

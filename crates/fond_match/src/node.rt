@@ -77,4 +77,16 @@ impl Node {
         }
         found
     }
+
+    /// How many branches and numbers a search for the query looks at, if it passes over none for its numbers.
+    pub(crate) fn looks<Q: Query>(&self, query: &Q) -> usize {
+        if !enters(query, self.literal) {
+            return 1;
+        }
+        let mut looks = self.numbers.len();
+        for branch in &self.branches {
+            looks = looks.saturating_add(branch.looks(query));
+        }
+        looks.saturating_add(1)
+    }
 }

@@ -8,8 +8,12 @@ ghost use Rattle.std.specs.Prelude.{◌≡◌, ◌<◌, ◌++◌, ℕ, Bool, Som
 use crate::node::Literal;
 use fond_state::cube::Cube;
 use fond_state::has_cube::HasCube;
+use fond_state::state::State;
 use fond_text::fault::NoMemory;
 use std::alloc::Global;
+
+/// By this the numbers are spread over the atoms (Knuth, The art of computer programming 3, 6.4): about 2^32 over the golden ratio.
+const SPREAD: u32 = 0x9E37_79B1;
 
 /// A number, with a literal of its cube.
 #[derive(Clone, Copy, PartialEq, Eq, PartialOrd, Ord)]
@@ -44,21 +48,64 @@ fn first_literal(cube: &Cube, from: u32) -> Option<Literal>
     None
 }
 
-/// The cube's first literal from the split on, or from `from` on if there is none.
-fn sorting_literal(cube: &Cube, from: u32, split: u32) -> Option<Literal>
+/// The cube's first literal that the state does not have, at an atom from `from` on and before `end`.
+fn failing_literal(cube: &Cube, s: &State, from: u32, end: u32) -> Option<Literal>
     ensures { IfSome result (λ literal. literal_at cube.now literal.atom ≡ Some literal.sign) }
 {
+    for atom in from..end.min(s.len() as u32) {
+        if let Some(sign) = cube.literal(atom) {
+            if s.get(atom) != sign {
+                return Some(Literal { atom, sign });
+            }
+        }
+    }
+    None
+}
+
+/// A literal of the cube that the state does not have, at an atom from `from` on. Which one depends on the number, so that an
+/// atom that changes often is that of few cubes.
+fn literal_against(cube: &Cube, s: &State, number: u32, from: u32) -> Option<Literal>
+    ensures { IfSome result (λ literal. literal_at cube.now literal.atom ≡ Some literal.sign) }
+{
+    let atoms = s.len() as u32;
+    if from >= atoms {
+        return None;
+    }
+    let start = from + (number.wrapping_mul(SPREAD) >> 8) % (atoms - from);
+    match failing_literal(cube, s, start, atoms) {
+        Some(literal) => Some(literal),
+        None => failing_literal(cube, s, from, start),
+    }
+}
+
+/// A literal from `from` on that the state near which the index is asked does not have. If there is none, or no such state,
+/// the cube's first literal from the split on, or else from `from` on.
+fn sorting_literal(
+    cube: &Cube,
+    near: Option<&State>,
+    number: u32,
+    from: u32,
+    split: u32,
+) -> Option<Literal>
+    ensures { IfSome result (λ literal. literal_at cube.now literal.atom ≡ Some literal.sign) }
+{
+    if let Some(s) = near {
+        if let Some(literal) = literal_against(cube, s, number, from) {
+            return Some(literal);
+        }
+    }
     match first_literal(cube, split) {
         Some(literal) => Some(literal),
         None => first_literal(cube, from),
     }
 }
 
-/// The numbers whose cubes have no literal from `from` on, and the others, with their literals to be sorted by.
+/// The numbers whose cubes have no literal to be sorted by, and the others, with theirs.
 fn entries_of<T: HasCube>(
     alloc: Global,
     items: &[T],
     numbers: &[u32],
+    near: Option<&State>,
     from: u32,
     split: u32,
 ) -> Result<(Vec<u32>, Vec<Entry>), NoMemory>
@@ -68,7 +115,7 @@ fn entries_of<T: HasCube>(
     let mut rest = Vec::new(alloc);
     let mut entries = Vec::new(alloc);
     for number in numbers {
-        match sorting_literal(items[*number as usize].cube(), from, split) {
+        match sorting_literal(items[*number as usize].cube(), near, *number, from, split) {
             Some(literal) => entries.push(Entry {
                 literal,
                 number: *number,
@@ -111,19 +158,21 @@ fn runs_of(alloc: Global, entries: &[Entry]) -> Result<Vec<Run>, NoMemory>
     Ok(runs)
 }
 
-/// Sorts the numbers by the first literals of their cubes from the split on. Those whose cubes have none there are sorted
-/// by the first ones from `from` on.
+/// Sorts the numbers by literals of their cubes from `from` on that the state near which the index is asked does not have, and
+/// the others by their first literals from the split on. Those whose cubes have none there are sorted by the first ones from
+/// `from` on.
 pub(crate) fn part<T: HasCube>(
     alloc: Global,
     items: &[T],
     numbers: Vec<u32>,
+    near: Option<&State>,
     from: u32,
     split: u32,
 ) -> Result<Parts, NoMemory>
     requires { All (λ number. number < length items.now) numbers.items }
     ensures { IfOk result (λ parts. Keeps (map T.cube items.now) (λ _. numbers.items) (λ has. parts.rest.items ++ run_visits has parts.runs.items)) }
 {
-    let (rest, mut entries) = entries_of(alloc, items, &numbers, from, split)?;
+    let (rest, mut entries) = entries_of(alloc, items, &numbers, near, from, split)?;
     entries.sort()?;
     let runs = runs_of(alloc, &entries)?;
     Ok(Parts { rest, runs })

@@ -10,6 +10,7 @@ ghost use Rattle.std.specs.Prelude.{◌≡◌, ◌<◌, ◌∷◌, [], ℕ, List
 
 use fond_rules::pairs::Pairs;
 use fond_rules::rules::Rules;
+use fond_rules::selector::Selector;
 use fond_state::state::State;
 use fond_store::store::Store;
 use fond_task::step::apply_into;
@@ -67,27 +68,31 @@ fn add_successors(
 }
 
 /// Adds the states to which the rules lead from a state that is no goal. Returns false if it is no goal and no rule holds
-/// in it. `next` is overwritten.
+/// in it. `next` is overwritten. The selector is that of the rules.
 fn visit(
     alloc: Global,
     t: &Task,
     pairs: &Pairs,
     rules: &Rules,
+    selector: &mut Selector,
     state: &State,
     next: &mut State,
     states: &mut Store,
 ) -> Result<bool, NoMemory>
+    requires of { selector.old ≡ rules.now }
     requires belong { BelongTo t.now rules.now }
     requires sure { AreSureRules t.now pairs.now rules.now }
     requires long { length state.now ≡ length t.now.atoms }
     requires next_long { length next.old ≡ length t.now.atoms }
+    ensures of { selector.new ≡ rules.now }
     ensures same_length { length next.new ≡ length next.old }
     ensures visits { IfOk result (Expands t.now rules.now state.now states.old states.new) }
 {
     if is_goal(t, state) {
         return Ok(true);
     }
-    let Some(rule) = rules.select(state) else {
+    selector.heed(state);
+    let Some(rule) = selector.select(state) else {
         return Ok(false);
     };
     add_successors(alloc, t, rules.get(rule).act, state, next, states)?;
@@ -165,6 +170,7 @@ fn walk_on(
     ensures walked { IfOk result (IsWalked t.now rules.now bound) }
     ensures whole { IfOk result (IsWholeWalk t.now rules.now states.new) }
 {
+    let mut selector = Selector::new(alloc, rules);
     let mut unruled = None;
     let mut at = 0;
     while at < states.len() {
@@ -177,6 +183,7 @@ fn walk_on(
             t,
             pairs,
             rules,
+            &mut selector,
             &scratch.state,
             &mut scratch.next,
             states,

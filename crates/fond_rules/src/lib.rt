@@ -14,6 +14,7 @@ pub mod pair_test;
 pub mod pairs;
 pub mod rule_test;
 pub mod rules;
+pub mod selector;
 pub mod sure_pairs;
 pub mod sure_rules;
 pub mod table;

@@ -109,4 +109,9 @@ impl<T: HasCube + Drop> Ordered<T> {
     {
         self.index.first(self.items.as_slice(), &Beside::new(c))
     }
+
+    /// How much a search for the state may look at in the index.
+    pub(crate) fn looks(&self, s: &State) -> usize {
+        self.index.looks(s)
+    }
 }

@@ -9,14 +9,14 @@ loop-run-init g t c =
 pub grow-requires : goal.grow-requires
 grow-requires g t c =
     let P : ℕ → Type 0 = λ number. number < length c.args.items.now in
-    let within : All P c.in-Some.run'.numbers.items = run_among (map g.T.HasCube.cube c.args.items.now) P c.args.numbers.items c.in_ok-rest.field-0.rest.items c.loop-run.runs.items c.pop.new.self.items c.in-Some.run'
-    c.loop-run.branches.items c.in-Some.ensures.items c.loop-run.invariant c.requires in
+    let within : All P c.in-Some-pop.run'.numbers.items = run_among (map g.T.HasCube.cube c.args.items.now) P c.args.numbers.items c.in_ok-rest.field-0.rest.items c.loop-run.runs.items c.pop.new.self.items c.in-Some-pop.run'
+    c.loop-run.branches.items c.in-Some-pop.ensures.items c.loop-run.invariant c.requires in
     search rules
 
 pub loop-run-preserved : goal.loop-run-preserved
 loop-run-preserved g t c =
-    Keeps-branch_more (map g.T.HasCube.cube c.args.items.now) c.args.numbers.items c.in_ok-rest.field-0.rest.items c.loop-run.runs.items c.pop.new.self.items c.in-Some.run' c.loop-run.branches.items c.push.new.self.items c.in_ok-grow.field-0
-    c.in-Some.ensures.items c.in_ok-push.ensures.items c.in_ok-grow.ensures c.loop-run.invariant
+    Keeps-branch_more (map g.T.HasCube.cube c.args.items.now) c.args.numbers.items c.in_ok-rest.field-0.rest.items c.loop-run.runs.items c.pop.new.self.items c.in-Some-pop.run' c.loop-run.branches.items c.push.new.self.items c.in_ok-grow.field-0
+    c.in-Some-pop.ensures.items c.in_ok-push.ensures.items c.in_ok-grow.ensures c.loop-run.invariant
 
 pub returns : goal.returns
 returns g t c =

@@ -3,7 +3,7 @@ use Rattle.std.proofs.lemmas.Option.{slice_get_within}
 use Rattle.fond_task.specs.Policies.{selected}
 use Rattle.fond_task.proofs.Lists.{Contains_numbered}
 use Rattle.fond_task.proofs.Reached.{reached_long}
-use Rattle.fond_policy.specs.Walks.{IsUnruledAmong}
+use Rattle.fond_policy.specs.Walks.{IsUnruledAmong, IsWalk}
 use Rattle.fond_policy.proofs.Walking.{grown_keeps, open_below, open_more, open_one, walk_all, walk_begun, walk_more}
 use Rattle.fond_policy.proofs.walk.walk_on.Goals as goal
 
@@ -17,11 +17,15 @@ visit-requires-clause-long c =
     let reached = c.loop-at.invariant.walk.reached c.get.result.now (Contains_numbered c.loop-at.states c.loop-at.at c.get.result.now c.get.ensures) in
     ap length c.copy_from.ensures ∙ reached_long c.args.t.now (selected c.args.rules.now) c.get.result.now reached
 
+pub visit-requires-clause-of : goal.visit-requires-clause-of
+visit-requires-clause-of c = c.loop-at.invariant.selector
+
 pub copy_numbered-requires : goal.copy_numbered-requires
 copy_numbered-requires c = open_below c.args.t.now c.args.rules.now c.loop-at.states c.loop-at.at c.loop-at.unruled c.loop-at.invariant.unruled
 
 pub loop-at-init : goal.loop-at-init
 loop-at-init c = record {
+  selector = c.new-selector.ensures;
   long = c.requires.long;
   next_long = c.requires.next_long;
   done = omega arith;
@@ -43,12 +47,18 @@ loop-at-preserved c =
     let reached = walk.reached state (Contains_numbered old at state there) in
     let kept = grown_keeps _ old new visits.grows at state there in
     record {
+      selector = c.in_ok-ruled.ensures.of;
       long = reached_long task (selected rules) state reached;
       next_long = c.in_ok-ruled.ensures.same_length ∙ c.loop-at.invariant.next_long;
       done = (let within = slice_get_within new at state kept in omega (arith, within));
       walk = walk_more task rules old new at state c.in_ok-ruled.ruled there visits walk;
       unruled = subst (IsUnruledAmong task rules new (at + 1)) (sym c.first_of-unruled.ensures) (open_more task rules old new at state c.in_ok-ruled.ruled c.loop-at.unruled there visits walk c.loop-at.invariant.unruled);
     }
+
+pub returns-clause-whole : goal.returns-clause-whole
+returns-clause-whole c = λ all.
+    let end : c.loop-at.at ≡ length c.loop-at.states = omega (arith, c.loop-at-test.false, c.len.ensures.counted, c.loop-at.invariant.done) in
+    subst (IsWalk c.args.t.now c.args.rules.now c.loop-at.states) end c.loop-at.invariant.walk
 
 pub returns-clause-walked : goal.returns-clause-walked
 returns-clause-walked c =

@@ -5,6 +5,7 @@ use Rattle.fond_policy.proofs.walk.walk_on.Given as goal
 -- a walk that has done the states before this number
 abbrev pub invariant-loop-at : goal.invariant-loop-at
 invariant-loop-at l = record {
+  selector : l.selector ≡ l.rules;
   long : length l.scratch.state ≡ length l.t.atoms;
   next_long : length l.scratch.next ≡ length l.t.atoms;
   done : l.at ≤ length l.states;

@@ -3,7 +3,7 @@ use Rattle.std.specs.List.{range_with_len}
 use Rattle.std.proofs.lemmas.List.{length-map, take_all}
 use Rattle.fond_match.specs.Visits.{Keeps, visits}
 use Rattle.fond_match.proofs.Members.{All-from_members, range_below}
-use Rattle.fond_match.proofs.matcher.Matcher.build.Goals as goal
+use Rattle.fond_match.proofs.matcher.Matcher.build_near.Goals as goal
 
 pub grow-requires : goal.grow-requires
 grow-requires g c =
