@@ -62,13 +62,15 @@ fn open_all(
     }
 }
 
-/// Decides a task from a state on as `solve` does, by an index of its actions, which a caller may keep for more states.
+/// Decides a task from a state on as `solve` does, by an index of its actions, which a caller may keep for more states. `opened`
+/// becomes the number of states that were opened.
 pub fn solve_by(
     alloc: Global,
     t: &Task,
     index: &ActIndex,
     from: &State,
     budget: u32,
+    opened: &mut u32,
 ) -> Result<Solved, NoMemory>
     requires few { budget ≤ 1000000 }
     requires index { IsIndexOf t.now index.now }
@@ -80,7 +82,9 @@ pub fn solve_by(
     }
     let mut scratch = Scratch::new(alloc, from)?;
     let mut space = begin(alloc, t, from)?;
-    open_all(alloc, t, index, &mut space, budget, &mut scratch)
+    let solved = open_all(alloc, t, index, &mut space, budget, &mut scratch)?;
+    *opened = space.opened;
+    Ok(solved)
 }
 
 /// Decides a task from a state on, or finds that more than `budget` states are reachable. States are opened breadth first in
@@ -93,5 +97,6 @@ pub fn solve(alloc: Global, t: &Task, from: &State, budget: u32) -> Result<Solve
     ensures { IfOk result (IsRight t.now from.now budget) }
 {
     let index = index_of(alloc, t)?;
-    solve_by(alloc, t, &index, from, budget)
+    let mut opened = 0;
+    solve_by(alloc, t, &index, from, budget, &mut opened)
 }

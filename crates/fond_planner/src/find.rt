@@ -12,7 +12,7 @@ ghost use Rattle.fond_task.specs.Certificates.{LiesInLayers};
 ghost use Rattle.fond_task.specs.Policies.{IsGoal};
 ghost use Rattle.std.specs.Prelude.{◌≡◌, ◌≤◌, None, true, length, IfOk, IfSome, OnOk};
 
-use crate::limits::{Stage, last_stage, next_quick, stage_at};
+use crate::limits::{Stage, is_crowded, last_stage, next_quick, stage_at};
 use crate::planner::Planner;
 use fond_draft::draft::Draft;
 use fond_draft::make::make_rules;
@@ -149,7 +149,8 @@ impl<S: Source> Planner<'_, S> {
         ensures found { IfOk result (λ found. IfSome found (IsFound self.new.draft state.now)) }
         ensures past { IfOk result (λ found. found ≡ None → IsPast self.old.task.now budget) }
     {
-        match solve_by(alloc, self.task, &self.index, state, budget)? {
+        let mut opened = 0;
+        match solve_by(alloc, self.task, &self.index, state, budget, &mut opened)? {
             Solved::Won(choices, _) => {
                 self.win(alloc, state, choices)?;
                 Ok(Some(Found::Ruled))
@@ -158,7 +159,10 @@ impl<S: Source> Planner<'_, S> {
                 self.lose(alloc, state, layers)?;
                 Ok(Some(Found::Dead))
             }
-            Solved::Spent => Ok(None),
+            Solved::Spent => {
+                self.crowded = is_crowded(opened, budget);
+                Ok(None)
+            }
         }
     }
 
@@ -252,12 +256,16 @@ impl<S: Source> Planner<'_, S> {
         self.find_by_search(alloc, state, last_stage(self.budget))
     }
 
-    /// The stage of this number, if the first one opens `quick` states.
+    /// The stage of this number, if the first one opens `quick` states. The third one opens none in a crowded task with an opponent.
     fn stage(&self, number: u32, quick: u32) -> Stage
         ensures { result.states ≤ self.now.budget }
     {
         let acts = self.task.acts.len();
-        stage_at(number, self.opposed, quick, acts, self.budget)
+        let mut stage = stage_at(number, self.opposed, quick, acts, self.budget);
+        if number == 2 && self.opposed && self.crowded {
+            stage.states = 0;
+        }
+        stage
     }
 
     /// Finds out about a state that is no goal: by what is known, and then in stages, each of which opens more states and searches

@@ -101,6 +101,12 @@ fn opposed_stage(number: u32, quick: u32, acts: usize) -> Stage {
     }
 }
 
+/// Whether more than a quarter of the states that were reached within a budget were never opened. Such a task reaches many new
+/// states from each, and a budget that is some times as large mostly settles nothing either.
+pub(crate) fn is_crowded(opened: u32, budget: u32) -> bool {
+    opened / 3 < budget / 4
+}
+
 /// The stage of this number, of the three before the last one, if the first one opens `quick` states.
 pub(crate) fn stage_at(number: u32, opposed: bool, quick: u32, acts: usize, budget: u32) -> Stage
     ensures { result.states ≤ budget }

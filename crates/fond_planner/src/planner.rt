@@ -18,9 +18,10 @@ use std::alloc::Global;
 
 /// A draft of a policy for a task, the plans from which its rules are made, an index of the task's actions, its moves, which the source
 /// and each sketch of a cover own too, and a source of hints. At most `budget` states are opened from one state. `quick` states are opened
-/// before the source is asked next, and `too_few` is the largest number of opened states that settled nothing for some state. `opposed`
-/// tells whether an opponent picks some outcome, `stale` whether a plan came after rules that it makes needless, `restarts` how often
-/// rules were dropped for one, and `sketches` whether covers are still sketched.
+/// before the source is asked next, and `too_few` is the largest number of opened states that settled nothing for some state. `crowded`
+/// tells whether, when states were opened last and that settled nothing, many of those that were reached were never opened; `opposed`
+/// whether an opponent picks some outcome, `stale` whether a plan came after rules that it makes needless, `restarts` how often rules
+/// were dropped for one, and `sketches` whether covers are still sketched.
 #[derive(Drop)]
 pub(crate) struct Planner<'t, S> {
     pub(crate) task: &'t Task,
@@ -32,6 +33,7 @@ pub(crate) struct Planner<'t, S> {
     pub(crate) source: S,
     pub(crate) quick: u32,
     pub(crate) too_few: u32,
+    pub(crate) crowded: bool,
     pub(crate) opposed: bool,
     pub(crate) stale: bool,
     pub(crate) restarts: u64,
@@ -62,6 +64,7 @@ impl<'t, S: Source> Planner<'t, S> {
             source: S::new(),
             quick: quick_states(opposed),
             too_few: 0,
+            crowded: false,
             opposed,
             stale: false,
             restarts: 0,
