@@ -32,11 +32,15 @@ const NODES: u32 = 1 << 20;
 
 const WORDS: usize = 1 << 25;
 
-/// The most conditions, nodes and words of edges that are looked at.
+/// The most conditions, nodes and words of edges that are looked at, and the most rules: with more, finding those that a node has to
+/// contradict takes longer than listing all states.
 const WORK: u64 = 1 << 30;
 
-/// The most rules: with more, finding those that a node has to contradict takes longer than listing all states.
 const RULES: u32 = 1 << 14;
+
+/// With more outcomes of an action than this on average, states are far more than rules, and a sketch is worth some times as many
+/// rules and as much work.
+const MANY_OUTCOMES: u64 = 4;
 
 /// An edge: an outcome of the action of a node's rule.
 #[derive(Clone, Copy)]
@@ -44,6 +48,13 @@ pub struct Edge {
     pub number: u32,
     pub node: u32,
     pub outcome: u32,
+}
+
+/// The most rules of a sketch, and the most that it looks at.
+#[derive(Clone, Copy)]
+struct Limits {
+    rules: u32,
+    work: u64,
 }
 
 /// What came of an edge that was looked at.
@@ -78,6 +89,7 @@ pub struct Sketch {
     nodes: Nodes,
     edges: Edges,
     scratch: Scratch,
+    limits: Limits,
     work: u64,
 }
 
@@ -90,6 +102,21 @@ pub fn read(words: &mut [u64], state: &State) {
         if state.get(atom) {
             put_bit(words, atom, true);
         }
+    }
+}
+
+/// The limits of a sketch for a task with these moves.
+fn limits_of(moves: &Moves) -> Limits {
+    let outcomes = moves.steps.len() as u64;
+    if outcomes / MANY_OUTCOMES <= moves.acts.len() as u64 {
+        return Limits {
+            rules: RULES,
+            work: WORK,
+        };
+    }
+    Limits {
+        rules: 8 * RULES,
+        work: 16 * WORK,
     }
 }
 
@@ -141,12 +168,14 @@ impl Sketch {
         let choices = Choices::new(alloc, moves.atoms, moves.width)?;
         let scratch = Scratch::new(alloc, moves.width)?;
         let nodes = Nodes::new(alloc, moves.width);
+        let limits = limits_of(&moves);
         let sketch = Sketch {
             moves,
             choices,
             nodes,
             edges: Edges::new(alloc),
             scratch,
+            limits,
             work: 0,
         };
         Ok(Box::new(alloc, sketch)?)
@@ -171,10 +200,10 @@ impl Sketch {
     /// Whether there was too much to do.
     fn is_spent(&self) -> bool {
         let looked = self.choices.work().saturating_add(self.nodes.work());
-        self.choices.len() > RULES
+        self.choices.len() > self.limits.rules
             || self.nodes.len() > NODES
             || self.nodes.size() > WORDS
-            || self.work.saturating_add(looked) > WORK
+            || self.work.saturating_add(looked) > self.limits.work
     }
 
     /// The rule of the next state, `GOAL` if it is a goal, or `NONE` if it has none.
