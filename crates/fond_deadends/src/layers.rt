@@ -28,7 +28,7 @@ use fond_text::fault::NoMemory;
 use std::alloc::Global;
 
 /// The most nodes of a layer.
-const NODES: u32 = 2_000;
+const NODES: u32 = 1 << 15;
 
 /// The work of a look beside the words of a state; that of a comparison with the cube of a node is 1.
 const LOOK: u64 = 8;

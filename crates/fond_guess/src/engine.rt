@@ -27,8 +27,22 @@ const LOCAL_STATES: u32 = 300;
 /// If a search may expand fewer states than this, the projector looks at no more cubes, so that a budget too small stays one.
 const FEW_STATES: u32 = 1_000;
 
-/// What a search for layers may do before the projector.
+/// What a search for layers may do before the projector, and how much more if it goes well.
 const FIRST_WORK: u64 = 500_000;
+
+const LONG_WORK: u64 = 20_000_000;
+
+/// A search for layers goes well if it found so many cubes already, or if it spent its work on so few.
+const SEVERAL: u32 = 4;
+
+const FEW_CUBES: u32 = 2;
+
+/// The most states that a search for layers visits, and the most of one that may do more work than this.
+const LAYER_STATES: u32 = 4_000;
+
+const MANY_LAYER_STATES: u32 = 1 << 15;
+
+const MUCH_WORK: u64 = 1_000_000_000;
 
 /// What the projector may do whatever else was done.
 const BANK: u64 = 8_000_000;
@@ -48,8 +62,11 @@ pub struct Engine {
     /// What the projector may do for the state around which layers are sought, and how many cubes it may look at.
     share: u64,
     most: u32,
-    /// What the search for layers may do after the projector.
+    /// What the search for layers may do after the projector, and how many cubes it found.
     rest: u64,
+    found: u32,
+    /// What searches for layers may do beyond what they are allowed.
+    spare: u64,
     /// The state and the cube that were read last.
     start: Vec<u64>,
     cube: Part,
@@ -112,6 +129,8 @@ impl Engine {
             share: 0,
             most: 0,
             rest: 0,
+            found: 0,
+            spare: LONG_WORK,
             start,
             cube,
         })
@@ -197,8 +216,13 @@ impl Engine {
             u32::MAX
         };
         self.rest = work.saturating_sub(first);
+        let visited = if work > MUCH_WORK {
+            MANY_LAYER_STATES
+        } else {
+            LAYER_STATES
+        };
         LayerLimits {
-            states,
+            states: states.min(visited),
             work: first,
         }
     }
@@ -297,6 +321,7 @@ impl Engine {
             return Ok(());
         }
         self.layered.open(&self.start);
+        self.found = 0;
         self.layers.begin(&self.known.facts(), &self.start, limits)
     }
 
@@ -327,27 +352,69 @@ impl Engine {
     }
 
     /// The next layer, given the dead cubes so far: cubes that no action surely leaves. The last one has the state around which it
-    /// was to be. A short search for layers comes first, which finds small ones; then a projection, and then the rest of the search.
+    /// was to be. A short search for layers comes first, which finds small ones, and a longer one if it goes well; then a projection, and
+    /// then the rest of the search.
     pub fn next_layer(&mut self, alloc: Global) -> Result<LayerHint, NoMemory> {
         if self.known.dead.holds(&self.start) {
             return Ok(LayerHint::Found);
         }
-        let mut stage = self.layers.run(&self.known.facts())?;
+        let mut stage = self.search_layers()?;
         if stage == Stage::Failed {
             match self.project(alloc)? {
                 Stage::Cube => return self.hint_of_part(alloc, &self.prover.best),
                 Stage::Layer => return self.hint_of_projection(alloc),
                 Stage::Open | Stage::Failed => {}
             }
-            self.layers.allow(self.rest);
+            stage = self.run_layers(self.rest)?;
             self.rest = 0;
-            stage = self.layers.run(&self.known.facts())?;
         }
         match stage {
             Stage::Cube => self.hint_of_part(alloc, self.layers.dead_cube()),
             Stage::Layer => self.hint_of_nodes(alloc),
             Stage::Open | Stage::Failed => Ok(LayerHint::Nothing),
         }
+    }
+
+    /// Goes on with the search for layers, which may do this much more.
+    fn run_layers(&mut self, work: u64) -> Result<Stage, NoMemory> {
+        self.layers.allow(work);
+        let stage = self.layers.run(&self.known.facts())?;
+        if stage == Stage::Cube {
+            self.found = self.found.saturating_add(1);
+        }
+        Ok(stage)
+    }
+
+    /// Whether the cubes of a search may become as large as they get before much work is done: a cube grows by an atom at a time,
+    /// and then each action is looked at again.
+    fn may_grow(&self) -> bool {
+        let looks = self.known.moves.acts.len() as u64;
+        looks.saturating_mul(self.known.moves.atoms as u64) <= LONG_WORK / 8
+    }
+
+    /// What a search for layers that ran out of work may do more before the projector: nothing, unless it goes well.
+    fn long_work(&mut self) -> u64 {
+        let is_slow = self.layers.len() <= FEW_CUBES && self.may_grow();
+        if !self.layers.is_spent() || !(is_slow || self.found >= SEVERAL) {
+            return 0;
+        }
+        let spare = self.spare;
+        self.spare = 0;
+        spare.max(self.rest.min(LONG_WORK))
+    }
+
+    /// Searches for layers before the projector does.
+    fn search_layers(&mut self) -> Result<Stage, NoMemory> {
+        let stage = self.run_layers(0)?;
+        if stage != Stage::Failed {
+            return Ok(stage);
+        }
+        let work = self.long_work();
+        if work == 0 {
+            return Ok(Stage::Failed);
+        }
+        self.rest = self.rest.saturating_sub(work);
+        self.run_layers(work)
     }
 
     /// Looks for a layer over few atoms.
@@ -370,6 +437,9 @@ impl Engine {
         } else {
             0
         };
+        if stage == Stage::Cube || stage == Stage::Layer {
+            self.layered.close();
+        }
         Ok(stage)
     }
 
