@@ -12,8 +12,11 @@ use std::marker::Model;
 /// One of this many states is measured.
 const MEASURED: u32 = 64;
 
-/// A search that looks at no more than this is fast.
+/// A search that looks at no more than this is fast. With an index near a state, so is one that looks at this many times as much as one
+/// for that state.
 const FAST: usize = 512;
+
+const TIMES: usize = 4;
 
 /// What building an index takes for each rule, in looks of a search.
 const PRICE: usize = 128;
@@ -27,6 +30,7 @@ pub struct Selector<'a> {
     rules: &'a Rules,
     near: Matcher,
     is_near: bool,
+    fast: usize,
     asked: u32,
     spent: usize,
     patience: usize,
@@ -54,6 +58,7 @@ impl<'a> Selector<'a> {
             rules,
             near: Matcher::new(alloc),
             is_near: false,
+            fast: FAST,
             asked: 0,
             spent: 0,
             patience: 1,
@@ -80,6 +85,7 @@ impl<'a> Selector<'a> {
     {
         self.near = Matcher::new(self.alloc);
         self.is_near = false;
+        self.fast = FAST;
         self.spent = 0;
         self.patience = self.patience.saturating_mul(2);
     }
@@ -93,9 +99,11 @@ impl<'a> Selector<'a> {
         self.give_up();
         let rules = self.rules;
         if let Ok(near) = Matcher::build_near(self.alloc, rules.items.as_slice(), Some(s)) {
-            if near.looks(s) < rules.looks(s) / 2 {
+            let looks = near.looks(s);
+            if looks < rules.looks(s) / 2 {
                 self.near = near;
                 self.is_near = true;
+                self.fast = FAST.max(looks.saturating_mul(TIMES));
                 self.patience = patience;
             }
         }
@@ -133,7 +141,7 @@ impl<'a> Selector<'a> {
         };
         if looks > own {
             self.give_up();
-        } else if looks > FAST {
+        } else if looks > self.fast {
             self.spend(looks, s);
         }
     }
