@@ -217,6 +217,9 @@ impl CubeSet {
     /// One of the cubes in which the view lies, or `NONE`. Takes time in the width of the view, in the number of cubes under its true
     /// atoms, and for each 64 of the others, in the number of its atoms that may be true.
     fn some(&self, view: View<'_>) -> u32 {
+        if self.is_empty() {
+            return NONE;
+        }
         if let Some(cube) = self.whole {
             return cube;
         }

@@ -65,6 +65,8 @@ pub struct Engine {
     /// What the search for layers may do after the projector, and how many cubes it found.
     rest: u64,
     found: u32,
+    /// Whether the last projection found nothing.
+    is_fruitless: bool,
     /// What searches for layers may do beyond what they are allowed.
     spare: u64,
     /// The state and the cube that were read last.
@@ -130,6 +132,7 @@ impl Engine {
             most: 0,
             rest: 0,
             found: 0,
+            is_fruitless: false,
             spare: LONG_WORK,
             start,
             cube,
@@ -360,7 +363,7 @@ impl Engine {
         }
         let mut stage = self.search_layers()?;
         if stage == Stage::Failed {
-            match self.project(alloc)? {
+            match self.project_if_due(alloc)? {
                 Stage::Cube => return self.hint_of_part(alloc, &self.prover.best),
                 Stage::Layer => return self.hint_of_projection(alloc),
                 Stage::Open | Stage::Failed => {}
@@ -417,6 +420,15 @@ impl Engine {
         self.run_layers(work)
     }
 
+    /// Looks for a layer over few atoms, unless that found nothing the last time and the search for layers goes well.
+    fn project_if_due(&mut self, alloc: Global) -> Result<Stage, NoMemory> {
+        let goes_well = self.found >= SEVERAL && self.layers.is_spent();
+        if self.is_fruitless && goes_well && self.rest < MUCH_WORK {
+            return Ok(Stage::Failed);
+        }
+        self.project(alloc)
+    }
+
     /// Looks for a layer over few atoms.
     fn project(&mut self, alloc: Global) -> Result<Stage, NoMemory> {
         if self.share == 0 {
@@ -437,7 +449,8 @@ impl Engine {
         } else {
             0
         };
-        if stage == Stage::Cube || stage == Stage::Layer {
+        self.is_fruitless = stage != Stage::Cube && stage != Stage::Layer;
+        if !self.is_fruitless {
             self.layered.close();
         }
         Ok(stage)
